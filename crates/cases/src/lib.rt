@@ -1,0 +1,1 @@
+// Cases A to L and the sample bundle, computed through the definitions.

@@ -1,0 +1,9 @@
+pub mod Buffers
+pub mod Text
+pub mod Check
+pub mod IsNormal
+pub mod Normalize
+pub mod Contract
+pub mod ReadBundle
+pub mod Listing
+pub mod Respond

@@ -1,0 +1,6 @@
+pub mod Rules
+pub mod Redex
+pub mod Reduction
+pub mod Sequence
+pub mod NormalForm
+pub mod Grammar

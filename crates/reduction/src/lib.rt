@@ -1,0 +1,19 @@
+// The ten rules, in the order of the counts, and the answer of the search. The definitions stand in specs/.
+
+pub enum Rule {
+    LetInsertion,
+    LetOfLet,
+    LetOfCase,
+    Apply,
+    First,
+    Second,
+    LeftCase,
+    RightCase,
+    LetValue,
+    Drop,
+}
+
+pub enum Found {
+    Redex(Rule, usize),
+    Nothing,
+}

@@ -1,0 +1,78 @@
+-- Demand 3 as one claim, about the words handed in, their type, and the words handed back.
+use Prim.Native.Nat.{ℕ}
+use mathlib.Core.Path.{_≡_}
+use mathlib.Core.Bool.{true}
+use mathlib.Core.List.{List, [], _∷_}
+use mathlib.Core.Option.{Option, some}
+use Rattle.syntax.specs.Tables.{Tables, Signature, signature}
+use Rattle.syntax.specs.Term.{Term}
+use Rattle.syntax.specs.Encoding.{encode}
+use Rattle.syntax.specs.Decoding.{decode}
+use Rattle.typing.specs.Infer.{infer}
+use Rattle.typing.specs.NodeTypes.{nodeTypes}
+use Rattle.reduction.specs.Rules.{allPure}
+use Rattle.reduction.specs.Sequence.{Sequence, beforeDropping}
+use Rattle.reduction.specs.NormalForm.{isNormal}
+use Rattle.syntax.specs.Lists.{_∈_, Sublist}
+use Rattle.semantics.specs.Value.{Value, Values, Trace}
+use Rattle.semantics.specs.Run.{Ends}
+use Rattle.semantics.specs.ValueTypes.{HasType, HaveTypes}
+use Rattle.syntax.specs.Calls.{callsIn}
+use Rattle.semantics.specs.TypeParts.{PartOf, FunctionFree, CallType}
+
+module _ (tables : Tables) where
+  -- D is part of the result's type, of an input's, or of an argument or result type of a call in the term
+  pub data Subformula (result : ℕ) (u : Term) (D : ℕ) : Type 0 where
+    of-result : PartOf tables D result → Subformula result u D
+    of-input : {A : ℕ} → A ∈ tables .inputs → PartOf tables D A → Subformula result u D
+    of-call : {A : ℕ} → CallType tables u A → PartOf tables D A → Subformula result u D
+
+  -- no input, no result and no call in the term has a function in its types
+  pub record FirstOrder (result : ℕ) (t : Term) : Type 0 where
+    pub inputs : (A : ℕ) → A ∈ tables .inputs → FunctionFree tables A
+    pub result′ : FunctionFree tables result
+    pub calls : (A : ℕ) → CallType tables t A → FunctionFree tables A
+
+  -- a run's feed: a value of its type for each input, and an answer of its result type to each call in the term on arguments of their types
+  pub record Feed (t : Term) (ρ : Values) (answer : ℕ → Values → Value) : Type 0 where
+    pub inputs : HaveTypes tables (tables .inputs) ρ
+    pub answers : (k : ℕ) (s : Signature) → k ∈ callsIn t → signature tables k ≡ some s
+        → (vs : Values) → HaveTypes tables (s .arguments) vs → HasType tables (s .result) (answer k vs)
+
+-- the runs of the source t, of the normal form u and of the terms ts between, over the same feed
+pub record SameRuns (answer : ℕ → Values → Value) (ρ : Values) (t u : Term) (ts : List Term) : Type 0 where
+  pub value : Value
+  pub trace : Trace
+  pub trace′ : Trace
+  -- a run of the source and a run of the normal form both end, with the same answer
+  pub source-ends : Ends answer ρ t value trace
+  pub normal-ends : Ends answer ρ u value trace′
+  -- the normal form's list of calls is the source's with some struck out or none
+  pub calls-struck : Sublist trace′ trace
+  -- a run of each term between ends with that same answer and exactly the source's list of calls
+  pub between-ends : (w : Term) → w ∈ ts → Ends answer ρ w value trace
+
+-- Demand 3 of the source words `words` of type A, normalized to the words `result`.
+pub record Claim (tables : Tables) (words : List ℕ) (A : ℕ) (result : List ℕ) : Type 0 where
+  -- the terms that the words stand for, and no others: the words decode to them and are their encodings
+  pub source : Term
+  pub normal : Term
+  pub source-words : words ≡ encode source
+  pub normal-words : result ≡ encode normal
+  pub source-decoded : decode (tables .calls) words ≡ some source
+  pub normal-decoded : decode (tables .calls) result ≡ some normal
+  -- the normal form is the last term of the reduction sequence of the source
+  pub sequence : Sequence allPure source normal
+  -- it has the source's type
+  pub source-type : infer tables source (tables .inputs) ≡ some A
+  pub normal-type : infer tables normal (tables .inputs) ≡ some A
+  -- no rule fits anywhere in it
+  pub no-redex : isNormal allPure normal ≡ true
+  -- each part's type is part of the result's type, of an input's, or of an argument or result type of a call it contains
+  pub part-types : List ℕ
+  pub every-part : nodeTypes tables normal (tables .inputs) ≡ some part-types
+  pub subformulas : (D : ℕ) → D ∈ part-types → Subformula tables A normal D
+  -- with no function in those types, whatever the inputs hold and whatever the calls answer, the runs agree:
+  -- the source, the normal form, and each term up to and including the one the third phase starts from
+  pub same-runs : FirstOrder tables A source → (ρ : Values) (answer : ℕ → Values → Value) → Feed tables source ρ answer
+      → SameRuns answer ρ source normal (beforeDropping allPure sequence)

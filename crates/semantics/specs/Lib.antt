@@ -1,0 +1,5 @@
+pub mod Value
+pub mod Run
+pub mod ValueTypes
+pub mod TypeParts
+pub mod Claim

@@ -1,0 +1,9 @@
+pub mod Options
+pub mod Views
+pub mod Values
+pub mod Algebra
+pub mod Decoding
+pub mod Forests
+pub mod Parts
+pub mod Positions
+pub mod CallsIn

@@ -1,0 +1,15 @@
+pub mod Maybe
+pub mod Words
+pub mod Tables
+pub mod Kinds
+pub mod Term
+pub mod Encoding
+pub mod Decoding
+pub mod Parts
+pub mod Shaped
+pub mod Substitution
+pub mod Values
+pub mod Positions
+pub mod Pending
+pub mod Lists
+pub mod Calls

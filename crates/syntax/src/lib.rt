@@ -1,0 +1,1 @@
+// Words, tables and terms. The definitions stand in specs/, laws about them in proofs/.

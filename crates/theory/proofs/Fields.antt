@@ -1,0 +1,136 @@
+-- A typed term that is not too long can be held in words: its types and calls are in the tables, and its variables count binders or inputs.
+use mathlib.Core.Path.{_≡_, refl, sym, _∙_, ap, subst}
+use mathlib.Core.Bool.{Bool, _&&_}
+use mathlib.Core.List.{List, [], _∷_, _++_}
+use mathlib.Core.Option.{Option, some, none, Option·some-injective, Option·none-ne-some}
+use lib.Dec.{T, leb, ltb, eqb, leb→le}
+use lib.ListN.{length, length-append, length-take, getElem?, getD, take, drop}
+use Prim.Native.Nat.{ℕ, zero, suc, _+_, _^_, _≤_, _<_, min}
+use native.Mathlib.Omega.{arith}
+use Rattle.syntax.specs.Maybe.{_>>=_, given}
+use Rattle.syntax.specs.Words.{countOf, resultOf, argumentFields, kindOf, leftOf, rightOf}
+use Rattle.syntax.specs.Tables.{Tables, arity, Signature, signatureOf}
+use Rattle.syntax.specs.Term.{Term, Terms}
+use Rattle.syntax.specs.Encoding.{encode, encodeAll, size}
+use Rattle.syntax.specs.Shaped.{count, Shaped, ShapedAll}
+use Rattle.typing.specs.Infer.{Context}
+use Rattle.typing.specs.TableChecks.{every, wellFormedCall, wellFormedCalls, lengthsFit}
+use Rattle.syntax.proofs.Options.{and-left, and-right}
+use Rattle.typing.proofs.Typing.{Of, Signed, At, here, there, Typed, TypedAll, t-var, t-call, t-lam, t-app, t-bind, t-pair, t-fst, t-snd}
+use Rattle.typing.proofs.Typing.{t-inl, t-inr, t-case, t-done, t-arg}
+
+pub below : {X : Type 0} (xs : List X) (n : ℕ) {x : X} → getElem? xs n ≡ some x → n < length xs
+below [] n {x} e = absurd (Option·none-ne-some x e)
+below (y ∷ ys) zero e = omega arith
+below (y ∷ ys) (suc n) e = let h = below ys n e in omega (arith, h)
+
+pub at-below : {Γ : Context} {n A : ℕ} → At Γ n A → n < length Γ
+at-below here = omega arith
+at-below (there x) = let h = at-below x in omega (arith, h)
+
+bind-some : {X Y : Type 0} (o : Option X) (f : X → Option Y) {y : Y} → (o >>= f) ≡ some y → (x : X) × (o ≡ some x) × (f x ≡ some y)
+bind-some none f {y} e = absurd (Option·none-ne-some y e)
+bind-some (some x) f e = (x, refl, e)
+
+-- what the tables are known to fit
+pub record Fitting (tables : Tables) : Type 0 where
+  pub types : length (tables .types) ≤ 1024
+  pub calls : length (tables .calls) ≤ 1024
+  pub inputs : length (tables .inputs) ≤ 256
+  pub counts : (k w : ℕ) → getElem? (tables .calls) k ≡ some w → countOf w ≤ 3
+
+size-is : (t : Term) → size t ≡ length (encode t)
+unfolding size
+size-is t = refl
+
+module _ (tables : Tables) (fit : Fitting tables) (ok : ℕ → Type 0) where
+  type-below : {k F A B : ℕ} → Of tables k F A B → F < 2 ^ 30
+  type-below {k} {F} o =
+      let w = bind-some (getElem? (tables .types) F) (λ w. given {X = ℕ × ℕ} (eqb (kindOf w) k) (leftOf w, rightOf w)) (o .is) in
+      let h = below (tables .types) F (w .1) in
+      let i = fit .types in
+      omega (arith, h, i)
+
+  arity-is : (calls : List ℕ) (k w : ℕ) → getElem? calls k ≡ some w → getD calls k 0 ≡ w
+  arity-is [] k w e = absurd (Option·none-ne-some w e)
+  arity-is (x ∷ xs) zero w e = Option·some-injective x w e
+  arity-is (x ∷ xs) (suc k) w e = arity-is xs k w e
+
+  counts-typed : {Γ : Context} {ts : Terms} {As : List ℕ} → TypedAll tables ok Γ ts As → count ts ≡ length As
+  unfolding count
+  counts-typed t-done = refl
+  counts-typed (t-arg x xs) = ap (λ (n : ℕ). suc n) (counts-typed xs)
+
+  call-fits : {Γ : Context} {k : ℕ} {ts : Terms} {s : Signature} → Signed tables k s → TypedAll tables ok Γ ts (s .arguments) → (k < 2 ^ 30)
+      × (arity (tables .calls) k ≡ count ts)
+  call-fits {Γ} {k} {ts} {s} e xs =
+      let w = bind-some (getElem? (tables .calls) k) (λ w. some (signatureOf w)) (e .is) in
+      let h = below (tables .calls) k (w .1) in
+      let i = fit .calls in
+      let j = fit .counts k (w .0) (w .1) in
+      let d = Option·some-injective (signatureOf (w .0)) s (w .2) in (
+        omega (arith, h, i),
+        ap countOf (arity-is (tables .calls) k (w .0) (w .1)) ∙ min-is (countOf (w .0)) j
+            ∙ sym (length-take (countOf (w .0)) (argumentFields (w .0))) ∙ ap (λ (s : Signature). length (s .arguments)) d
+            ∙ sym (counts-typed xs),
+      )
+    where
+      min-is : (n : ℕ) → n ≤ 3 → n ≡ min n 3
+      min-is n h = omega (arith, h)
+
+  mutual
+    unfolding Shaped encode size
+
+    pub shaped : {Γ : Context} {t : Term} {A : ℕ} → Typed tables ok Γ t A → length Γ + size t ≤ 2 ^ 30 → Shaped (tables .calls) t
+    shaped (t-var x) h = let i = at-below x in omega (arith, h, i)
+    shaped (t-call z e d xs) h = let q = call-fits e xs in (q .0, q .1, shapedAll xs (omega (arith, h)))
+    shaped (t-lam o x) h = (type-below o, shaped x (omega (arith, h)))
+    shaped (t-app {f = f} {a = a} o x y) h = let i = length-append (encode f) (encode a)
+        in (shaped x (omega (arith, h, i)), shaped y (omega (arith, h, i)))
+    shaped (t-bind {e = e} {b = b} x y) h = let i = length-append (encode e) (encode b)
+        in (shaped x (omega (arith, h, i)), shaped y (omega (arith, h, i)))
+    shaped (t-pair {a = a} {b = b} o x y) h = let i = length-append (encode a) (encode b)
+        in (type-below o, shaped x (omega (arith, h, i)), shaped y (omega (arith, h, i)))
+    shaped (t-fst o x) h = shaped x (omega (arith, h))
+    shaped (t-snd o x) h = shaped x (omega (arith, h))
+    shaped (t-inl o x) h = (type-below o, shaped x (omega (arith, h)))
+    shaped (t-inr o x) h = (type-below o, shaped x (omega (arith, h)))
+    shaped (t-case {s = s} {l = l} {r = r} o x y z) h =
+        let i = length-append (encode s) (encode l ++ encode r) in let j = length-append (encode l) (encode r) in
+        (shaped x (omega (arith, h, i, j)), shaped y (omega (arith, h, i, j)), shaped z (omega (arith, h, i, j)))
+
+    shapedAll : {Γ : Context} {ts : Terms} {As : List ℕ} → TypedAll tables ok Γ ts As → length Γ + length (encodeAll ts) ≤ 2 ^ 30
+        → ShapedAll (tables .calls) ts
+    shapedAll t-done h = tt
+    shapedAll (t-arg {t = t} {ts = ts} x xs) h = let i = length-append (encode t) (encodeAll ts)
+        in (shaped x (omega (arith, h, i)), shapedAll xs (omega (arith, h, i)))
+
+-- checks 1 and 4 say that the tables fit
+first-of-four : (a b c d : Bool) → T (a && b && c && d) → T a
+first-of-four a b c d h = and-left a b (and-left (a && b) c (and-left (a && b && c) d h))
+
+counts-of : (n : ℕ) (ws : List ℕ) → T (every (wellFormedCall n) ws) → (k w : ℕ) → getElem? ws k ≡ some w → countOf w ≤ 3
+counts-of n [] h k w e = absurd (Option·none-ne-some w e)
+counts-of n (x ∷ ws) h zero w e = subst (λ (y : ℕ). countOf y ≤ 3) (Option·some-injective x w e)
+    (leb→le (countOf x) 3 (first-of-four (leb (countOf x) 3) (ltb (resultOf x) n)
+    (every (λ A. ltb A n) (take (countOf x) (argumentFields x))) (every (λ A. eqb A 0) (drop (countOf x) (argumentFields x)))
+    (and-left (wellFormedCall n x) (every (wellFormedCall n) ws) h)))
+counts-of n (x ∷ ws) h (suc k) w e = counts-of n ws (and-right (wellFormedCall n x) (every (wellFormedCall n) ws) h) k w e
+
+pub fitting : (limit : ℕ) (tables : Tables) (words : List ℕ) → T (lengthsFit limit tables words) → T (wellFormedCalls tables)
+    → Fitting tables
+unfolding lengthsFit wellFormedCalls
+fitting limit tables words h k =
+    let a = leb (length (tables .types)) 1024 in
+    let b = leb (length (tables .calls)) 1024 in
+    let c = leb (length (tables .inputs)) 256 in
+    let d = leb (length words) limit in
+    let x = and-left (a && b && c && d) (leb 1 (length words)) h in
+    let y = and-left (a && b && c) d x in
+    let z = and-left (a && b) c y in
+    record {
+      types = leb→le (length (tables .types)) 1024 (and-left a b z);
+      calls = leb→le (length (tables .calls)) 1024 (and-right a b z);
+      inputs = leb→le (length (tables .inputs)) 256 (and-right (a && b) c y);
+      counts = counts-of (length (tables .types)) (tables .calls) k;
+    }

@@ -1,0 +1,1 @@
+// Theorems about the definitions: demand 3. They stand in proofs/.
