@@ -7,7 +7,7 @@ use Rattle.syntax.specs.Encoding.{encode}
 use Rattle.typing.specs.Refusals.{normalizeLimit}
 use Rattle.typing.specs.TableChecks.{lengthsFit}
 use Rattle.outcomes.specs.Normalize.{Buffers, normalizeOutcome}
-use Rattle.cases.specs.Table.{over, A, A′}
+use Rattle.cases.specs.Table.{tablesWith, A, A′}
 
 -- case A over buffers that hold 9s: with capacity 7 it is accepted, with capacity 6 refused
 abbrev pub nines : ℕ → List ℕ
@@ -28,7 +28,7 @@ leaves =
 
 -- the buffers that case A leaves
 unfoldable pub left : Buffers → Buffers
-left before = normalizeOutcome (record { budget = 1000000 }) (over []) (encode A) before .buffers
+left before = normalizeOutcome (record { budget = 1000000 }) (tablesWith []) (encode A) before .buffers
 
 -- lengths of the four tables: at their limits, then one more of each, then no term word
 pub record Sizes : Type 0 where

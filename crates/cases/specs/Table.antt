@@ -21,8 +21,8 @@ pub record Case : Type 0 where
   pub result : List ℕ
 
 -- types 0 base, 1 function 0 to 0, 2 product 0 0, 3 sum 0 0; calls c with no argument, d with one, all of type 0
-abbrev pub over : List ℕ → Tables
-over inputs = record { types = pack 0 0 0 ∷ pack 1 0 0 ∷ pack 2 0 0 ∷ pack 3 0 0 ∷ []; calls = 0 ∷ pack 1 0 0 ∷ []; inputs = inputs }
+abbrev pub tablesWith : List ℕ → Tables
+tablesWith inputs = record { types = pack 0 0 0 ∷ pack 1 0 0 ∷ pack 2 0 0 ∷ pack 3 0 0 ∷ []; calls = 0 ∷ pack 1 0 0 ∷ []; inputs = inputs }
 
 abbrev pub c : Term
 c = call 0 done
@@ -40,7 +40,7 @@ v1 = var 1
 abbrev pub accepts : List ℕ → Term → Term → Counts → Case
 accepts inputs t u counts =
     record {
-      tables = over inputs;
+      tables = tablesWith inputs;
       words = encode t;
       budget = 1000000;
       capacity = 8192;
@@ -53,7 +53,7 @@ accepts inputs t u counts =
 abbrev pub limited : ℕ → ℕ → Term → ℕ → Counts → List ℕ → Case
 limited budget capacity t refusal counts result =
     record {
-      tables = over [];
+      tables = tablesWith [];
       words = encode t;
       budget = budget;
       capacity = capacity;
@@ -110,6 +110,6 @@ table =
     ∷ limited 1000000 7 A 0 (1 ∷ 0 ∷ 0 ∷ 1 ∷ 0 ∷ 0 ∷ 0 ∷ 0 ∷ 0 ∷ 0 ∷ []) (encode A′)
     ∷ limited 0 6 A 10 zeroCounts []
     -- K: two words v0, v0; L: type 0 a function of 0 to 0
-    ∷ refuses (over (0 ∷ [])) (encode v0 ++ encode v0) 7
+    ∷ refuses (tablesWith (0 ∷ [])) (encode v0 ++ encode v0) 7
     ∷ refuses (record { types = pack 1 0 0 ∷ []; calls = []; inputs = 0 ∷ [] }) (encode v0) 2
     ∷ []

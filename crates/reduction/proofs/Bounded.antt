@@ -9,7 +9,8 @@ use lib.Dec.{leb}
 use lib.ListN.{length}
 use Rattle.syntax.specs.Term.{Term}
 use Rattle.syntax.specs.Encoding.{size}
-use Rattle.reduction.specs.Rules.{Phase, Insertion, Reduction, Dropping}
+use Rattle.reduction.specs.declared.Phase.{Phase}
+use Rattle.reduction.specs.declared.Phase.the-variants.{Insertion, Reduction, Dropping}
 use Rattle.reduction.specs.Redex.{Step, step}
 use Rattle.reduction.specs.Reduction.{Counts, raise, zeroCounts, Settings, Progress, stopped, reached, runPhase, thenPhase, reduce}
 use Rattle.reduction.specs.Sequence.{tally, Steps, ended, stepped, Sequence}

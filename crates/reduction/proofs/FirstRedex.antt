@@ -9,7 +9,8 @@ use native.Mathlib.Nat.{le-of-suc-le-suc}
 use lib.ListN.{getElem?}
 use Rattle.syntax.specs.Term.{Term}
 use Rattle.syntax.specs.Positions.{Position, positions}
-use Rattle.reduction.specs.Rules.{rules, Phase}
+use Rattle.reduction.specs.Rules.{rules}
+use Rattle.reduction.specs.declared.Phase.{Phase}
 use Rattle.reduction.specs.Redex.{Contraction, contract, Step, firstStep, step}
 
 module _ (pure : Term → Bool) (phase : Phase) where

@@ -9,7 +9,9 @@ use Rattle.syntax.specs.Term.{Term, Terms, var, call, lam, app, bind, pair, fst
 use Rattle.syntax.specs.Substitution.{traverse, traverseAll, renaming, rename, weaken, weakenBody, _⟦_⟧}
 use Rattle.syntax.specs.Values.{isValue, isComputation, argumentsIn, operands, uses}
 use Rattle.reduction.specs.Rules.{nameFirst, letInsertion, letOfLet, letOfCase, apply, first, second, leftCase, rightCase, letValue}
-use Rattle.reduction.specs.Rules.{lower, drop, fire, Phase, Insertion, Reduction, Dropping, rules}
+use Rattle.reduction.specs.Rules.{lower, drop, fire, rules}
+use Rattle.reduction.specs.declared.Phase.{Phase}
+use Rattle.reduction.specs.declared.Phase.the-variants.{Insertion, Reduction, Dropping}
 use Rattle.reduction.specs.Redex.{Contraction, contract}
 use Rattle.reduction.specs.declared.Rule.{Rule}
 use Rattle.syntax.proofs.Options.{Every, every-none, every-some, every-bind, every-given, every-to, and-left, and-right}

@@ -5,7 +5,8 @@ use mathlib.Core.Option.{Option, some, none, Option·map, Option·some-ne-none}
 use Prim.Native.Nat.{ℕ, _+_}
 use Rattle.syntax.specs.Term.{Term, Terms, var, call, lam, app, bind, pair, fst, snd, inl, inr, case, done, arg}
 use Rattle.syntax.specs.Encoding.{size}
-use Rattle.reduction.specs.Rules.{Phase, rules}
+use Rattle.reduction.specs.Rules.{rules}
+use Rattle.reduction.specs.declared.Phase.{Phase}
 use Rattle.reduction.specs.Redex.{Contraction, contract, Step as Stepped, step}
 use Rattle.reduction.proofs.Structure.{Hit, _or_, inside, stepOf, here, find, finds, find-var, finds-done, find-call, find-lam}
 use Rattle.reduction.proofs.Structure.{find-app, find-bind, find-pair, find-fst, find-snd, find-inl, find-inr, find-case, finds-arg}

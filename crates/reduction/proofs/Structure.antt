@@ -10,7 +10,8 @@ use Rattle.syntax.specs.Term.{Term, Terms, var, call, lam, app, bind, pair, fst
 use Rattle.syntax.specs.Encoding.{size}
 use Rattle.syntax.specs.Positions.{Position, root, within, bound, positions, positionsAll}
 use Rattle.syntax.proofs.Positions.{length-positions}
-use Rattle.reduction.specs.Rules.{rules, Phase}
+use Rattle.reduction.specs.Rules.{rules}
+use Rattle.reduction.specs.declared.Phase.{Phase}
 use Rattle.reduction.specs.Redex.{Contraction, contract, Step, firstStep, step}
 use Rattle.reduction.specs.declared.Rule.{Rule}
 

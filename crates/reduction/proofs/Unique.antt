@@ -4,7 +4,8 @@ use mathlib.Core.Bool.{Bool}
 use mathlib.Core.List.{List, [], _∷_, _++_, map}
 use mathlib.Core.Option.{Option, some, none, Option·some-injective, Option·none-ne-some}
 use Rattle.syntax.specs.Term.{Term}
-use Rattle.reduction.specs.Rules.{Phase, Insertion, Reduction, Dropping}
+use Rattle.reduction.specs.declared.Phase.{Phase}
+use Rattle.reduction.specs.declared.Phase.the-variants.{Insertion, Reduction, Dropping}
 use Rattle.reduction.specs.Redex.{Step, step}
 use Rattle.reduction.specs.Sequence.{Steps, ended, stepped, Sequence, terms}
 

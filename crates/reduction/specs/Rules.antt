@@ -8,6 +8,8 @@ use Rattle.syntax.specs.Maybe.{_>>=_, given}
 use Rattle.syntax.specs.Term.{Term, Terms, var, bind, case, asVar, asLam, asApp, asBind, asPair, asFst, asSnd, asInl, asInr, asCase}
 use Rattle.syntax.specs.Values.{isValue, isComputation, Operand, operands, uses}
 use Rattle.syntax.specs.Substitution.{rename, weaken, weakenBody, _⟦_⟧}
+use Rattle.reduction.specs.declared.Phase.{Phase}
+use Rattle.reduction.specs.declared.Phase.the-variants.{Insertion, Reduction, Dropping}
 use Rattle.reduction.specs.declared.Rule.{Rule}
 use Rattle.reduction.specs.declared.Rule.the-variants.{LetInsertion, LetOfLet, LetOfCase, Apply, First, Second, LeftCase, RightCase}
 use Rattle.reduction.specs.declared.Rule.the-variants.{LetValue, Drop}
@@ -112,13 +114,7 @@ module _ (pure : Term → Bool) where
   fire LetValue = letValue
   fire Drop = drop
 
--- phases 1, 2 and 3
-pub data Phase : Type 0 where
-  Insertion : Phase
-  Reduction : Phase
-  Dropping : Phase
-
--- the rules of each phase; no two rules of one phase fit the same node
+-- the rules of phases 1, 2 and 3; no two rules of one phase fit the same node
 unfoldable pub rules : Phase → List Rule
 rules Insertion = LetInsertion ∷ []
 rules Reduction = LetOfLet ∷ LetOfCase ∷ Apply ∷ First ∷ Second ∷ LeftCase ∷ RightCase ∷ LetValue ∷ []

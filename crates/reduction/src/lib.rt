@@ -1,4 +1,4 @@
-// The ten rules, in the order of the counts, and the answer of the search. The definitions stand in specs/.
+// The ten rules in the order of the counts, the three phases, and the answer of the search. The definitions stand in specs/.
 
 pub enum Rule {
     LetInsertion,
@@ -11,6 +11,12 @@ pub enum Rule {
     RightCase,
     LetValue,
     Drop,
+}
+
+pub enum Phase {
+    Insertion,
+    Reduction,
+    Dropping,
 }
 
 pub enum Found {

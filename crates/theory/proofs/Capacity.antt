@@ -6,7 +6,8 @@ use lib.Dec.{T, leb, leb→le}
 use Prim.Native.Nat.{ℕ, zero, suc, _≤_}
 use Rattle.syntax.specs.Term.{Term}
 use Rattle.syntax.specs.Encoding.{size}
-use Rattle.reduction.specs.Rules.{Phase, Insertion, Reduction, Dropping}
+use Rattle.reduction.specs.declared.Phase.{Phase}
+use Rattle.reduction.specs.declared.Phase.the-variants.{Insertion, Reduction, Dropping}
 use Rattle.reduction.specs.Redex.{Step, step}
 use Rattle.reduction.specs.Reduction.{Counts, raise, zeroCounts, Settings, Progress, stopped, reached, runPhase, thenPhase, reduce}
 

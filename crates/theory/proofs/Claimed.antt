@@ -16,7 +16,9 @@ use Rattle.typing.specs.NodeTypes.{nodeTypes}
 use Rattle.typing.specs.TermChecks.{wellFormedWords}
 use Rattle.typing.proofs.Encoding.{encode-decode}
 use Rattle.typing.specs.Refusals.{accepted, Typed as Checked, elaborate, normalizeLimit}
-use Rattle.reduction.specs.Rules.{Phase, Insertion, Reduction, Dropping, allPure}
+use Rattle.reduction.specs.Rules.{allPure}
+use Rattle.reduction.specs.declared.Phase.{Phase}
+use Rattle.reduction.specs.declared.Phase.the-variants.{Insertion, Reduction, Dropping}
 use Rattle.reduction.specs.Redex.{Step as Stepped, step}
 use Rattle.reduction.specs.Reduction.{Counts, Settings, reached, reduce}
 use Rattle.reduction.specs.Sequence.{Steps, ended, stepped, Sequence}

@@ -7,8 +7,9 @@ use Rattle.syntax.specs.Term.{Term, Terms, var, bind, node, partsOf, asVar, asL
 use Rattle.syntax.specs.Term.{asCase}
 use Rattle.syntax.specs.Substitution.{under, traverse, traverseAll, renaming, rename}
 use Rattle.syntax.specs.Values.{isValue, isComputation}
-use Rattle.reduction.specs.Rules.{letOfLet, letOfCase, apply, first, second, leftCase, rightCase, letValue, lower, fire, rules, Insertion}
-use Rattle.reduction.specs.Rules.{Reduction}
+use Rattle.reduction.specs.Rules.{letOfLet, letOfCase, apply, first, second, leftCase, rightCase, letValue, lower, fire, rules}
+use Rattle.reduction.specs.declared.Phase.the-variants.{Insertion}
+use Rattle.reduction.specs.declared.Phase.the-variants.{Reduction}
 use Rattle.reduction.specs.Redex.{contract, step}
 use Rattle.reduction.specs.NormalForm.{NormalValue, NormalValues, Operation, Normal, variable, function, product as both, left, right}
 use Rattle.reduction.specs.NormalForm.{no-more, more, application, calling, first as taking₁, second as taking₂, value, operation, letting}

@@ -11,7 +11,8 @@ use Rattle.syntax.specs.Term.{Term, Terms, bind, node, partsOf, asBind}
 use Rattle.syntax.specs.Substitution.{rename}
 use Rattle.syntax.specs.Values.{isComputation, uses}
 use Rattle.typing.specs.Infer.{Context, infer}
-use Rattle.reduction.specs.Rules.{lower, drop, fire, rules, Insertion, Reduction, Dropping}
+use Rattle.reduction.specs.Rules.{lower, drop, fire, rules}
+use Rattle.reduction.specs.declared.Phase.the-variants.{Insertion, Reduction, Dropping}
 use Rattle.reduction.specs.Redex.{Contraction, contract, Step as Stepped, step}
 use Rattle.reduction.specs.declared.Rule.the-variants.{Drop}
 use Rattle.reduction.specs.NormalForm.{isNormal, needed, NormalValue, NormalValues, Operation, Normal, variable, function, product as both}

@@ -7,7 +7,8 @@ use Prim.Native.Nat.{suc}
 use Rattle.syntax.specs.Term.{Term, Terms, var, call, lam, app, bind, pair, fst, snd, inl, inr, case, done, arg}
 use Rattle.syntax.specs.Substitution.{traverse, traverseAll, renaming, weaken}
 use Rattle.syntax.specs.Values.{isValue, argumentsIn, operands}
-use Rattle.reduction.specs.Rules.{nameFirst, letInsertion, fire, rules, Insertion}
+use Rattle.reduction.specs.Rules.{nameFirst, letInsertion, fire, rules}
+use Rattle.reduction.specs.declared.Phase.the-variants.{Insertion}
 use Rattle.reduction.specs.Redex.{Contraction, contract, step}
 use Rattle.reduction.specs.declared.Rule.{Rule}
 use Rattle.reduction.proofs.Search.{Each, EachAll, Misses, no-step, nowhere}

@@ -12,7 +12,7 @@ use Rattle.syntax.specs.Term.{Term, Terms, var, call, lam, app, bind, pair, fst
 use Rattle.syntax.specs.Substitution.{under, traverse, traverseAll, renaming, rename}
 use Rattle.syntax.specs.Values.{isValue, isComputation, counts}
 use Rattle.syntax.specs.Pending.{pending}
-use Rattle.reduction.specs.Rules.{Insertion}
+use Rattle.reduction.specs.declared.Phase.the-variants.{Insertion}
 use Rattle.reduction.specs.Redex.{Step as Stepped, step}
 use Rattle.reduction.specs.Sequence.{Steps, ended, stepped}
 use Rattle.syntax.proofs.Options.{every-at}

@@ -8,7 +8,8 @@ use Prim.Native.Nat.{ℕ}
 use Rattle.syntax.specs.Tables.{Tables, Signature}
 use Rattle.syntax.specs.Term.{Term}
 use Rattle.typing.specs.Infer.{Context}
-use Rattle.reduction.specs.Rules.{Phase, Insertion, Reduction, Dropping}
+use Rattle.reduction.specs.declared.Phase.{Phase}
+use Rattle.reduction.specs.declared.Phase.the-variants.{Insertion, Reduction, Dropping}
 use Rattle.reduction.specs.Redex.{Step as Stepped, step}
 use Rattle.reduction.specs.Sequence.{Steps, ended, stepped, Sequence, beforeDropping}
 use Rattle.syntax.specs.Lists.{_∈_, here, there, Sublist, empty as nothing, kept, struck}
