@@ -1,0 +1,76 @@
+-- The number of words that parts take, word by word: what a loop with an owed count keeps.
+use mathlib.Core.Path.{_≡_, refl, sym, _∙_, ap}
+use mathlib.Core.List.{List, [], _∷_}
+use mathlib.Core.Bool.{Bool, true, false, cond}
+use mathlib.Core.Option.{Option, some, none, Option·map}
+use Prim.Native.Nat.{ℕ, zero, suc, _+_, _-_, _/_, _^_, _≤_, _<_}
+use native.Mathlib.Omega.{arith}
+use native.Mathlib.Nat.{add-zero}
+use native.Mathlib.Numerals.{add-one}
+use lib.Dec.{leb}
+use lib.ListN.{length, getD, drop}
+use lib.Seq.{drop-cons, drop-length}
+use Rattle.syntax.specs.Words.{kindOf, numberOf}
+use Rattle.syntax.specs.Tables.{arity}
+use Rattle.syntax.specs.Kinds.{partsOfKind}
+use Rattle.syntax.specs.Parts.{partCount, extent, partEnd}
+use Rattle.syntax.proofs.Parts.{longer}
+
+cond-le : (b : Bool) (x y n : ℕ) → x ≤ n → y ≤ n → cond b x y ≤ n
+cond-le true x y n h g = h
+cond-le false x y n h g = g
+
+-- words whose fields fit 64 bits have at most 15 parts
+pub parts-le : (a k : ℕ) → a ≤ 15 → partsOfKind a k ≤ 15
+parts-le a k h = cond-le (leb k 0) 0 _ 15 (omega arith)
+    (cond-le (leb k 1) a _ 15 h
+    (cond-le (leb k 2) 1 _ 15 (omega arith)
+    (cond-le (leb k 5) 2 _ 15 (omega arith)
+    (cond-le (leb k 9) 1 _ 15 (omega arith) (cond-le (leb k 10) 3 0 15 (omega arith) (omega arith))))))
+
+longer-suc : (i : ℕ) (o : Option ℕ) → longer i (Option·map suc o) ≡ longer (i + 1) o
+longer-suc i none = refl
+longer-suc i (some n) = ap (λ (x : ℕ). some x) (omega arith)
+
+pub longer-0 : (o : Option ℕ) → o ≡ longer 0 o
+longer-0 none = refl
+longer-0 (some n) = ap (λ (x : ℕ). some x) (omega arith)
+
+module _ (calls t : List ℕ) where
+  -- one word read
+  pub extent-word : (owed i : ℕ) → 0 < owed → i < length t
+      → extent calls (drop i t) owed ≡ Option·map suc (extent calls (drop (i + 1) t) (owed - 1 + partCount calls (getD t i 0)))
+  unfolding extent
+  extent-word zero i p h = absurd (omega arith)
+  extent-word (suc n) i p h = rw (add-one i, drop-cons t i 0 h)
+      (ap (λ (k : ℕ). Option·map suc (extent calls (drop (suc i) t) k)) (same (partCount calls (getD t i 0)) n))
+    where
+      same : (a n : ℕ) → a + n ≡ suc n - 1 + a
+      same a n = omega arith
+
+  -- what a loop keeps: i words are read, and so many parts are owed from there on
+  abbrev pub Owing : ℕ → ℕ → Type 0
+  Owing owed i = partEnd calls t ≡ longer i (extent calls (drop i t) owed)
+
+  pub owing-start : Owing 1 0
+  unfolding partEnd
+  owing-start = longer-0 (extent calls t 1)
+
+  pub owing-word : (owed i : ℕ) → 0 < owed → i < length t → Owing owed i → Owing (owed - 1 + partCount calls (getD t i 0)) (i + 1)
+  owing-word owed i p h e = e ∙ ap (longer i) (extent-word owed i p h)
+      ∙ longer-suc i (extent calls (drop (i + 1) t) (owed - 1 + partCount calls (getD t i 0)))
+
+  pub owing-short : (owed i : ℕ) → 0 < owed → i ≡ length t → Owing owed i → partEnd calls t ≡ none
+  unfolding extent
+  owing-short zero i p h e = absurd (omega arith)
+  owing-short (suc n) i p h e = e ∙ ap (λ (j : ℕ). longer i (extent calls (drop j t) (suc n))) h
+      ∙ ap (λ (l : List ℕ). longer i (extent calls l (suc n))) (drop-length t)
+
+  nothing : (ws : List ℕ) → extent calls ws 0 ≡ some 0
+  unfolding extent
+  nothing [] = refl
+  nothing (w ∷ ws) = refl
+
+  pub owing-done : (owed i : ℕ) → owed ≤ 0 → Owing owed i → partEnd calls t ≡ some i
+  owing-done zero i p e = e ∙ ap (longer i) (nothing (drop i t)) ∙ ap (λ (x : ℕ). some x) (add-zero i)
+  owing-done (suc n) i p e = absurd (omega arith)

@@ -1,0 +1,23 @@
+-- Words that begin with a term: what the functions that go through parts ask of a slice.
+use Prim.Native.Nat.{ℕ, _-_}
+use mathlib.Core.Path.{_≡_}
+use mathlib.Core.List.{List, _++_}
+use lib.ListN.{length, take, drop}
+use Rattle.syntax.specs.Term.{Term}
+use Rattle.syntax.specs.Encoding.{encode}
+use Rattle.syntax.specs.Shaped.{Shaped}
+
+-- the words begin with the term t, and rest follows
+pub record Holds (calls words : List ℕ) (t : Term) (rest : List ℕ) : Type 0 where
+  pub shaped : Shaped calls t
+  pub is : words ≡ encode t ++ rest
+
+-- the words begin with some term
+pub record Starts (calls words : List ℕ) : Type 0 where
+  pub term : Term
+  pub rest : List ℕ
+  pub holds : Holds calls words term rest
+
+-- the words of a slice from an index to its end
+abbrev pub from : List ℕ → ℕ → List ℕ
+from words i = take (length words - i) (drop i words)

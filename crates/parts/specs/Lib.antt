@@ -1,0 +1,3 @@
+pub mod Shapes
+pub mod Ends
+pub mod Fronts

@@ -1,0 +1,5 @@
+// Words and the parts of a node: what every traversal of a term on words stands on.
+
+pub mod fields; // fields.rt: the fields of type, call and term words
+pub mod shape; // shape.rt: what a kind decides, by one match; the number of parts of a node
+pub mod ends; // ends.rt: where a part ends
