@@ -8,6 +8,7 @@ pub mod Decoding
 pub mod Parts
 pub mod Shaped
 pub mod Substitution
+pub mod Under
 pub mod Values
 pub mod Positions
 pub mod Pending
