@@ -8,3 +8,5 @@ pub mod Parts
 pub mod Positions
 pub mod CallsIn
 pub mod Under
+pub mod Nodes
+pub mod Sizes
