@@ -10,3 +10,4 @@ pub mod CallsIn
 pub mod Under
 pub mod Nodes
 pub mod Sizes
+pub mod PartsUnder

@@ -1,6 +1,6 @@
 -- Sizes: a node is one word more than its parts, a renaming keeps the size, and a substitution adds the size of what is put in, less one
 -- word, for each use of the variable.
-use mathlib.Core.Path.{_≡_, refl, sym, _∙_, ap}
+use mathlib.Core.Path.{_≡_, refl, ap}
 use Prim.Native.Nat.{ℕ, zero, suc, _+_, _*_, _≤_}
 use native.Mathlib.Omega.{arith}
 use lib.Dec.{eqb, eqb·zero-suc, eqb·suc-zero, eqb·suc-suc}

@@ -10,6 +10,7 @@ pub mod Shaped
 pub mod Substitution
 pub mod Under
 pub mod Values
+pub mod PartsUnder
 pub mod Positions
 pub mod Pending
 pub mod Lists
