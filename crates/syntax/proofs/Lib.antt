@@ -8,3 +8,6 @@ pub mod Parts
 pub mod Positions
 pub mod CallsIn
 pub mod Nodes
+pub mod Under
+pub mod Sizes
+pub mod PartsUnder

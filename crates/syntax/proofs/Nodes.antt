@@ -60,18 +60,10 @@ module _ (calls : List ℕ) where
       }
   shaped-node (pair A a b) s =
       record { number = omega arith; type = s .0; parts = kinded calls 5 0 A (omega arith) (s .0); shaped = (s .1, (s .2, tt)) }
-  shaped-node (fst a) s = record {
-    number = omega arith;
-    type = omega arith;
-    parts = kinded calls 6 0 0 (omega arith) (omega arith);
-    shaped = (s, tt);
-  }
-  shaped-node (snd a) s = record {
-    number = omega arith;
-    type = omega arith;
-    parts = kinded calls 7 0 0 (omega arith) (omega arith);
-    shaped = (s, tt);
-  }
+  shaped-node (fst a) s =
+      record { number = omega arith; type = omega arith; parts = kinded calls 6 0 0 (omega arith) (omega arith); shaped = (s, tt) }
+  shaped-node (snd a) s =
+      record { number = omega arith; type = omega arith; parts = kinded calls 7 0 0 (omega arith) (omega arith); shaped = (s, tt) }
   shaped-node (inl A a) s =
       record { number = omega arith; type = s .0; parts = kinded calls 8 0 A (omega arith) (s .0); shaped = (s .1, tt) }
   shaped-node (inr A a) s =

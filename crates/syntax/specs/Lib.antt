@@ -8,7 +8,9 @@ pub mod Decoding
 pub mod Parts
 pub mod Shaped
 pub mod Substitution
+pub mod Under
 pub mod Values
+pub mod PartsUnder
 pub mod Positions
 pub mod Pending
 pub mod Lists

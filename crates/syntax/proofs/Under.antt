@@ -1,0 +1,65 @@
+-- What a renaming or substitution under so many binders puts for a variable, by where the variable stands: below the binders' number it
+-- stays, because `under` puts variable 0 for itself and weakens what it put before.
+use mathlib.Core.Path.{_≡_, refl, sym, _∙_, ap, fun-ext}
+use Prim.Native.Nat.{ℕ, zero, suc, _+_, _-_, _≤_, _<_}
+use native.Mathlib.Omega.{arith}
+use Rattle.syntax.specs.Term.{Term, var}
+use Rattle.syntax.specs.Substitution.{Kit, under, traverse, rename, weaken}
+use Rattle.syntax.specs.Under.{underBy, raiseAt, onlyAt}
+use Rattle.syntax.proofs.Algebra.{rename-id, rename-rename}
+
+module _ {X : Type 0} (kit : Kit X) where
+  -- one binder more
+  pub under-underBy : (n : ℕ) (f : ℕ → X) → under kit (underBy kit n f) ≡ underBy kit (suc n) f
+  unfolding underBy
+  under-underBy n f = refl
+
+  pub underBy-one : (f : ℕ → X) → underBy kit 1 f ≡ under kit f
+  unfolding underBy
+  underBy-one f = refl
+
+  pub underBy-underBy : (m n : ℕ) (f : ℕ → X) → underBy kit m (underBy kit n f) ≡ underBy kit (m + n) f
+  unfolding underBy
+  underBy-underBy zero n f = ap (λ (k : ℕ). underBy kit k f) (none n)
+    where
+      none : (n : ℕ) → n ≡ 0 + n
+      none n = omega arith
+  underBy-underBy (suc m) n f = ap (under kit) (underBy-underBy m n f) ∙ ap (λ (k : ℕ). underBy kit k f) (add m n)
+    where
+      add : (m n : ℕ) → suc (m + n) ≡ suc m + n
+      add m n = omega arith
+
+-- renaming
+pub raiseAt-below : (c by n : ℕ) → n < c → raiseAt c by n ≡ n
+unfolding underBy
+raiseAt-below zero by n h = absurd (omega (arith, h))
+raiseAt-below (suc c) by zero h = refl
+raiseAt-below (suc c) by (suc n) h = ap suc (raiseAt-below c by n (omega (arith, h)))
+
+pub raiseAt-above : (c by n : ℕ) → c ≤ n → raiseAt c by n ≡ by + n
+unfolding underBy
+raiseAt-above zero by n h = refl
+raiseAt-above (suc c) by zero h = absurd (omega (arith, h))
+raiseAt-above (suc c) by (suc n) h = omega (arith, raiseAt-above c by n (omega (arith, h)))
+
+-- substitution
+pub onlyAt-below : (d : ℕ) (v : Term) (n : ℕ) → n < d → onlyAt d v n ≡ var n
+unfolding underBy traverse
+onlyAt-below zero v n h = absurd (omega (arith, h))
+onlyAt-below (suc d) v zero h = refl
+onlyAt-below (suc d) v (suc n) h = ap weaken (onlyAt-below d v n (omega (arith, h)))
+
+pub onlyAt-at : (d : ℕ) (v : Term) → onlyAt d v d ≡ rename v (λ n. d + n)
+unfolding underBy
+onlyAt-at zero v = sym (rename-id v) ∙ ap (rename v) (fun-ext λ n. omega arith)
+onlyAt-at (suc d) v = ap weaken (onlyAt-at d v) ∙ rename-rename v (λ n. d + n) suc ∙ ap (rename v) (fun-ext λ n. omega arith)
+
+onlyAt-past : (d : ℕ) (v : Term) (n : ℕ) → d ≤ n → onlyAt d v (suc n) ≡ var n
+unfolding underBy traverse
+onlyAt-past zero v n h = refl
+onlyAt-past (suc d) v zero h = absurd (omega (arith, h))
+onlyAt-past (suc d) v (suc n) h = ap weaken (onlyAt-past d v n (omega (arith, h)))
+
+pub onlyAt-above : (d : ℕ) (v : Term) (n : ℕ) → d < n → onlyAt d v n ≡ var (n - 1)
+onlyAt-above d v zero h = absurd (omega (arith, h))
+onlyAt-above d v (suc n) h = onlyAt-past d v n (omega (arith, h)) ∙ ap var (omega arith)
