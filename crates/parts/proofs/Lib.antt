@@ -1,2 +1,4 @@
 pub mod Extents
 pub mod Traversal
+pub mod Variables
+pub mod Counting

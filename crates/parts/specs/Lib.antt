@@ -1,3 +1,4 @@
 pub mod Shapes
 pub mod Ends
 pub mod Fronts
+pub mod Counts

@@ -3,3 +3,4 @@
 pub mod fields; // fields.rt: the fields of type, call and term words
 pub mod shape; // shape.rt: what a kind decides, by one match; the number of parts of a node
 pub mod ends; // ends.rt: where a part ends
+pub mod uses; // uses.rt: how often a part uses a variable
