@@ -2,3 +2,5 @@ pub mod Extents
 pub mod Traversal
 pub mod Variables
 pub mod Counting
+pub mod Writing
+pub mod Renaming

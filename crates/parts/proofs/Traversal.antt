@@ -6,15 +6,18 @@ use mathlib.Core.List.{List, _++_, append-assoc}
 use lib.ListN.{length, getD, drop, take, length-append, length-drop}
 use Rattle.syntax.specs.Words.{kindOf, numberOf, typeOf}
 use Rattle.syntax.specs.Term.{Term, Terms, done, arg, node}
-use Rattle.syntax.specs.Encoding.{encode, encodeAll, size}
+use Rattle.syntax.specs.Encoding.{wordOf, encode, encodeAll, size}
 use Rattle.syntax.specs.Parts.{partCount}
 use Rattle.syntax.specs.Shaped.{count, Shaped, ShapedAll}
-use Rattle.syntax.proofs.Nodes.{Front, front, words-of, tail-part, next-part, past-part}
+use Rattle.syntax.proofs.Nodes.{encode-node, Front, front, words-of, tail-part, next-part, past-part}
 use Rattle.parts.specs.Fronts.{Holds, Starts, from}
 
 -- the first word, by its node
 pub front-of : {calls words : List ℕ} {t : Term} {rest : List ℕ} → Holds calls words t rest → Front calls words t rest
 front-of {calls} {words} {t} {rest} h = front calls words t rest (h .shaped) (h .is)
+
+pub first-word : {calls words : List ℕ} {t : Term} {rest : List ℕ} → Holds calls words t rest → getD words 0 0 ≡ wordOf t
+first-word {t = t} {rest = rest} h = ap (λ (l : List ℕ). getD l 0 0) (h .is ∙ ap (λ (l : List ℕ). l ++ rest) (encode-node t))
 
 -- a term at the front takes no more words than there are
 pub fits : {calls words : List ℕ} {t : Term} {rest : List ℕ} → Holds calls words t rest → size t ≤ length words
@@ -93,6 +96,11 @@ module _ (calls words : List ℕ) where
           to-do = q t rest h;
         };
   }
+
+  pub enter-start : (Q : Term → Terms → Type 0) (n : ℕ) (s : Starts calls words) (e : n ≡ partCount calls (getD words 0 0))
+      (q : (t : Term) (rest : List ℕ) → Holds calls words t rest → Q t (node t .parts)) → enter Q n s e q .start ≡ s
+  unfolding enter
+  enter-start Q n s e q = refl
 
   module _ {Q : Term → Terms → Type 0} {n at j : ℕ} (g : Going Q n at j) where
     -- the next part, for whatever term is at the front

@@ -2,3 +2,4 @@ pub mod Shapes
 pub mod Ends
 pub mod Fronts
 pub mod Counts
+pub mod Writes

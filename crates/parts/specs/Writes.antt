@@ -1,0 +1,41 @@
+-- What the functions that write a term into a buffer ask and say, for whatever term is at the front.
+use Prim.Native.Nat.{ℕ, _+_, _≤_}
+use mathlib.Core.Path.{_≡_}
+use mathlib.Core.List.{List}
+use lib.Seq.{sets}
+use Rattle.syntax.specs.Term.{Term}
+use Rattle.syntax.specs.Encoding.{encode, size}
+use Rattle.syntax.specs.Substitution.{rename, substitute}
+use Rattle.syntax.specs.Under.{raiseAt, onlyAt}
+use Rattle.parts.specs.Fronts.{Holds, Starts}
+use Rattle.parts.specs.declared.substitute.Moved.{Moved}
+
+-- a term starts here, and fits into len words from `at` on
+pub record Room (calls src : List ℕ) (len at : ℕ) : Type 0 where
+  pub start : Starts calls src
+  pub room : at + size (start .term) ≤ len
+
+-- t was read, and y written from `at` on
+pub record Written (read : ℕ) (old new : List ℕ) (at : ℕ) (t y : Term) : Type 0 where
+  pub read-is : read ≡ size t
+  pub new-is : new ≡ sets old at (encode y)
+
+-- the term at the front is written with its variables from `cut` on raised
+pub record Renames (calls src old new : List ℕ) (at cut by r : ℕ) : Type 0 where
+  pub told : (t : Term) (rest : List ℕ) → Holds calls src t rest → Written r old new at t (rename t (raiseAt cut by))
+
+-- a body and a value start here, and the body with the value in it fits into len words from `at` on
+pub record RoomFor (calls body value : List ℕ) (len at depth : ℕ) : Type 0 where
+  pub start : Starts calls body
+  pub value-starts : Starts calls value
+  pub room : at + size (substitute (start .term) (onlyAt depth (value-starts .term))) ≤ len
+
+-- t was read, and y written from `at` on, so many words
+pub record Placed (r : Moved) (old new : List ℕ) (at : ℕ) (t y : Term) : Type 0 where
+  pub written : Written (r .read) old new at t y
+  pub wrote-is : r .wrote ≡ size y
+
+-- the term at the front of body is written with the term at the front of value for the variable `depth`
+pub record Substitutes (calls body value old new : List ℕ) (at depth : ℕ) (r : Moved) : Type 0 where
+  pub told : (t : Term) (rest : List ℕ) → Holds calls body t rest → (v : Term) (more : List ℕ) → Holds calls value v more
+      → Placed r old new at t (substitute t (onlyAt depth v))
