@@ -11,3 +11,5 @@ pub mod Under
 pub mod Nodes
 pub mod Sizes
 pub mod PartsUnder
+pub mod UsesTraverse
+pub mod Uses
