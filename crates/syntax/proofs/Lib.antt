@@ -13,3 +13,4 @@ pub mod Sizes
 pub mod PartsUnder
 pub mod UsesTraverse
 pub mod Uses
+pub mod Agreement
