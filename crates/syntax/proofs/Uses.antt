@@ -1,14 +1,14 @@
 -- How often a renamed or substituted term uses a variable, for the renamings and substitutions of the rules: each is a traversal whose
 -- variables are counted one by one.
-use mathlib.Core.Path.{_≡_, refl, sym, _∙_, ap}
+use mathlib.Core.Path.{_≡_, refl, sym, _∙_, ap, ap₂}
 use Prim.Native.Nat.{ℕ, zero, suc, _+_, _*_, _≤_, _<_}
 use native.Mathlib.Omega.{arith}
 use native.Mathlib.Nat.{zero-add, suc-add, add-suc}
 use lib.Dec.{eqb, eqb·zero-suc, eqb·suc-zero, eqb·suc-suc}
-use Rattle.syntax.specs.Term.{Term}
-use Rattle.syntax.specs.Substitution.{under, renaming, rename, weaken, weakenBody, substitution, substitute, _⟦_⟧}
+use Rattle.syntax.specs.Term.{Term, Terms, done, arg}
+use Rattle.syntax.specs.Substitution.{under, traverse, traverseAll, renaming, rename, weaken, weakenBody, substitution, substitute, _⟦_⟧}
 use Rattle.syntax.specs.Under.{underBy, raiseAt, onlyAt}
-use Rattle.syntax.specs.Values.{counts, uses}
+use Rattle.syntax.specs.Values.{counts, uses, usesAll}
 use Rattle.syntax.proofs.UsesTraverse.{Weakens, Puts, puts-under, uses-traverse}
 
 counts-suc : (m n : ℕ) → counts (eqb (suc m) (suc n)) ≡ counts (eqb m n)
@@ -56,6 +56,11 @@ uses-weaken-zero t = uses-rename-none t suc 0 counts-suc-zero
 
 pub uses-weaken-suc : (t : Term) (n : ℕ) → uses (weaken t) (suc n) ≡ uses t n
 uses-weaken-suc t n = uses-rename t suc (suc n) n (λ m. counts-suc m n)
+
+pub uses-weakens-suc : (ts : Terms) (n : ℕ) → usesAll (traverseAll renaming ts suc) (suc n) ≡ usesAll ts n
+unfolding uses traverse
+uses-weakens-suc done n = refl
+uses-weakens-suc (arg t ts) n = ap₂ _+_ (uses-weaken-suc t n) (uses-weakens-suc ts n)
 
 pub uses-weakenBody-zero : (b : Term) → uses (weakenBody b) 0 ≡ uses b 0
 uses-weakenBody-zero b = uses-rename b (under renaming suc) 0 0 kept
