@@ -8,3 +8,4 @@ pub mod Fits
 pub mod Search
 pub mod Lowered
 pub mod StepUses
+pub mod NextSize

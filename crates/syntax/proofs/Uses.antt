@@ -6,7 +6,8 @@ use native.Mathlib.Omega.{arith}
 use native.Mathlib.Nat.{zero-add, suc-add, add-suc}
 use lib.Dec.{eqb, eqb·zero-suc, eqb·suc-zero, eqb·suc-suc}
 use Rattle.syntax.specs.Term.{Term, Terms, done, arg}
-use Rattle.syntax.specs.Substitution.{under, traverse, traverseAll, renaming, rename, weaken, weakenBody, substitution, substitute, _⟦_⟧}
+use Rattle.syntax.specs.Substitution.{under, traverse, traverseAll, renaming, rename, weaken, weakenBody, substitution}
+use Rattle.syntax.specs.Substitution.{substitute, _⟦_⟧}
 use Rattle.syntax.specs.Under.{underBy, raiseAt, onlyAt}
 use Rattle.syntax.specs.Values.{counts, uses, usesAll}
 use Rattle.syntax.proofs.UsesTraverse.{Weakens, Puts, puts-under, uses-traverse}
