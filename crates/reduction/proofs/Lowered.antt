@@ -1,6 +1,6 @@
 -- Dropping an unused variable is substituting anything for it: the two put the same for every variable that the body uses.
 use mathlib.Core.Path.{_≡_, refl, _∙_, ap}
-use Prim.Native.Nat.{ℕ, zero, suc, _+_, _*_, _≤_}
+use Prim.Native.Nat.{ℕ, zero, suc, _≤_}
 use native.Mathlib.Omega.{arith}
 use Rattle.syntax.specs.Term.{Term, var}
 use Rattle.syntax.specs.Substitution.{rename, substitution, only, _⟦_⟧}

@@ -1,11 +1,11 @@
 -- A step uses no new variable: no rule's contractum does, and a node uses what its parts use.
-use mathlib.Core.Path.{_≡_, refl, _∙_, ap}
+use mathlib.Core.Path.{_≡_, _∙_, ap}
 use mathlib.Core.Bool.{Bool}
-use mathlib.Core.Option.{Option, some}
-use lib.Dec.{eqb, eqb→eq, eqb·zero-suc}
-use Prim.Native.Nat.{ℕ, zero, suc, _+_, _*_}
+use mathlib.Core.Option.{some}
+use lib.Dec.{eqb→eq, eqb·zero-suc}
+use Prim.Native.Nat.{ℕ, suc, _+_}
 use native.Mathlib.Omega.{arith}
-use Rattle.syntax.specs.Term.{Term, Terms, var, call, lam, app, bind, pair, fst, snd, inl, inr, case, arg}
+use Rattle.syntax.specs.Term.{Term, Terms, var}
 use Rattle.syntax.specs.Substitution.{_⟦_⟧}
 use Rattle.syntax.specs.Values.{counts, uses, usesAll}
 use Rattle.syntax.proofs.Options.{every-at}
