@@ -10,6 +10,7 @@ use Rattle.syntax.specs.Substitution.{under, traverse, traverseAll, rena
 use Rattle.syntax.specs.Substitution.{substitute, _⟦_⟧}
 use Rattle.syntax.specs.Under.{underBy, raiseAt, onlyAt}
 use Rattle.syntax.specs.Values.{counts, uses, usesAll}
+use Rattle.syntax.proofs.Under.{weakenBody-raiseAt}
 use Rattle.syntax.proofs.UsesTraverse.{Weakens, Puts, puts-under, uses-traverse}
 
 counts-suc : (m n : ℕ) → counts (eqb (suc m) (suc n)) ≡ counts (eqb m n)
@@ -63,27 +64,6 @@ unfolding uses traverse
 uses-weakens-suc done n = refl
 uses-weakens-suc (arg t ts) n = ap₂ _+_ (uses-weaken-suc t n) (uses-weakens-suc ts n)
 
-pub uses-weakenBody-zero : (b : Term) → uses (weakenBody b) 0 ≡ uses b 0
-uses-weakenBody-zero b = uses-rename b (under renaming suc) 0 0 kept
-  where
-    kept : (m : ℕ) → counts (eqb (under renaming suc m) 0) ≡ counts (eqb m 0)
-    kept zero = refl
-    kept (suc m) = counts-suc-zero (suc m) ∙ sym (counts-suc-zero m)
-
-pub uses-weakenBody-one : (b : Term) → uses (weakenBody b) 1 ≡ 0
-uses-weakenBody-one b = uses-rename-none b (under renaming suc) 1 missed
-  where
-    missed : (m : ℕ) → counts (eqb (under renaming suc m) 1) ≡ 0
-    missed zero = refl
-    missed (suc m) = counts-suc (suc m) 0 ∙ counts-suc-zero m
-
-pub uses-weakenBody-past : (b : Term) (n : ℕ) → uses (weakenBody b) (suc (suc n)) ≡ uses b (suc n)
-uses-weakenBody-past b n = uses-rename b (under renaming suc) (suc (suc n)) (suc n) moved
-  where
-    moved : (m : ℕ) → counts (eqb (under renaming suc m) (suc (suc n))) ≡ counts (eqb m (suc n))
-    moved zero = counts-zero-suc (suc n) ∙ sym (counts-zero-suc n)
-    moved (suc m) = counts-suc (suc m) (suc n)
-
 -- variables raised under c binders
 raised-below : (c by n : ℕ) → n < c → (m : ℕ) → counts (eqb (raiseAt c by m) n) ≡ counts (eqb m n)
 unfolding underBy
@@ -118,6 +98,10 @@ uses-raiseAt-between t c by n h k = uses-rename-none t (raiseAt c by) n (raised-
 
 pub uses-raiseAt-above : (t : Term) (c by n : ℕ) → c ≤ n → uses (rename t (raiseAt c by)) (by + n) ≡ uses t n
 uses-raiseAt-above t c by n h = uses-rename t (raiseAt c by) (by + n) n (raised-above c by n h)
+
+pub uses-weakenBody-past : (b : Term) (n : ℕ) → uses (weakenBody b) (suc (suc n)) ≡ uses b (suc n)
+uses-weakenBody-past b n = rw (suc-add 0 (suc n), zero-add (suc n)) at
+    (ap (λ (t : Term). uses t (1 + suc n)) (weakenBody-raiseAt b) ∙ uses-raiseAt-above b 1 1 (suc n) (omega arith))
 
 -- substitution
 pub substitution-weakens : Weakens substitution
