@@ -6,7 +6,7 @@ use native.Mathlib.Omega.{arith}
 use native.Mathlib.Nat.{zero-add, suc-add, add-suc}
 use lib.Dec.{eqb, eqb·zero-suc, eqb·suc-zero, eqb·suc-suc}
 use Rattle.syntax.specs.Term.{Term, Terms, done, arg}
-use Rattle.syntax.specs.Substitution.{under, traverse, traverseAll, renaming, rename, weaken, weakenBody, substitution}
+use Rattle.syntax.specs.Substitution.{traverse, traverseAll, renaming, rename, weaken, weakenBody, substitution}
 use Rattle.syntax.specs.Substitution.{substitute, _⟦_⟧}
 use Rattle.syntax.specs.Under.{underBy, raiseAt, onlyAt}
 use Rattle.syntax.specs.Values.{counts, uses, usesAll}
@@ -109,7 +109,7 @@ unfolding uses
 substitution-weakens = record { zeroth = λ n. refl; fresh = uses-weaken-zero; moved = uses-weaken-suc }
 
 -- what is put for a variable under d binders, counted at a variable past them and at one of them
-puts-past : (v : Term) (d n n′ : ℕ) → d + n ≡ n′ → Puts substitution substitution-weakens 1 (uses v n) (onlyAt d v) n′ (suc n′) d
+puts-past : (v : Term) (d n n′ : ℕ) → d + n ≡ n′ → Puts substitution 1 (uses v n) (onlyAt d v) n′ (suc n′) d
 unfolding underBy uses
 puts-past v zero n n′ e zero = rw (counts-zero-suc n′, ← e, zero-add n) (omega arith)
 puts-past v zero n n′ e (suc m) = rw (counts-suc-zero m) (omega (arith, counts-suc m n′))
@@ -117,7 +117,7 @@ puts-past v (suc d) n zero e m = absurd (omega (arith, e))
 puts-past v (suc d) n (suc n′) e m = puts-under substitution substitution-weakens 1 (uses v n) (onlyAt d v) n′ (suc n′) d
     (puts-past v d n n′ (omega (arith, e))) m
 
-puts-below : (v : Term) (d n : ℕ) → n < d → Puts substitution substitution-weakens 1 0 (onlyAt d v) n n n
+puts-below : (v : Term) (d n : ℕ) → n < d → Puts substitution 1 0 (onlyAt d v) n n n
 unfolding underBy uses
 puts-below v zero n h m = absurd (omega (arith, h))
 puts-below v (suc d) zero h zero = refl

@@ -14,13 +14,13 @@ pub record Weakens {X : Type 0} (K : Kit X) : Type 0 where
   pub fresh : (x : X) → uses (K .term (K .weaken x)) 0 ≡ 0
   pub moved : (x : X) (n : ℕ) → uses (K .term (K .weaken x)) (suc n) ≡ uses (K .term x) n
 
--- what is put for a variable uses n′ with weight a if it is put for n, and with weight w if it is put for d
-module _ {X : Type 0} (K : Kit X) (weakens : Weakens K) (a w : ℕ) where
-  abbrev pub Puts : (ℕ → X) → ℕ → ℕ → ℕ → Type 0
-  Puts f n′ n d = (m : ℕ) → uses (K .term (f m)) n′ ≡ a * counts (eqb m n) + w * counts (eqb m d)
+-- what is put for n uses n′ a times, what is put for d uses it w times, and what is put for others does not
+abbrev pub Puts : {X : Type 0} → Kit X → ℕ → ℕ → (ℕ → X) → ℕ → ℕ → ℕ → Type 0
+Puts K a w f n′ n d = (m : ℕ) → uses (K .term (f m)) n′ ≡ a * counts (eqb m n) + w * counts (eqb m d)
 
+module _ {X : Type 0} (K : Kit X) (weakens : Weakens K) (a w : ℕ) where
   -- kept under a binder
-  pub puts-under : (f : ℕ → X) (n′ n d : ℕ) → Puts f n′ n d → Puts (under K f) (suc n′) (suc n) (suc d)
+  pub puts-under : (f : ℕ → X) (n′ n d : ℕ) → Puts K a w f n′ n d → Puts K a w (under K f) (suc n′) (suc n) (suc d)
   puts-under f n′ n d h zero = rw (eqb·zero-suc n, eqb·zero-suc d)
       (weakens .zeroth (suc n′) ∙ ap counts (eqb·zero-suc n′) ∙ none a w)
     where
@@ -31,7 +31,8 @@ module _ {X : Type 0} (K : Kit X) (weakens : Weakens K) (a w : ℕ) where
   mutual
     unfolding traverse uses
 
-    pub uses-traverse : (t : Term) (f : ℕ → X) (n′ n d : ℕ) → Puts f n′ n d → uses (traverse K t f) n′ ≡ a * uses t n + w * uses t d
+    pub uses-traverse : (t : Term) (f : ℕ → X) (n′ n d : ℕ) → Puts K a w f n′ n d
+        → uses (traverse K t f) n′ ≡ a * uses t n + w * uses t d
     uses-traverse (var m) f n′ n d h = h m
     uses-traverse (call k ts) f n′ n d h = uses-traverses ts f n′ n d h
     uses-traverse (lam A b) f n′ n d h = uses-traverse b (under K f) (suc n′) (suc n) (suc d) (puts-under f n′ n d h)
@@ -52,7 +53,7 @@ module _ {X : Type 0} (K : Kit X) (weakens : Weakens K) (a w : ℕ) where
           uses-traverse r (under K f) (suc n′) (suc n) (suc d) u,
         )
 
-    pub uses-traverses : (ts : Terms) (f : ℕ → X) (n′ n d : ℕ) → Puts f n′ n d
+    pub uses-traverses : (ts : Terms) (f : ℕ → X) (n′ n d : ℕ) → Puts K a w f n′ n d
         → usesAll (traverseAll K ts f) n′ ≡ a * usesAll ts n + w * usesAll ts d
     uses-traverses done f n′ n d h = omega arith
     uses-traverses (arg t ts) f n′ n d h = omega (arith, uses-traverse t f n′ n d h, uses-traverses ts f n′ n d h)
