@@ -6,3 +6,6 @@ pub mod Unique
 pub mod Roots
 pub mod Fits
 pub mod Search
+pub mod Lowered
+pub mod StepUses
+pub mod NextSize

@@ -11,3 +11,6 @@ pub mod Nodes
 pub mod Under
 pub mod Sizes
 pub mod PartsUnder
+pub mod UsesTraverse
+pub mod Uses
+pub mod Agreement

@@ -1,13 +1,12 @@
 -- A term as a node over its parts, whatever its kind: its words, its shape, and what stands at the front of words.
-use mathlib.Core.Path.{_≡_, refl, sym, _∙_, ap, ap₂}
-use mathlib.Core.List.{List, [], _∷_, _++_, append-assoc, append-nil}
-use Prim.Native.Nat.{ℕ, zero, suc, _+_, _-_, _^_, _≤_, _<_}
+use mathlib.Core.Path.{_≡_, refl, sym, _∙_, ap}
+use mathlib.Core.List.{List, _∷_, _++_, append-assoc, append-nil}
+use Prim.Native.Nat.{ℕ, _+_, _-_, _^_, _≤_, _<_}
 use native.Mathlib.Omega.{arith}
-use lib.ListN.{length, getD, drop, take, length-append, length-drop}
+use lib.ListN.{length, getD, drop, take, length-drop}
 use lib.Seq.{drop-append-seam, drop-drop, take-all}
 use Rattle.syntax.specs.Words.{pack, kindOf, numberOf, typeOf}
-use Rattle.syntax.specs.Tables.{arity}
-use Rattle.syntax.specs.Term.{Term, Terms, var, call, lam, app, bind, pair, fst, snd, inl, inr, case, done, arg, node}
+use Rattle.syntax.specs.Term.{Term, Terms, var, call, lam, app, bind, pair, fst, snd, inl, inr, case, arg, node}
 use Rattle.syntax.specs.Encoding.{wordOf, encode, encodeAll, size}
 use Rattle.syntax.specs.Parts.{partCount}
 use Rattle.syntax.proofs.Decoding.{kind-pack, number-pack, type-pack}

@@ -3,8 +3,9 @@
 use mathlib.Core.Path.{_≡_, refl, sym, _∙_, ap, fun-ext}
 use Prim.Native.Nat.{ℕ, zero, suc, _+_, _-_, _≤_, _<_}
 use native.Mathlib.Omega.{arith}
+use native.Mathlib.Nat.{zero-add, suc-add}
 use Rattle.syntax.specs.Term.{Term, var}
-use Rattle.syntax.specs.Substitution.{Kit, under, traverse, rename, weaken}
+use Rattle.syntax.specs.Substitution.{Kit, under, traverse, renaming, rename, weaken, weakenBody}
 use Rattle.syntax.specs.Under.{underBy, raiseAt, onlyAt}
 use Rattle.syntax.proofs.Algebra.{rename-id, rename-rename}
 
@@ -20,14 +21,8 @@ module _ {X : Type 0} (kit : Kit X) where
 
   pub underBy-underBy : (m n : ℕ) (f : ℕ → X) → underBy kit m (underBy kit n f) ≡ underBy kit (m + n) f
   unfolding underBy
-  underBy-underBy zero n f = ap (λ (k : ℕ). underBy kit k f) (none n)
-    where
-      none : (n : ℕ) → n ≡ 0 + n
-      none n = omega arith
-  underBy-underBy (suc m) n f = ap (under kit) (underBy-underBy m n f) ∙ ap (λ (k : ℕ). underBy kit k f) (add m n)
-    where
-      add : (m n : ℕ) → suc (m + n) ≡ suc m + n
-      add m n = omega arith
+  underBy-underBy zero n f = ap (λ (k : ℕ). underBy kit k f) (sym (zero-add n))
+  underBy-underBy (suc m) n f = ap (under kit) (underBy-underBy m n f) ∙ ap (λ (k : ℕ). underBy kit k f) (sym (suc-add m n))
 
 -- renaming
 pub raiseAt-below : (c by n : ℕ) → n < c → raiseAt c by n ≡ n
@@ -41,6 +36,15 @@ unfolding underBy
 raiseAt-above zero by n h = refl
 raiseAt-above (suc c) by zero h = absurd (omega (arith, h))
 raiseAt-above (suc c) by (suc n) h = omega (arith, raiseAt-above c by n (omega (arith, h)))
+
+-- the renamings of the rules
+pub weaken-raiseAt : (t : Term) → weaken t ≡ rename t (raiseAt 0 1)
+unfolding underBy
+weaken-raiseAt t = ap (rename t) (fun-ext λ n. omega arith)
+
+pub weakenBody-raiseAt : (b : Term) → weakenBody b ≡ rename b (raiseAt 1 1)
+unfolding underBy
+weakenBody-raiseAt b = ap (λ (f : ℕ → ℕ). rename b (under renaming f)) (fun-ext λ n. omega arith)
 
 -- substitution
 pub onlyAt-below : (d : ℕ) (v : Term) (n : ℕ) → n < d → onlyAt d v n ≡ var n

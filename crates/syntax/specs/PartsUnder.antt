@@ -1,4 +1,4 @@
--- A traversal and the uses of a variable by the parts of a node, whatever the node's kind: each part stands under its own number of binders.
+-- A traversal and the uses of a variable by a node's parts, whatever its kind: each part stands under its own number of binders.
 use Prim.Native.Nat.{ℕ, suc, _+_}
 use Rattle.syntax.specs.Kinds.{bindersAt}
 use Rattle.syntax.specs.Term.{Terms, done, arg}
