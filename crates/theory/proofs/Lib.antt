@@ -16,6 +16,7 @@ pub mod PendingSteps
 pub mod PendingStructure
 pub mod Preserve
 pub mod Relation
+pub mod RuledOut
 pub mod SameRuns
 pub mod SoundInsert
 pub mod SoundReduce
