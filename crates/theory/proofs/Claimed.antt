@@ -37,7 +37,6 @@ use Rattle.theory.proofs.Forms.{never, reduced as in-form}
 use Rattle.theory.proofs.FormsKept.{form-step, no-insertion, no-reduction}
 use Rattle.theory.proofs.Subformulas.{Listed, listed, all-at, subformulas}
 use Rattle.theory.proofs.Fields.{Fitting, fitting, shaped}
-use Rattle.theory.proofs.Capacity.{reached-fits}
 use Rattle.theory.proofs.SameRuns.{one-step, steps-typed, same-runs}
 use Rattle.typing.proofs.Accepted.{Verdicts, passed, Passed, elaborated}
 
@@ -120,9 +119,14 @@ claim-of-sequence tables words A t u wf fit w d e l q =
           (typing-of tables (λ k. k ∈ callsIn t) t (tables .inputs) A e (λ k i. i));
     }
 
-sequence-of : {budget : ℕ} {capacity : ℕ} {t : Term} {left : ℕ} {u : Term} {c : Counts}
-    → Reduced allPure capacity budget t (reached left u c) → Sequence allPure t u
-sequence-of (reduced q _ _) = q
+-- what a reduction that came through says of the term it reached
+record Came (capacity : ℕ) (t u : Term) : Type 0 where
+  sequence : Sequence allPure t u
+  fits : size u ≤ capacity
+
+came : {capacity budget : ℕ} {t : Term} {left : ℕ} {u : Term} {c : Counts} → Reduced allPure capacity budget t (reached left u c)
+    → Came capacity t u
+came (reduced q _ _ h) = record { sequence = q; fits = h }
 
 passed-at : (limit : ℕ) (tables : Tables) (words : List ℕ) {x : Checked} → Verdicts (Passed limit tables words) (accepted x)
     → Passed limit tables words x
@@ -136,8 +140,7 @@ pub claim : (tables : Tables) (words : List ℕ) (capacity : ℕ) (settings : Se
 claim tables words capacity settings x left u counts h e r =
     let p = passed-at normalizeLimit tables words
     (subst (Verdicts (Passed normalizeLimit tables words)) e (elaborated normalizeLimit tables words)) in
-    let l = reached-fits allPure capacity settings (x .term) left u counts r in
+    let g = came (subst (Reduced allPure capacity (settings .budget) (x .term)) r (reduce-sequence allPure capacity settings (x .term))) in
     claim-of-sequence tables words (x .type) (x .term) u (earlier tables (p .types))
-    (fitting normalizeLimit tables words (p .lengths) (p .calls)) (p .words′) (p .term) (p .type) (omega (arith, h, l))
-    (sequence-of {capacity = capacity}
-    (subst (Reduced allPure capacity (settings .budget) (x .term)) r (reduce-sequence allPure capacity settings (x .term))))
+    (fitting normalizeLimit tables words (p .lengths) (p .calls)) (p .words′) (p .term) (p .type) (omega (arith, h, g .fits))
+    (g .sequence)

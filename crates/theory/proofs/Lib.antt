@@ -1,4 +1,3 @@
-pub mod Capacity
 pub mod Claimed
 pub mod Compatible
 pub mod Contracted
