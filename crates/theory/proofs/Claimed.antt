@@ -30,14 +30,15 @@ use Rattle.semantics.specs.Claim.{Subformula, Claim}
 use Rattle.outcomes.specs.Normalize.{maxCapacity}
 use Rattle.typing.proofs.InferTyped.{typing-of, typed-infer}
 use Rattle.theory.proofs.Trees.{Earlier, earlier}
-use Rattle.reduction.proofs.Search.{Each}
+use Rattle.reduction.proofs.Search.{Each, one-step}
 use Rattle.theory.proofs.Operands.{Ops, inserted}
 use Rattle.theory.proofs.OperandsKept.{step-ops}
 use Rattle.theory.proofs.Forms.{never, reduced as in-form}
 use Rattle.theory.proofs.FormsKept.{form-step, no-insertion, no-reduction}
 use Rattle.theory.proofs.Subformulas.{Listed, listed, all-at, subformulas}
 use Rattle.theory.proofs.Fields.{Fitting, fitting, shaped}
-use Rattle.theory.proofs.SameRuns.{one-step, steps-typed, same-runs}
+use Rattle.theory.proofs.SameRuns.{same-runs}
+use Rattle.theory.proofs.TypesKept.{steps-typed}
 use Rattle.typing.proofs.Accepted.{Verdicts, passed, Passed, elaborated}
 
 -- the last step of a phase
@@ -46,14 +47,14 @@ last-step pure phase (ended e) = e
 last-step pure phase (stepped e q) = last-step pure phase q
 
 -- what phases 2 and 3 keep
-module _ (tables : Tables) (pure : Term → Bool) where
+module _ (pure : Term → Bool) where
   kept-ops : {t u : Term} {ss : List Stepped} → Steps pure Reduction t ss u → Each t Ops → Each u Ops
   kept-ops (ended e) h = h
-  kept-ops (stepped {t = t} {s = s} e q) h = kept-ops q (step-ops (one-step tables (λ k. Unit) pure Reduction t s e) h)
+  kept-ops (stepped {t = t} {s = s} e q) h = kept-ops q (step-ops (one-step pure Reduction t s e) h)
 
   kept-form : {t u : Term} {ss : List Stepped} → Steps pure Dropping t ss u → Normal never t → Normal never u
   kept-form (ended e) f = f
-  kept-form (stepped {t = t} {s = s} e q) f = kept-form q (form-step pure f (one-step tables (λ k. Unit) pure Dropping t s e))
+  kept-form (stepped {t = t} {s = s} e q) f = kept-form q (form-step pure f (one-step pure Dropping t s e))
 
 -- the last term of a typed term's reduction sequence
 pub record Last (tables : Tables) (pure : Term → Bool) (A : ℕ) (u : Term) : Type 0 where
@@ -74,8 +75,8 @@ last tables pure A t u e q =
     let x₁ = steps-typed tables (λ k. Unit) pure Insertion (q .phase₁) x in
     let x₂ = steps-typed tables (λ k. Unit) pure Reduction (q .phase₂) x₁ in
     let x₃ = steps-typed tables (λ k. Unit) pure Dropping (q .phase₃) x₂ in
-    let o = kept-ops tables pure (q .phase₂) (inserted pure (q .inserted) (last-step pure Insertion (q .phase₁))) in
-    let f = kept-form tables pure (q .phase₃) (in-form tables (λ k. Unit) pure x₂ o (last-step pure Reduction (q .phase₂))) in
+    let o = kept-ops pure (q .phase₂) (inserted pure (q .inserted) (last-step pure Insertion (q .phase₁))) in
+    let f = kept-form pure (q .phase₃) (in-form tables (λ k. Unit) pure x₂ o (last-step pure Reduction (q .phase₂))) in
     record {
       type = typed-infer tables (λ k. Unit) x₃;
       form = f;

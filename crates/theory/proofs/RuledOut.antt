@@ -1,7 +1,7 @@
 -- The claim alone rules out the normalizer that copies its input and the one that inserts lets and skips phases 2 and 3: on case A of
 -- paper 01's table the words they hand back decode to a term that a rule fits, and a claim says that no rule fits there.
 use mathlib.Core.Path.{_≡_, refl, sym, _∙_, ap, subst}
-use mathlib.Core.Bool.{true, false}
+use mathlib.Core.Bool.{false}
 use mathlib.Core.List.{List, [], _∷_}
 use mathlib.Core.Option.{some, Option·some-injective}
 use lib.Dec.{T}
