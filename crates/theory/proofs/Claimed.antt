@@ -29,7 +29,7 @@ use Rattle.syntax.specs.Calls.{callsIn}
 use Rattle.semantics.specs.Claim.{Subformula, Claim}
 use Rattle.outcomes.specs.Normalize.{maxCapacity}
 use Rattle.typing.proofs.InferTyped.{typing-of, typed-infer}
-use Rattle.theory.proofs.Trees.{Earlier, earlier}
+use Rattle.typing.proofs.Trees.{Earlier, earlier}
 use Rattle.reduction.proofs.Search.{Each, one-step}
 use Rattle.theory.proofs.Operands.{Ops, inserted}
 use Rattle.theory.proofs.OperandsKept.{step-ops}

@@ -36,7 +36,8 @@ module _ (settings : Settings) (tables : Tables) (words : List ℕ) (before : Bu
   Claims r = r .answer .refusal ≡ 0 → Claim tables words (r .answer .ty) (take (r .answer .length) (overwrite (r .words) (before .output)))
 
   reduced-claims : (x : Checked) → elaborate normalizeLimit tables words ≡ accepted x → (p : Progress)
-      → Reduced allPure (capacityOf before) (settings .budget) (x .term) p → reduce allPure (capacityOf before) settings (x .term) ≡ p → Claims (reducedTo (x .type) p)
+      → Reduced allPure (capacityOf before) (settings .budget) (x .term) p
+      → reduce allPure (capacityOf before) settings (x .term) ≡ p → Claims (reducedTo (x .type) p)
   unfolding reducedTo overwrite size
   reduced-claims x e (stopped n c) (no-reduction m) r z = absurd (omega (arith, z))
   reduced-claims x e (reached left u c) f r z =

@@ -24,5 +24,4 @@ pub mod SoundInsert
 pub mod SoundReduce
 pub mod SoundStep
 pub mod Subformulas
-pub mod Trees
 pub mod TypesKept

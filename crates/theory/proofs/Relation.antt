@@ -8,7 +8,7 @@ use Rattle.syntax.specs.Term.{Term, Terms}
 use Rattle.semantics.specs.Value.{Value, Values, num, tuple, left, right, empty, also, Call, Trace}
 use Rattle.semantics.specs.Run.{Ends}
 use Rattle.typing.proofs.Typing.{Of, Signed}
-use Rattle.theory.proofs.Trees.{Ty, void, number, function, both, either, shape, ty, Earlier, ty-is}
+use Rattle.typing.proofs.Trees.{Ty, void, number, function, both, either, shape, ty, Earlier, ty-is}
 use Rattle.theory.proofs.Ends.{EndsAll, Enters}
 
 pub data Nums : Value → Value → Type 0 where
@@ -35,7 +35,7 @@ pub record Both (C : Trace → Trace → Type 0) (R : Value → Value → Type 0
 module _ (answer : ℕ → Values → Value) (C : Trace → Trace → Type 0) where
   unfoldable pub Related : Ty → Value → Value → Type 0
   Related void v w = ⊥
-  Related number v w = Nums v w
+  Related (number n) v w = Nums v w
   Related (function A B) v w = (a b : Value) → Related A a b → Both C (Related B) (Enters answer v a) (Enters answer w b)
   Related (both A B) v w = Pairs (Related A) (Related B) v w
   Related (either A B) v w = Sums (Related A) (Related B) v w
@@ -106,11 +106,11 @@ module _ (M : Model) where
   -- the relation at a type, by the type's parts
   module _ {F A B : ℕ} {v w : Value} where
     at : (k : ℕ) → components (M .tables) (suc k) F ≡ some (A, B) → Rv F v w
-        → Related (M .answer) (M .C) (shape (suc k) (ty (M .tables) A) (ty (M .tables) B)) v w
+        → Related (M .answer) (M .C) (shape (suc k) A (ty (M .tables) A) (ty (M .tables) B)) v w
     at k e r = subst (λ (X : Ty). Related (M .answer) (M .C) X v w) (ty-is (M .tables) (M .wf) k F A B e) (r .rel)
 
     to : (k : ℕ) → components (M .tables) (suc k) F ≡ some (A, B)
-        → Related (M .answer) (M .C) (shape (suc k) (ty (M .tables) A) (ty (M .tables) B)) v w → Rv F v w
+        → Related (M .answer) (M .C) (shape (suc k) A (ty (M .tables) A) (ty (M .tables) B)) v w → Rv F v w
     to k e r = record { rel = subst (λ (X : Ty). Related (M .answer) (M .C) X v w) (sym (ty-is (M .tables) (M .wf) k F A B e)) r }
 
     pub from-arrow : Of (M .tables) arrow F A B → Rv F v w → (a b : Value) → Rv A a b → Applied B v a w b

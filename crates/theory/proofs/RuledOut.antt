@@ -17,8 +17,8 @@ use Rattle.syntax.specs.Substitution.{traverse}
 use Rattle.syntax.specs.Values.{isValue, isComputation, argumentsIn, operands}
 use Rattle.reduction.specs.declared.Phase.the-variants.{Insertion}
 use Rattle.reduction.specs.declared.Rule.the-variants.{LetInsertion}
-use Rattle.reduction.specs.Rules.{nameFirst, letInsertion, letOfLet, letOfCase, apply, first, second, leftCase, rightCase, letValue, allPure}
-use Rattle.reduction.specs.Rules.{fire, rules}
+use Rattle.reduction.specs.Rules.{nameFirst, letInsertion, letOfLet, letOfCase, apply, first, second, leftCase, rightCase, letValue}
+use Rattle.reduction.specs.Rules.{allPure, fire, rules}
 use Rattle.reduction.specs.Redex.{Step, contract, firstStep, step}
 use Rattle.reduction.specs.Sequence.{Steps, ended, stepped}
 use Rattle.reduction.specs.NormalForm.{isNormal}

@@ -20,7 +20,7 @@ use Rattle.syntax.specs.Calls.{callsIn}
 use Rattle.semantics.specs.TypeParts.{FunctionFree}
 use Rattle.semantics.specs.Claim.{FirstOrder, Feed, SameRuns}
 use Rattle.typing.proofs.Typing.{Signed, At, here as now, there as later, Typed}
-use Rattle.theory.proofs.Trees.{Earlier}
+use Rattle.typing.proofs.Trees.{Earlier}
 use Rattle.theory.proofs.Ends.{ends-one}
 use Rattle.theory.proofs.Relation.{Rel, All, Model, E}
 use Rattle.theory.proofs.Fundamental.{Same, same}

@@ -37,8 +37,8 @@ module _ (M : Model) where
     calls′ : M .C d d′
     vals : All (Rv M) As v w
 
-  pub named : {ts us : Terms} {p : Term} → Names ts p us → {Γ : Context} {As : List ℕ} {ρ ρ′ : Values} → TypedAll (M .tables) (M .ok) Γ ts As
-      → Same M Γ ρ ρ′ → Named As ρ ρ′ p ts us
+  pub named : {ts us : Terms} {p : Term} → Names ts p us → {Γ : Context} {As : List ℕ} {ρ ρ′ : Values}
+      → TypedAll (M .tables) (M .ok) Γ ts As → Same M Γ ρ ρ′ → Named As ρ ρ′ p ts us
   unfolding lookup
   named (this {ts = ts} _) {ρ = ρ} {ρ′ = ρ′} (t-arg x xs) o =
       let e = same M x o in

@@ -1,4 +1,4 @@
--- Let insertion keeps what a run ends with: what stands before the named operand is a value, which makes no call, so the order of calls stays.
+-- Let insertion keeps what a run ends with: what stands before the named operand is a value and makes no call, so the order of calls stays.
 use mathlib.Core.List.{[], _∷_, _++_}
 use Prim.Native.Nat.{ℕ}
 use Rattle.syntax.specs.Tables.{product, sum}

@@ -1,5 +1,5 @@
--- The rules of phase 2 keep what a run ends with: a let or a case that moves out runs its parts in the same order, and a value makes no call
--- wherever it is put.
+-- The rules of phase 2 keep what a run ends with: a let or a case that moves out runs its parts in the same order, and a value makes no
+-- call wherever it is put.
 use mathlib.Core.Path.{sym, subst}
 use mathlib.Core.List.{[], _∷_, _++_, append-assoc}
 use Prim.Native.Nat.{ℕ}
