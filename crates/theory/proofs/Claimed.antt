@@ -1,4 +1,5 @@
--- Demand 3: the claim holds of every accepted outcome whose capacity is at most 8,192.
+-- Demand 3: the claim holds of every accepted outcome whose capacity is at most 8,192. What is accepted is typed and came through its
+-- reduction, and along a reduction types and runs are kept, operands become values, and the last term is in the grammar.
 use mathlib.Core.Path.{_≡_, refl, sym, subst}
 use mathlib.Core.Bool.{Bool, true}
 use mathlib.Core.List.{List}

@@ -1,4 +1,5 @@
--- The relation between the values of two runs, by type; each form of a term keeps it. One record holds all that it is over.
+-- When the values of two runs count as the same, by type: numbers are equal, pairs and injections are related part by part, and functions
+-- take related values to runs that end with related values and traces.
 use mathlib.Core.Path.{_≡_, sym, subst}
 use mathlib.Core.List.{List, [], _∷_, _++_}
 use mathlib.Core.Option.{some}
@@ -50,8 +51,7 @@ pub data All (R : ℕ → Value → Value → Type 0) : List ℕ → Values → 
   all-more : {A : ℕ} {As : List ℕ} {v w : Value} {vs ws : Values} → R A v w → All R As vs ws → All R (A ∷ As) (also v vs) (also w ws)
 
 -- All that the relation is over: tables whose types are trees, which calls may be made, what answers them, a relation on traces with its
--- laws,
--- and that related arguments of a call are equal and answered by related values.
+-- laws, and that related arguments of a call are equal and answered by related values.
 pub record Model : Type 1 where
   pub tables : Tables
   pub wf : Earlier tables
