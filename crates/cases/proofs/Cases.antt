@@ -1,4 +1,5 @@
--- Cases A to L by one computation over their table; the sample bundle byte for byte; the buffers that case A leaves; the limits of check 1.
+-- Cases A to L by one computation over their table; the sample bundle byte for byte; the sixteen digits; the buffers that
+-- case A leaves; the limits of check 1.
 use mathlib.Core.Path.{_≡_, refl}
 use mathlib.Core.Bool.{true, false}
 use mathlib.Core.List.{[], _∷_, map}
@@ -29,6 +30,8 @@ use Rattle.cases.specs.Limits.{buffered, leaves, left, sizes, fit}
 pub record Computed : Type 0 where
   pub cases : map computed table ≡ map expected table
   pub sample : response bundle ≡ written
+  -- hexadecimal digits are in lower case
+  pub digits : hexadecimal 16 0x0123456789abcdef ≡ ascii "0123456789abcdef"
   pub buffers : map left buffered ≡ leaves
   -- the limits on the lengths, and one more of each
   pub limits : map fit sizes ≡ (true ∷ false ∷ false ∷ false ∷ false ∷ false ∷ [])
@@ -44,4 +47,4 @@ unfolding leaf unary binary ternary splitForest callBuilder builders graft decod
     decimalThen decimal hexadecimal fields lines listingOf reducedTo checkedTo normalizeWithin capacityOf normalizeOutcome fromBytes wordsOf
     lengthsOf readable wordsAfter readBundleOutcome tablesOf termOf respondTo response ascii
     table computed expected bytesOf bundleOf bundle written buffered leaves left sizes fit
-computes = record { cases = refl; sample = refl; buffers = refl; limits = refl }
+computes = record { cases = refl; sample = refl; digits = refl; buffers = refl; limits = refl }

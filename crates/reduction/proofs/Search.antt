@@ -11,7 +11,7 @@ use Rattle.reduction.specs.Redex.{Contraction, contract, Step as Stepped
 use Rattle.reduction.proofs.Structure.{Hit, _or_, inside, stepOf, here, find, finds, find-var, finds-done, find-call, find-lam}
 use Rattle.reduction.proofs.Structure.{find-app, find-bind, find-pair, find-fst, find-snd, find-inl, find-inr, find-case, finds-arg}
 use Rattle.reduction.proofs.Structure.{step-find}
-use Rattle.syntax.proofs.Options.{Every, every-none, every-some, every-map, map-none}
+use Rattle.syntax.proofs.Options.{Every, every-none, every-some, every-map, every-at, map-none}
 use Rattle.reduction.proofs.Roots.{Step, StepAll, s-root, s-call, s-lam, s-app₁, s-app₂, s-bind₁, s-bind₂, s-pair₁, s-pair₂, s-fst}
 use Rattle.reduction.proofs.Roots.{s-snd, s-inl, s-inr, s-case₁, s-case₂, s-case₃, s-this, s-next}
 use Rattle.reduction.proofs.Fits.{Root, contract-is}
@@ -111,6 +111,9 @@ module _ (pure : Term → Bool) (phase : Phase) where
   pub step-is : (t : Term) → Every (λ (s : Stepped). Step (Root pure phase) t (s .next)) (step pure phase t)
   step-is t = subst (λ (o : Option Stepped). Every (λ (s : Stepped). Step (Root pure phase) t (s .next)) o) (sym (step-find pure phase t))
       (every-map _ (λ h s. s) (found t))
+
+  pub one-step : (t : Term) (s : Stepped) → step pure phase t ≡ some s → Step (Root pure phase) t (s .next)
+  one-step t s e = every-at s (step-is t) e
 
   -- nothing found: no node fits
   two : (x y z : Option (Hit Term)) → (x or (y or z)) ≡ none → (x ≡ none) × (y ≡ none) × (z ≡ none)

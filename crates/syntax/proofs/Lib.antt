@@ -14,3 +14,4 @@ pub mod PartsUnder
 pub mod UsesTraverse
 pub mod Uses
 pub mod Agreement
+pub mod Sublists

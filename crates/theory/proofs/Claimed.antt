@@ -1,4 +1,5 @@
--- Demand 3: the claim holds of every accepted outcome whose capacity is at most 8,192.
+-- Demand 3: the claim holds of every accepted outcome whose capacity is at most 8,192. What is accepted is typed and came through its
+-- reduction, and along a reduction types and runs are kept, operands become values, and the last term is in the grammar.
 use mathlib.Core.Path.{_≡_, refl, sym, subst}
 use mathlib.Core.Bool.{Bool, true}
 use mathlib.Core.List.{List}
@@ -29,16 +30,16 @@ use Rattle.syntax.specs.Calls.{callsIn}
 use Rattle.semantics.specs.Claim.{Subformula, Claim}
 use Rattle.outcomes.specs.Normalize.{maxCapacity}
 use Rattle.typing.proofs.InferTyped.{typing-of, typed-infer}
-use Rattle.theory.proofs.Trees.{Earlier, earlier}
-use Rattle.reduction.proofs.Search.{Each}
+use Rattle.typing.proofs.Trees.{Earlier, earlier}
+use Rattle.reduction.proofs.Search.{Each, one-step}
 use Rattle.theory.proofs.Operands.{Ops, inserted}
 use Rattle.theory.proofs.OperandsKept.{step-ops}
 use Rattle.theory.proofs.Forms.{never, reduced as in-form}
 use Rattle.theory.proofs.FormsKept.{form-step, no-insertion, no-reduction}
 use Rattle.theory.proofs.Subformulas.{Listed, listed, all-at, subformulas}
 use Rattle.theory.proofs.Fields.{Fitting, fitting, shaped}
-use Rattle.theory.proofs.Capacity.{reached-fits}
-use Rattle.theory.proofs.SameRuns.{one-step, steps-typed, same-runs}
+use Rattle.theory.proofs.SameRuns.{same-runs}
+use Rattle.theory.proofs.TypesKept.{steps-typed}
 use Rattle.typing.proofs.Accepted.{Verdicts, passed, Passed, elaborated}
 
 -- the last step of a phase
@@ -47,14 +48,14 @@ last-step pure phase (ended e) = e
 last-step pure phase (stepped e q) = last-step pure phase q
 
 -- what phases 2 and 3 keep
-module _ (tables : Tables) (pure : Term → Bool) where
+module _ (pure : Term → Bool) where
   kept-ops : {t u : Term} {ss : List Stepped} → Steps pure Reduction t ss u → Each t Ops → Each u Ops
   kept-ops (ended e) h = h
-  kept-ops (stepped {t = t} {s = s} e q) h = kept-ops q (step-ops (one-step tables (λ k. Unit) pure Reduction t s e) h)
+  kept-ops (stepped {t = t} {s = s} e q) h = kept-ops q (step-ops (one-step pure Reduction t s e) h)
 
   kept-form : {t u : Term} {ss : List Stepped} → Steps pure Dropping t ss u → Normal never t → Normal never u
   kept-form (ended e) f = f
-  kept-form (stepped {t = t} {s = s} e q) f = kept-form q (form-step pure f (one-step tables (λ k. Unit) pure Dropping t s e))
+  kept-form (stepped {t = t} {s = s} e q) f = kept-form q (form-step pure f (one-step pure Dropping t s e))
 
 -- the last term of a typed term's reduction sequence
 pub record Last (tables : Tables) (pure : Term → Bool) (A : ℕ) (u : Term) : Type 0 where
@@ -75,8 +76,8 @@ last tables pure A t u e q =
     let x₁ = steps-typed tables (λ k. Unit) pure Insertion (q .phase₁) x in
     let x₂ = steps-typed tables (λ k. Unit) pure Reduction (q .phase₂) x₁ in
     let x₃ = steps-typed tables (λ k. Unit) pure Dropping (q .phase₃) x₂ in
-    let o = kept-ops tables pure (q .phase₂) (inserted pure (q .inserted) (last-step pure Insertion (q .phase₁))) in
-    let f = kept-form tables pure (q .phase₃) (in-form tables (λ k. Unit) pure x₂ o (last-step pure Reduction (q .phase₂))) in
+    let o = kept-ops pure (q .phase₂) (inserted pure (q .inserted) (last-step pure Insertion (q .phase₁))) in
+    let f = kept-form pure (q .phase₃) (in-form tables (λ k. Unit) pure x₂ o (last-step pure Reduction (q .phase₂))) in
     record {
       type = typed-infer tables (λ k. Unit) x₃;
       form = f;
@@ -120,9 +121,14 @@ claim-of-sequence tables words A t u wf fit w d e l q =
           (typing-of tables (λ k. k ∈ callsIn t) t (tables .inputs) A e (λ k i. i));
     }
 
-sequence-of : {budget : ℕ} {capacity : ℕ} {t : Term} {left : ℕ} {u : Term} {c : Counts}
-    → Reduced allPure capacity budget t (reached left u c) → Sequence allPure t u
-sequence-of (reduced q _ _) = q
+-- what a reduction that came through says of the term it reached
+record Came (capacity : ℕ) (t u : Term) : Type 0 where
+  sequence : Sequence allPure t u
+  fits : size u ≤ capacity
+
+came : {capacity budget : ℕ} {t : Term} {left : ℕ} {u : Term} {c : Counts} → Reduced allPure capacity budget t (reached left u c)
+    → Came capacity t u
+came (reduced q _ _ h) = record { sequence = q; fits = h }
 
 passed-at : (limit : ℕ) (tables : Tables) (words : List ℕ) {x : Checked} → Verdicts (Passed limit tables words) (accepted x)
     → Passed limit tables words x
@@ -136,8 +142,7 @@ pub claim : (tables : Tables) (words : List ℕ) (capacity : ℕ) (settings : Se
 claim tables words capacity settings x left u counts h e r =
     let p = passed-at normalizeLimit tables words
     (subst (Verdicts (Passed normalizeLimit tables words)) e (elaborated normalizeLimit tables words)) in
-    let l = reached-fits allPure capacity settings (x .term) left u counts r in
+    let g = came (subst (Reduced allPure capacity (settings .budget) (x .term)) r (reduce-sequence allPure capacity settings (x .term))) in
     claim-of-sequence tables words (x .type) (x .term) u (earlier tables (p .types))
-    (fitting normalizeLimit tables words (p .lengths) (p .calls)) (p .words′) (p .term) (p .type) (omega (arith, h, l))
-    (sequence-of {capacity = capacity}
-    (subst (Reduced allPure capacity (settings .budget) (x .term)) r (reduce-sequence allPure capacity settings (x .term))))
+    (fitting normalizeLimit tables words (p .lengths) (p .calls)) (p .words′) (p .term) (p .type) (omega (arith, h, g .fits))
+    (g .sequence)

@@ -1,4 +1,4 @@
--- Each form of a term keeps the relation: run the parts, join the traces.
+-- Each form of a term keeps the relation: its parts end with related values and traces, and a run of the form joins the traces in order.
 use mathlib.Core.Path.{_≡_, subst}
 use mathlib.Core.List.{List, [], _∷_, _++_}
 use Prim.Native.Nat.{ℕ}

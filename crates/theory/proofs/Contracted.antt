@@ -9,6 +9,7 @@ use Rattle.syntax.specs.Encoding.{encode, size}
 use Rattle.typing.specs.Refusals.{Verdict, refused, accepted, Typed as Checked, elaborate, normalizeLimit}
 use Rattle.reduction.specs.Rules.{allPure}
 use Rattle.reduction.specs.Reduction.{Settings, Progress, stopped, reached, reduce}
+use Rattle.reduction.proofs.Bounded.{Reduced, refusal as no-reduction, reduce-sequence}
 use Rattle.semantics.specs.Claim.{Claim}
 use Rattle.outcomes.specs.Normalize.{Normalized, reducedTo, checkedTo, normalizeWithin, maxCapacity, Buffers, capacityOf, Outcome}
 use Rattle.outcomes.specs.Normalize.{normalizeOutcome}
@@ -16,7 +17,6 @@ use Rattle.outcomes.specs.Buffers.{overwrite}
 use Rattle.outcomes.specs.Contract.{Normalizes}
 use Rattle.outcomes.specs.declared.Answer.{Answer}
 use Rattle.typing.proofs.Accepted.{Verdicts, refusal, Passed, elaborated}
-use Rattle.theory.proofs.Capacity.{Fits, refusal as too-long, reduce-fits}
 use Rattle.theory.proofs.Claimed.{claim}
 
 take-front : (xs ys : List ℕ) → take (length xs) (xs ++ ys) ≡ xs
@@ -35,10 +35,11 @@ module _ (settings : Settings) (tables : Tables) (words : List ℕ) (before : Bu
   abbrev Claims : Normalized → Type 0
   Claims r = r .answer .refusal ≡ 0 → Claim tables words (r .answer .ty) (take (r .answer .length) (overwrite (r .words) (before .output)))
 
-  reduced-claims : (x : Checked) → elaborate normalizeLimit tables words ≡ accepted x → (p : Progress) → Fits allPure (capacityOf before) p
+  reduced-claims : (x : Checked) → elaborate normalizeLimit tables words ≡ accepted x → (p : Progress)
+      → Reduced allPure (capacityOf before) (settings .budget) (x .term) p
       → reduce allPure (capacityOf before) settings (x .term) ≡ p → Claims (reducedTo (x .type) p)
   unfolding reducedTo overwrite size
-  reduced-claims x e (stopped n c) (too-long m) r z = absurd (omega (arith, z))
+  reduced-claims x e (stopped n c) (no-reduction m) r z = absurd (omega (arith, z))
   reduced-claims x e (reached left u c) f r z =
       subst (λ (ws : List ℕ). Claim tables words (x .type) ws) (sym (take-front (encode u) (drop (length (encode u)) (before .output))))
       (claim tables words (capacityOf before) settings x left u c (capacity-bounded before) e r)
@@ -48,7 +49,7 @@ module _ (settings : Settings) (tables : Tables) (words : List ℕ) (before : Bu
   unfolding checkedTo
   checked-claims (refused n) (refusal m) e z = absurd (omega (arith, z))
   checked-claims (accepted x) p e z = reduced-claims x e (reduce allPure (capacityOf before) settings (x .term))
-      (reduce-fits allPure (capacityOf before) settings (x .term)) refl z
+      (reduce-sequence allPure (capacityOf before) settings (x .term)) refl z
 
   normalized-claims : Claims (normalizeWithin (capacityOf before) settings tables words)
   unfolding normalizeWithin

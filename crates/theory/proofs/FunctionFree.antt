@@ -14,12 +14,12 @@ use Rattle.semantics.specs.Value.{Value, Values, num, tuple, left, right, also,
 use Rattle.semantics.specs.ValueTypes.{HasType, a-number, a-tuple, a-left, a-right, HaveTypes, no-more, one-more}
 use Rattle.syntax.specs.Lists.{_∈_, here, there}
 use Rattle.semantics.specs.TypeParts.{isComposite, itself, ofLeft, ofRight, FunctionFree}
-use Rattle.theory.proofs.Trees.{Ty, void, number, function, both, either, shape, tree, ty, Earlier, ty-is, ty-base}
+use Rattle.typing.proofs.Trees.{Ty, void, number, function, both, either, shape, tree, ty, word-tree, Earlier, ty-is, ty-base}
 use Rattle.theory.proofs.Relation.{nums, pairs, lefts, rights, Related, Rel, All, all-none, all-more}
 
 unfoldable pub Plain : Ty → Type 0
 Plain void = Unit
-Plain number = Unit
+Plain (number n) = Unit
 Plain (function A B) = ⊥
 Plain (both A B) = Plain A × Plain B
 Plain (either A B) = Plain A × Plain B
@@ -40,12 +40,8 @@ module _ (tables : Tables) (wf : Earlier tables) where
   free-right : {A l r : ℕ} (k : ℕ) → T (isComposite k) → components tables k A ≡ some (l, r) → FunctionFree tables A → FunctionFree tables r
   free-right k c e f D p = f D (ofRight k c e p)
 
-  -- a word's tree, by its kind
-  abbrev word-tree : ℕ → ℕ → ℕ → Ty
-  word-tree f k w = shape k (tree tables f (leftOf w)) (tree tables f (rightOf w))
-
   plain-word : (f A w k : ℕ) → getElem? (tables .types) A ≡ some w → kindOf w ≡ k → FunctionFree tables A
-      → ((B : ℕ) → B < A → FunctionFree tables B → Plain (tree tables f B)) → Plain (word-tree f k w)
+      → ((B : ℕ) → B < A → FunctionFree tables B → Plain (tree tables f B)) → Plain (word-tree tables f k w)
   unfolding Plain shape
   plain-word f A w zero e h free ih = tt
   plain-word f A w (suc zero) e h free ih = absurd (Option·some-ne-none _ (sym (components-of arrow A w e h) ∙ free A itself))
@@ -64,7 +60,7 @@ module _ (tables : Tables) (wf : Earlier tables) where
   plain-tree (suc f) A h free = go (getElem? (tables .types) A) refl (λ B l. plain-tree f B (omega (arith, l, h)))
     where
       go : (o : Option ℕ) → getElem? (tables .types) A ≡ o → ((B : ℕ) → B < A → FunctionFree tables B → Plain (tree tables f B))
-          → Plain (elim o as (λ _. Ty) [ none ↦ void | some w ↦ shape (kindOf w) (tree tables f (leftOf w)) (tree tables f (rightOf w)) ])
+          → Plain (elim o as (λ _. Ty) [ none ↦ void | some w ↦ word-tree tables f (kindOf w) w ])
       go none e ih = tt
       go (some w) e ih = plain-word f A w (kindOf w) e refl free ih
 
@@ -72,7 +68,7 @@ module _ (tables : Tables) (wf : Earlier tables) where
     plain-equal : (X : Ty) → Plain X → {v w : Value} → Related answer C X v w → v ≡ w
     unfolding Plain Related
     plain-equal void p r = absurd r
-    plain-equal number p (nums n) = refl
+    plain-equal (number m) p (nums n) = refl
     plain-equal (function A B) p r = absurd p
     plain-equal (both A B) p (pairs r s) = ap₂ tuple (plain-equal A (p .0) r) (plain-equal B (p .1) s)
     plain-equal (either A B) p (lefts r) = ap left (plain-equal A (p .0) r)
@@ -85,7 +81,7 @@ module _ (tables : Tables) (wf : Earlier tables) where
     Typing f B = (v w : Value) → Plain (tree tables f B) → Related answer C (tree tables f B) v w → HasType tables B v
 
     word-has : (f A x k : ℕ) → getElem? (tables .types) A ≡ some x → kindOf x ≡ k → ((B : ℕ) → B < A → Typing f B)
-        → (v w : Value) → Plain (word-tree f k x) → Related answer C (word-tree f k x) v w → HasType tables A v
+        → (v w : Value) → Plain (word-tree tables f k x) → Related answer C (word-tree tables f k x) v w → HasType tables A v
     unfolding Plain shape Related
     word-has f A x zero e h ih v w p (nums n) = a-number (components-of base A x e h)
     word-has f A x (suc zero) e h ih v w p r = absurd p
@@ -103,9 +99,9 @@ module _ (tables : Tables) (wf : Earlier tables) where
     tree-has (suc f) A h v w p r = go (getElem? (tables .types) A) refl (λ B l. tree-has f B (omega (arith, l, h))) p r
       where
         go : (o : Option ℕ) → getElem? (tables .types) A ≡ o → ((B : ℕ) → B < A → Typing f B)
-            → Plain (elim o as (λ _. Ty) [ none ↦ void | some w ↦ shape (kindOf w) (tree tables f (leftOf w)) (tree tables f (rightOf w)) ])
+            → Plain (elim o as (λ _. Ty) [ none ↦ void | some w ↦ word-tree tables f (kindOf w) w ])
             → Related answer C
-            (elim o as (λ _. Ty) [ none ↦ void | some w ↦ shape (kindOf w) (tree tables f (leftOf w)) (tree tables f (rightOf w)) ]) v w
+            (elim o as (λ _. Ty) [ none ↦ void | some w ↦ word-tree tables f (kindOf w) w ]) v w
             → HasType tables A v
         go none e ih p r = absurd r
         go (some x) e ih p r = word-has f A x (kindOf x) e refl ih v w p r

@@ -1,4 +1,5 @@
--- Of a typed term, the grammar and the rules agree: it is in the grammar exactly if no rule of any phase fits it anywhere.
+-- A typed term is in the grammar exactly if no rule of any phase fits it anywhere: where phases 1 and 2 fit nowhere it is in the weaker
+-- grammar, and where drop fits nowhere each let is needed.
 use mathlib.Core.Path.{_≡_, refl, sym, subst}
 use mathlib.Core.Bool.{Bool, _||_, true, false, _&&_, not}
 use mathlib.Core.Option.{Option, some, none, Option·some-ne-none}

@@ -1,4 +1,4 @@
-pub mod Capacity
+pub mod Calm
 pub mod Claimed
 pub mod Compatible
 pub mod Contracted
@@ -9,6 +9,7 @@ pub mod FormsKept
 pub mod FunctionFree
 pub mod Fundamental
 pub mod Grammar
+pub mod GrammarNormal
 pub mod GrammarTest
 pub mod Operands
 pub mod OperandsKept
@@ -16,9 +17,11 @@ pub mod PendingSteps
 pub mod PendingStructure
 pub mod Preserve
 pub mod Relation
+pub mod RuledOut
 pub mod SameRuns
+pub mod SoundCall
 pub mod SoundInsert
 pub mod SoundReduce
 pub mod SoundStep
 pub mod Subformulas
-pub mod Trees
+pub mod TypesKept

@@ -1,4 +1,4 @@
--- Phase 2 keeps operands values: a traversal that puts values for variables keeps it, for both kits, and no rule fits a value's node.
+-- Phase 2 keeps operands values: what its rules put for variables are values, and no rule of it fits a value's own node.
 use mathlib.Core.Path.{_≡_, refl}
 use mathlib.Core.Bool.{Bool, true, false}
 use lib.Dec.{T}

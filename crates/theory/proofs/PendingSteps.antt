@@ -1,5 +1,5 @@
--- Phase 1 takes as many steps as operand positions hold a computation: a let takes one away and makes none, and where no let fits there is
--- none.
+-- Phase 1 takes as many steps as the input has operand positions holding a computation: a step names one of them and makes no new one, and
+-- where no step is left none is held. So phase 1 ends, on every term.
 use mathlib.Core.Path.{_≡_, refl, sym, _∙_, ap, ap₂}
 use mathlib.Core.Bool.{Bool, true, false, _&&_, not}
 use mathlib.Core.List.{List, [], _∷_}
@@ -15,11 +15,10 @@ use Rattle.syntax.specs.Pending.{pending}
 use Rattle.reduction.specs.declared.Phase.the-variants.{Insertion}
 use Rattle.reduction.specs.Redex.{Step as Stepped, step}
 use Rattle.reduction.specs.Sequence.{Steps, ended, stepped}
-use Rattle.syntax.proofs.Options.{every-at}
 use Rattle.reduction.proofs.Roots.{Names, this, next, Insert, i-call, i-app₁, i-app₂, i-pair₁, i-pair₂, i-fst, i-snd, i-inl, i-inr, i-case}
 use Rattle.reduction.proofs.Roots.{Step, StepAll, s-root, s-call, s-lam, s-app₁, s-app₂, s-bind₁, s-bind₂, s-pair₁, s-pair₂, s-fst, s-snd}
 use Rattle.reduction.proofs.Roots.{s-inl, s-inr, s-case₁, s-case₂, s-case₃, s-this, s-next}
-use Rattle.reduction.proofs.Search.{Each, EachAll, step-is}
+use Rattle.reduction.proofs.Search.{Each, EachAll, one-step}
 use Rattle.theory.proofs.Operands.{AllValues, Ops, inserted}
 use Rattle.syntax.proofs.Values.{value-rename}
 use Rattle.theory.proofs.PendingStructure.{comp, compAll, pend, pendAll, pending-structure}
@@ -204,9 +203,9 @@ mutual
 module _ (pure : Term → Bool) where
   count-steps : {t u : Term} {ss : List Stepped} → Steps pure Insertion t ss u → length ss ≡ pend t
   count-steps (ended {t = t} e) = sym (none-pending t (inserted pure t e))
-  count-steps (stepped {t = t} {s = s} e q) = ap (λ (n : ℕ). suc n) (count-steps q) ∙ sym (lowers (every-at s (step-is pure Insertion t) e))
+  count-steps (stepped {t = t} {s = s} e q) = ap (λ (n : ℕ). suc n) (count-steps q) ∙ sym (lowers (one-step pure Insertion t s e))
 
-  -- phase 1 takes so many steps
+  -- the steps of phase 1 are as many as the operand positions of t that hold a computation
   pub insertion-length : {t u : Term} {ss : List Stepped} → Steps pure Insertion t ss u → length ss ≡ pending t
   insertion-length {t} q = count-steps q ∙ sym (pending-structure t)
 
@@ -221,13 +220,13 @@ module _ (pure : Term → Bool) where
     where
       go : (o : Option Stepped) → step pure Insertion t ≡ o → Inserted t
       go none e = record { steps = []; last = t; are = ended e }
-      go (some s) e = let l = lowers (every-at s (step-is pure Insertion t) e) in absurd (omega (arith, h, l))
+      go (some s) e = let l = lowers (one-step pure Insertion t s e) in absurd (omega (arith, h, l))
   within (suc n) t h = go (step pure Insertion t) refl (λ u. within n u)
     where
       go : (o : Option Stepped) → step pure Insertion t ≡ o → ((u : Term) → pend u ≡ n → Inserted u) → Inserted t
       go none e r = record { steps = []; last = t; are = ended e }
       go (some s) e r =
-          let l = lowers (every-at s (step-is pure Insertion t) e) in
+          let l = lowers (one-step pure Insertion t s e) in
           let i = r (s .next) (omega (arith, h, l)) in
           record { steps = s ∷ i .steps; last = i .last; are = stepped e (i .are) }
 

@@ -1,4 +1,5 @@
--- The number of operand positions that hold a computation, by structure: a node's own, and its parts'.
+-- The number of operand positions that hold a computation, by structure: a node's own, and its parts', since positions list the node first
+-- and then its parts.
 use mathlib.Core.Path.{_≡_, refl, _∙_, ap, ap₂}
 use mathlib.Core.List.{List, [], _∷_, _++_, map}
 use Prim.Native.Nat.{ℕ, _+_}

@@ -1,5 +1,5 @@
--- Each rule keeps the type, and so does a step anywhere: a traversal that puts well-typed things for the used variables keeps it, for both
--- kits.
+-- Each rule keeps the type, and so does a step anywhere: renaming and substitution keep it where what they put for each used variable has
+-- the variable's type.
 use mathlib.Core.Path.{subst}
 use mathlib.Core.List.{List, _∷_}
 use mathlib.Core.Bool.{Bool}

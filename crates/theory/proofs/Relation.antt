@@ -1,4 +1,5 @@
--- The relation between the values of two runs, by type; each form of a term keeps it. One record holds all that it is over.
+-- When the values of two runs count as the same, by type: numbers are equal, pairs and injections are related part by part, and functions
+-- take related values to runs that end with related values and traces.
 use mathlib.Core.Path.{_≡_, sym, subst}
 use mathlib.Core.List.{List, [], _∷_, _++_}
 use mathlib.Core.Option.{some}
@@ -8,7 +9,7 @@ use Rattle.syntax.specs.Term.{Term, Terms}
 use Rattle.semantics.specs.Value.{Value, Values, num, tuple, left, right, empty, also, Call, Trace}
 use Rattle.semantics.specs.Run.{Ends}
 use Rattle.typing.proofs.Typing.{Of, Signed}
-use Rattle.theory.proofs.Trees.{Ty, void, number, function, both, either, shape, ty, Earlier, ty-is}
+use Rattle.typing.proofs.Trees.{Ty, void, number, function, both, either, shape, ty, Earlier, ty-is}
 use Rattle.theory.proofs.Ends.{EndsAll, Enters}
 
 pub data Nums : Value → Value → Type 0 where
@@ -35,7 +36,7 @@ pub record Both (C : Trace → Trace → Type 0) (R : Value → Value → Type 0
 module _ (answer : ℕ → Values → Value) (C : Trace → Trace → Type 0) where
   unfoldable pub Related : Ty → Value → Value → Type 0
   Related void v w = ⊥
-  Related number v w = Nums v w
+  Related (number n) v w = Nums v w
   Related (function A B) v w = (a b : Value) → Related A a b → Both C (Related B) (Enters answer v a) (Enters answer w b)
   Related (both A B) v w = Pairs (Related A) (Related B) v w
   Related (either A B) v w = Sums (Related A) (Related B) v w
@@ -50,8 +51,7 @@ pub data All (R : ℕ → Value → Value → Type 0) : List ℕ → Values → 
   all-more : {A : ℕ} {As : List ℕ} {v w : Value} {vs ws : Values} → R A v w → All R As vs ws → All R (A ∷ As) (also v vs) (also w ws)
 
 -- All that the relation is over: tables whose types are trees, which calls may be made, what answers them, a relation on traces with its
--- laws,
--- and that related arguments of a call are equal and answered by related values.
+-- laws, and that related arguments of a call are equal and answered by related values.
 pub record Model : Type 1 where
   pub tables : Tables
   pub wf : Earlier tables
@@ -106,11 +106,11 @@ module _ (M : Model) where
   -- the relation at a type, by the type's parts
   module _ {F A B : ℕ} {v w : Value} where
     at : (k : ℕ) → components (M .tables) (suc k) F ≡ some (A, B) → Rv F v w
-        → Related (M .answer) (M .C) (shape (suc k) (ty (M .tables) A) (ty (M .tables) B)) v w
+        → Related (M .answer) (M .C) (shape (suc k) A (ty (M .tables) A) (ty (M .tables) B)) v w
     at k e r = subst (λ (X : Ty). Related (M .answer) (M .C) X v w) (ty-is (M .tables) (M .wf) k F A B e) (r .rel)
 
     to : (k : ℕ) → components (M .tables) (suc k) F ≡ some (A, B)
-        → Related (M .answer) (M .C) (shape (suc k) (ty (M .tables) A) (ty (M .tables) B)) v w → Rv F v w
+        → Related (M .answer) (M .C) (shape (suc k) A (ty (M .tables) A) (ty (M .tables) B)) v w → Rv F v w
     to k e r = record { rel = subst (λ (X : Ty). Related (M .answer) (M .C) X v w) (sym (ty-is (M .tables) (M .wf) k F A B e)) r }
 
     pub from-arrow : Of (M .tables) arrow F A B → Rv F v w → (a b : Value) → Rv A a b → Applied B v a w b

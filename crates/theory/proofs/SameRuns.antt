@@ -12,66 +12,26 @@ use Rattle.reduction.specs.declared.Phase.{Phase}
 use Rattle.reduction.specs.declared.Phase.the-variants.{Insertion, Reduction, Dropping}
 use Rattle.reduction.specs.Redex.{Step as Stepped, step}
 use Rattle.reduction.specs.Sequence.{Steps, ended, stepped, Sequence, beforeDropping}
-use Rattle.syntax.specs.Lists.{_∈_, here, there, Sublist, empty as nothing, kept, struck}
+use Rattle.syntax.specs.Lists.{_∈_, here, there, Sublist, empty as nothing, kept}
 use Rattle.semantics.specs.Value.{Value, Values, Trace}
 use Rattle.semantics.specs.Run.{answered, lookup, Ends}
 use Rattle.semantics.specs.ValueTypes.{HaveTypes, one-more}
 use Rattle.syntax.specs.Calls.{callsIn}
 use Rattle.semantics.specs.TypeParts.{FunctionFree}
 use Rattle.semantics.specs.Claim.{FirstOrder, Feed, SameRuns}
-use Rattle.syntax.proofs.Options.{every-at}
 use Rattle.typing.proofs.Typing.{Signed, At, here as now, there as later, Typed}
-use Rattle.theory.proofs.Trees.{Earlier}
+use Rattle.typing.proofs.Trees.{Earlier}
 use Rattle.theory.proofs.Ends.{ends-one}
 use Rattle.theory.proofs.Relation.{Rel, All, Model, E}
 use Rattle.theory.proofs.Fundamental.{Same, same}
-use Rattle.reduction.proofs.Roots.{Step}
-use Rattle.theory.proofs.Preserve.{keep₁, keep₂, keep₃, keeps}
 use Rattle.theory.proofs.SoundReduce.{sound₂}
 use Rattle.theory.proofs.SoundInsert.{sound₁}
 use Rattle.theory.proofs.SoundStep.{sound₃, sounds}
 use Rattle.reduction.proofs.Fits.{Root}
-use Rattle.reduction.proofs.Search.{step-is}
+use Rattle.reduction.proofs.Search.{one-step}
+use Rattle.theory.proofs.TypesKept.{step-typed, steps-typed}
+use Rattle.syntax.proofs.Sublists.{sublist-refl, sublist-join, sublist-skip, sublist-trans}
 use Rattle.theory.proofs.FunctionFree.{free-equal, has-rel, all-equal, all-have}
-
--- sublists
-sublist-refl : (c : Trace) → Sublist c c
-sublist-refl [] = nothing
-sublist-refl (m ∷ c) = kept (sublist-refl c)
-
-sublist-join : {a b c d : Trace} → Sublist b a → Sublist d c → Sublist (b ++ d) (a ++ c)
-sublist-join nothing s = s
-sublist-join (kept r) s = kept (sublist-join r s)
-sublist-join (struck r) s = struck (sublist-join r s)
-
-sublist-skip : (a c d : Trace) → Sublist d c → Sublist d (a ++ c)
-sublist-skip [] c d s = s
-sublist-skip (m ∷ a) c d s = struck (sublist-skip a c d s)
-
-sublist-trans : {a b c : Trace} → Sublist b a → Sublist c b → Sublist c a
-sublist-trans nothing s = s
-sublist-trans (kept r) (kept s) = kept (sublist-trans r s)
-sublist-trans (kept r) (struck s) = struck (sublist-trans r s)
-sublist-trans (struck r) s = struck (sublist-trans r s)
-
--- a phase keeps types
-module _ (tables : Tables) (ok : ℕ → Type 0) (pure : Term → Bool) where
-  keep-root : (phase : Phase) (t t′ : Term) → Root pure phase t t′ → (Γ : Context) (A : ℕ) → Typed tables ok Γ t A → Typed tables ok Γ t′ A
-  keep-root Insertion t t′ r Γ A x = keep₁ tables ok r x
-  keep-root Reduction t t′ r Γ A x = keep₂ tables ok r x
-  keep-root Dropping t t′ r Γ A x = keep₃ tables ok pure r x
-
-  pub one-step : (phase : Phase) (t : Term) (s : Stepped) → step pure phase t ≡ some s → Step (Root pure phase) t (s .next)
-  one-step phase t s e = every-at s (step-is pure phase t) e
-
-  pub step-typed : (phase : Phase) {Γ : Context} {A : ℕ} (t : Term) (s : Stepped) → step pure phase t ≡ some s → Typed tables ok Γ t A
-      → Typed tables ok Γ (s .next) A
-  step-typed phase t s e x = keeps tables ok (Root pure phase) (keep-root phase) (one-step phase t s e) x
-
-  pub steps-typed : (phase : Phase) {Γ : Context} {A : ℕ} {t u : Term} {ss : List Stepped} → Steps pure phase t ss u → Typed tables ok Γ t A
-      → Typed tables ok Γ u A
-  steps-typed phase (ended e) x = x
-  steps-typed phase (stepped {t = t} {s = s} e q) x = steps-typed phase q (step-typed phase t s e x)
 
 abbrev Equal : Trace → Trace → Type 0
 Equal c d = c ≡ d
@@ -165,7 +125,7 @@ module _ (tables : Tables) (wf : Earlier tables) (pure : Term → Bool) (A : ℕ
   along-one : {phase : Phase} → Keeps phase → (t : Term) (s : Stepped) {v : Value} {c : Trace} → step pure phase t ≡ some s → Has t
       → Ends answer ρ t v c → Ends answer ρ (s .next) v c
   along-one {phase} k t s {v} {c} e x r =
-      let b = sounds equal (Root pure phase) (sound-root k) (one-step tables Ok pure phase t s e) x same-equal in
+      let b = sounds equal (Root pure phase) (sound-root k) (one-step pure phase t s e) x same-equal in
       let i = ends-one answer (b .p) r in
       subst (λ (z : Trace). Ends answer ρ (s .next) v z) (sym (b .calls) ∙ i .1)
       (subst (λ (z : Value). Ends answer ρ (s .next) z (b .d)) (sym (free-equal tables wf answer Equal (free .result′) (b .vals)) ∙ i .0)
@@ -200,7 +160,7 @@ module _ (tables : Tables) (wf : Earlier tables) (pure : Term → Bool) (A : ℕ
       → Fewer (s .next) v c
   drop-one t s {v} {c} e x r =
       let b = sounds striking (Root pure Dropping) (λ t t′ r Γ B σ σ′ y o. sound₃ striking pure sublist-skip r y o)
-      (one-step tables Ok pure Dropping t s e) x same-striking in
+      (one-step pure Dropping t s e) x same-striking in
       let i = ends-one answer (b .p) r in
       record {
         d = b .d;

@@ -106,6 +106,7 @@ module _ (tables : Tables) (ok : ℕ → Type 0) where
         every-bind _ (infer-typed t Γ (λ j i. h j (of-first t ts i))) λ A x.
         every-bind _ (infer-typedAll ts Γ (λ j i. h j (of-rest t ts i))) λ As xs. every-some (t-arg x xs)
 
+  -- back: a term with a derivation is answered its type
   mutual
     unfolding infer
 
@@ -148,6 +149,6 @@ module _ (tables : Tables) (ok : ℕ → Type 0) where
     typed-inferAll {Γ = Γ} (t-arg {t = t} {ts = ts} {A = A} {As = As} x xs) =
         bind-is _ _ _ (typed-infer x) (bind-is _ _ _ (typed-inferAll xs) refl)
 
-  -- the type of a term, once more as a derivation
+  -- the check on type numbers gives a derivation, over the calls in the term
   pub typing-of : (t : Term) (Γ : Context) (A : ℕ) → infer tables t Γ ≡ some A → ((k : ℕ) → k ∈ callsIn t → ok k) → Typed tables ok Γ t A
   typing-of t Γ A e h = every-at A (infer-typed t Γ h) e

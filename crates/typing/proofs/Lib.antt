@@ -5,3 +5,5 @@ pub mod Typing
 pub mod InferTyped
 pub mod Order
 pub mod Accepted
+pub mod Trees
+pub mod TypeNumbers

@@ -1,50 +1,62 @@
 -- A type's number as a tree, for recursion over types; parts are earlier entries (check 2), so enough depth is one more than the number.
 use mathlib.Core.Path.{_≡_, refl, _∙_, ap, ap₂, subst}
-use mathlib.Core.Bool.{Bool, _||_, true, false, _&&_}
+use mathlib.Core.Bool.{Bool, true, false, _&&_, _||_}
 use mathlib.Core.List.{List, [], _∷_}
 use mathlib.Core.Option.{Option, some, none, Option·some-injective, Option·none-ne-some}
-use lib.Dec.{T, eqb, leb, ltb, eqb→eq, ltb→lt}
+use lib.Dec.{T, eqb, leb, ltb, eqb→eq, ltb→lt, leb→le}
 use lib.ListN.{getElem?}
 use Prim.Native.Nat.{ℕ, zero, suc, _+_, _≤_, _<_}
 use native.Mathlib.Omega.{arith}
 use Rattle.syntax.specs.Maybe.{_>>=_, given}
 use Rattle.syntax.specs.Words.{kindOf, leftOf, rightOf}
 use Rattle.syntax.specs.Tables.{Tables, base, sum, components}
 use Rattle.typing.specs.TableChecks.{wellFormedType, wellFormedTypes}
 use Rattle.syntax.proofs.Options.{and-left, and-right}
 
--- `void` stands for a number that is no type
+-- a base type carries its name; `void` stands for a number that is no type
 pub data Ty : Type 0 where
   void : Ty
-  number : Ty
+  number : ℕ → Ty
   function : Ty → Ty → Ty
   both : Ty → Ty → Ty
   either : Ty → Ty → Ty
 
-unfoldable pub shape : ℕ → Ty → Ty → Ty
-shape zero l r = number
-shape (suc zero) l r = function l r
-shape (suc (suc zero)) l r = both l r
-shape (suc (suc (suc zero))) l r = either l r
-shape (suc (suc (suc (suc k)))) l r = void
+-- a type by its kind, its left field (a base type's name) and the trees of its parts
+unfoldable pub shape : ℕ → ℕ → Ty → Ty → Ty
+shape zero n l r = number n
+shape (suc zero) n l r = function l r
+shape (suc (suc zero)) n l r = both l r
+shape (suc (suc (suc zero))) n l r = either l r
+shape (suc (suc (suc (suc k)))) n l r = void
 
 module _ (tables : Tables) where
   unfoldable pub tree : ℕ → ℕ → Ty
   tree zero A = void
-  tree (suc f) A = elim (getElem? (tables .types) A) [ none ↦ void | some w ↦ shape (kindOf w) (tree f (leftOf w)) (tree f (rightOf w)) ]
+  tree (suc f) A = elim (getElem? (tables .types) A) [
+    | none ↦ void
+    | some w ↦ shape (kindOf w) (leftOf w) (tree f (leftOf w)) (tree f (rightOf w))
+  ]
 
   abbrev pub ty : ℕ → Ty
   ty A = tree (suc A) A
+
+  -- the tree of a type word, by a kind
+  abbrev pub word-tree : ℕ → ℕ → ℕ → Ty
+  word-tree f k w = shape k (leftOf w) (tree f (leftOf w)) (tree f (rightOf w))
+
+  pub at-word : (f A w : ℕ) → getElem? (tables .types) A ≡ some w → tree (suc f) A ≡ word-tree f (kindOf w) w
+  unfolding tree
+  at-word f A w e = ap (λ (o : Option ℕ). elim o as (λ _. Ty) [ none ↦ void | some w ↦ word-tree f (kindOf w) w ]) e
 
   -- the parts of a composite type are earlier
   pub record Earlier : Type 0 where
     pub parts : (A w k : ℕ) → getElem? (tables .types) A ≡ some w → kindOf w ≡ suc k → (leftOf w < A) × (rightOf w < A)
 
 module _ (tables : Tables) (wf : Earlier tables) where
-  shapes : (k : ℕ) {l l′ r r′ : Ty} → (1 ≤ k → (l ≡ l′) × (r ≡ r′)) → shape k l r ≡ shape k l′ r′
+  shapes : (k n : ℕ) {l l′ r r′ : Ty} → (1 ≤ k → (l ≡ l′) × (r ≡ r′)) → shape k n l r ≡ shape k n l′ r′
   unfolding shape
-  shapes zero h = refl
-  shapes (suc k) {l} {l′} {r} {r′} h = let e = h (omega arith) in ap₂ (shape (suc k)) (e .0) (e .1)
+  shapes zero n h = refl
+  shapes (suc k) n {l} {l′} {r} {r′} h = let e = h (omega arith) in ap₂ (shape (suc k) n) (e .0) (e .1)
 
   pub enough : (f g A : ℕ) → A < f → A < g → tree tables f A ≡ tree tables g A
   unfolding tree
@@ -57,10 +69,10 @@ module _ (tables : Tables) (wf : Earlier tables) where
       positive (suc k) h = (k, refl)
 
       go : (o : Option ℕ) → getElem? (tables .types) A ≡ o → ((B : ℕ) → B < A → tree tables f B ≡ tree tables g B)
-          → _≡_ {A = Ty} (elim o [ none ↦ void | some w ↦ shape (kindOf w) (tree tables f (leftOf w)) (tree tables f (rightOf w)) ])
-          (elim o [ none ↦ void | some w ↦ shape (kindOf w) (tree tables g (leftOf w)) (tree tables g (rightOf w)) ])
+          → _≡_ {A = Ty} (elim o [ none ↦ void | some w ↦ word-tree tables f (kindOf w) w ])
+          (elim o [ none ↦ void | some w ↦ word-tree tables g (kindOf w) w ])
       go none e h = refl
-      go (some w) e h = shapes (kindOf w) λ k.
+      go (some w) e h = shapes (kindOf w) (leftOf w) λ k.
           let j = positive (kindOf w) k in
           let p = wf .parts A w (j .0) e (j .1) in
           (h (leftOf w) (p .0), h (rightOf w) (p .1))
@@ -88,16 +100,6 @@ module _ (tables : Tables) (wf : Earlier tables) where
       go none d q = absurd (Option·none-ne-some (l, r) q)
       go (some w) d q = fits w d (eqb (kindOf w) k) (eqb→eq (kindOf w) k) q
 
-  at-word : (f A w : ℕ) → getElem? (tables .types) A ≡ some w → tree tables (suc f) A ≡ shape (kindOf w) (tree tables f (leftOf w))
-      (tree tables f (rightOf w))
-  unfolding tree
-  at-word f A w e =
-      ap (λ (o : Option ℕ). elim o as (λ _. Ty) [
-        | none ↦ void
-        | some w ↦ shape (kindOf w) (tree tables f (leftOf w))
-            (tree tables f (rightOf w))
-      ]) e
-
   pub parts-below : (k A l r : ℕ) → components tables (suc k) A ≡ some (l, r) → (l < A) × (r < A)
   parts-below k A l r e =
       let w = word-of (suc k) A l r e in
@@ -105,24 +107,24 @@ module _ (tables : Tables) (wf : Earlier tables) where
       (subst (λ (x : ℕ). x < A) (w .left) (p .0), subst (λ (x : ℕ). x < A) (w .right) (p .1))
 
   pub tree-is : (f k A l r : ℕ) → components tables (suc k) A ≡ some (l, r)
-      → tree tables (suc f) A ≡ shape (suc k) (tree tables f l) (tree tables f r)
+      → tree tables (suc f) A ≡ shape (suc k) l (tree tables f l) (tree tables f r)
   tree-is f k A l r e =
       let w = word-of (suc k) A l r e in
-      at-word f A (w .word) (w .is) ∙ ap (λ (j : ℕ). shape j (tree tables f (leftOf (w .word))) (tree tables f (rightOf (w .word))))
+      at-word tables f A (w .word) (w .is) ∙ ap (λ (j : ℕ). word-tree tables f j (w .word))
       (w .kind)
-      ∙ ap₂ (λ (x y : ℕ). shape (suc k) (tree tables f x) (tree tables f y)) (w .left) (w .right)
+      ∙ ap₂ (λ (x y : ℕ). shape (suc k) x (tree tables f x) (tree tables f y)) (w .left) (w .right)
 
-  pub ty-is : (k A l r : ℕ) → components tables (suc k) A ≡ some (l, r) → ty tables A ≡ shape (suc k) (ty tables l) (ty tables r)
+  pub ty-is : (k A l r : ℕ) → components tables (suc k) A ≡ some (l, r) → ty tables A ≡ shape (suc k) l (ty tables l) (ty tables r)
   ty-is k A l r e =
       let p = parts-below k A l r e in
-      tree-is A k A l r e ∙ ap₂ (shape (suc k)) (enough A (suc l) l (p .0) (omega arith)) (enough A (suc r) r (p .1) (omega arith))
+      tree-is A k A l r e ∙ ap₂ (shape (suc k) l) (enough A (suc l) l (p .0) (omega arith)) (enough A (suc r) r (p .1) (omega arith))
 
-  pub ty-base : (A l r : ℕ) → components tables base A ≡ some (l, r) → ty tables A ≡ number
+  pub ty-base : (A l r : ℕ) → components tables base A ≡ some (l, r) → ty tables A ≡ number l
   unfolding shape
   ty-base A l r e =
       let w = word-of 0 A l r e in
-      at-word A A (w .word) (w .is) ∙ ap (λ (j : ℕ). shape j (tree tables A (leftOf (w .word))) (tree tables A (rightOf (w .word))))
-      (w .kind)
+      at-word tables A A (w .word) (w .is) ∙ ap (λ (j : ℕ). word-tree tables A j (w .word))
+      (w .kind) ∙ ap number (w .left)
 
 -- check 2 says it
 entry : (i : ℕ) (ws : List ℕ) → T (wellFormedTypes i ws) → (j w : ℕ) → getElem? ws j ≡ some w → T (wellFormedType (i + j) w)
@@ -133,31 +135,44 @@ entry i (x ∷ ws) h zero w e = subst (λ (n : ℕ). T (wellFormedType n w)) (om
 entry i (x ∷ ws) h (suc j) w e = subst (λ (n : ℕ). T (wellFormedType n w)) (omega arith)
     (entry (suc i) ws (and-right (wellFormedType i x) (wellFormedTypes (suc i) ws) h) j w e)
 
-composite : (i w k l r : ℕ) → kindOf w ≡ suc k → leftOf w ≡ l → rightOf w ≡ r → T (wellFormedType i w) → (l < i) × (r < i)
-composite i w k l r e p q h = go (subst (λ (n : ℕ). T ((eqb n base && eqb r 0) || (leb 1 n && leb n sum && ltb l i && ltb r i))) e
-    (subst (λ (n : ℕ). T ((eqb (kindOf w) base && eqb n 0) || (leb 1 (kindOf w) && leb (kindOf w) sum && ltb l i && ltb n i))) q
-    (subst (λ (n : ℕ). T ((eqb (kindOf w) base && eqb (rightOf w) 0)
-    || (leb 1 (kindOf w) && leb (kindOf w) sum && ltb n i && ltb (rightOf w) i))) p h)))
+-- what check 2 asks of a type word at index i
+pub data Formed (i w : ℕ) : Type 0 where
+  a-base : kindOf w ≡ 0 → rightOf w ≡ 0 → Formed i w
+  a-composite : 1 ≤ kindOf w → kindOf w ≤ 3 → leftOf w < i → rightOf w < i → Formed i w
+
+formed : (i w : ℕ) → T (wellFormedType i w) → Formed i w
+formed i w h = either-holds (eqb k base && eqb r 0) (leb 1 k && leb k sum && ltb l i && ltb r i) from-base from-composite h
   where
-    no-zero : T (eqb (suc k) base) → ⊥
-    no-zero z = absurd (omega (arith, eqb→eq (suc k) base z))
+    k : ℕ
+    k = kindOf w
 
-    or-second : (a b : Bool) → (T a → ⊥) → T (a || b) → T b
-    or-second true b f z = absurd (f tt)
-    or-second false b f z = z
+    l : ℕ
+    l = leftOf w
 
-    go : T ((eqb (suc k) base && eqb r 0) || (leb 1 (suc k) && leb (suc k) sum && ltb l i && ltb r i)) → (l < i) × (r < i)
-    go x₀ =
-        let x = or-second (eqb (suc k) base && eqb r 0) (leb 1 (suc k) && leb (suc k) sum && ltb l i && ltb r i)
-        (λ z. no-zero (and-left (eqb (suc k) base) (eqb r 0) z)) x₀ in
-        let y = and-left (leb 1 (suc k) && leb (suc k) sum && ltb l i) (ltb r i) x in (
-          ltb→lt l i (and-right (leb 1 (suc k) && leb (suc k) sum) (ltb l i) y),
-          ltb→lt r i
-              (and-right (leb 1 (suc k) && leb (suc k) sum && ltb l i) (ltb r i) x),
-        )
+    r : ℕ
+    r = rightOf w
+
+    either-holds : (a b : Bool) → (T a → Formed i w) → (T b → Formed i w) → T (a || b) → Formed i w
+    either-holds true b f g z = f tt
+    either-holds false b f g z = g z
+
+    from-base : T (eqb k base && eqb r 0) → Formed i w
+    from-base z = a-base (eqb→eq k base (and-left (eqb k base) (eqb r 0) z)) (eqb→eq r 0 (and-right (eqb k base) (eqb r 0) z))
+
+    from-composite : T (leb 1 k && leb k sum && ltb l i && ltb r i) → Formed i w
+    from-composite z =
+        let y = and-left (leb 1 k && leb k sum && ltb l i) (ltb r i) z in
+        let x = and-left (leb 1 k && leb k sum) (ltb l i) y in
+        a-composite (leb→le 1 k (and-left (leb 1 k) (leb k sum) x)) (leb→le k sum (and-right (leb 1 k) (leb k sum) x))
+        (ltb→lt l i (and-right (leb 1 k && leb k sum) (ltb l i) y)) (ltb→lt r i (and-right (leb 1 k && leb k sum && ltb l i) (ltb r i) z))
+
+-- each entry of a table that passes check 2
+pub entry-formed : (ws : List ℕ) → T (wellFormedTypes 0 ws) → (A w : ℕ) → getElem? ws A ≡ some w → Formed A w
+entry-formed ws h A w e = formed A w (subst (λ (n : ℕ). T (wellFormedType n w)) (omega arith) (entry 0 ws h A w e))
 
 pub earlier : (tables : Tables) → T (wellFormedTypes 0 (tables .types)) → Earlier tables
-earlier tables h = record {
-  parts = λ A w k e q. composite A w k (leftOf w) (rightOf w) q refl refl
-      (subst (λ (n : ℕ). T (wellFormedType n w)) (omega arith) (entry 0 (tables .types) h A w e));
-}
+earlier tables h = record { parts = λ A w k e q. below A w k q (entry-formed (tables .types) h A w e) }
+  where
+    below : (A w k : ℕ) → kindOf w ≡ suc k → Formed A w → (leftOf w < A) × (rightOf w < A)
+    below A w k q (a-base z _) = absurd (omega (arith, q, z))
+    below A w k q (a-composite _ _ l r) = (l, r)

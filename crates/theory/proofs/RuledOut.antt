@@ -1,0 +1,74 @@
+-- The claim alone rules out the normalizer that copies its input and the one that inserts lets and skips phases 2 and 3: on case A of
+-- paper 01's table the words they hand back decode to a term that a rule fits, and a claim says that no rule fits there.
+use mathlib.Core.Path.{_≡_, refl, sym, _∙_, ap, subst}
+use mathlib.Core.Bool.{false}
+use mathlib.Core.List.{List, [], _∷_}
+use mathlib.Core.Option.{some, Option·some-injective}
+use lib.Dec.{T}
+use Prim.Native.Nat.{ℕ}
+use Rattle.syntax.specs.Words.{pack}
+use Rattle.syntax.specs.Tables.{Tables}
+use Rattle.syntax.specs.Term.{Term, var, call, lam, app, bind, done, arg, node, partsOf, asVar, asLam, asApp, asBind, asPair, asFst, asSnd}
+use Rattle.syntax.specs.Term.{asInl, asInr, asCase}
+use Rattle.syntax.specs.Encoding.{encode}
+use Rattle.syntax.specs.Decoding.{leaf, unary, binary, splitForest, callBuilder, builders, graft, decodeForest, decode}
+use Rattle.syntax.specs.Positions.{positions}
+use Rattle.syntax.specs.Substitution.{traverse}
+use Rattle.syntax.specs.Values.{isValue, isComputation, argumentsIn, operands}
+use Rattle.reduction.specs.declared.Phase.the-variants.{Insertion}
+use Rattle.reduction.specs.declared.Rule.the-variants.{LetInsertion}
+use Rattle.reduction.specs.Rules.{nameFirst, letInsertion, letOfLet, letOfCase, apply, first, second, leftCase, rightCase, letValue}
+use Rattle.reduction.specs.Rules.{allPure, fire, rules}
+use Rattle.reduction.specs.Redex.{Step, contract, firstStep, step}
+use Rattle.reduction.specs.Sequence.{Steps, ended, stepped}
+use Rattle.reduction.specs.NormalForm.{isNormal}
+use Rattle.reduction.proofs.Unique.{steps-unique}
+use Rattle.semantics.specs.Claim.{Claim}
+
+-- no claim holds of words that decode to a term with a redex
+no-claim : (tables : Tables) (words : List ℕ) (A : ℕ) (result : List ℕ) (u : Term) → decode (tables .calls) result ≡ some u
+    → isNormal allPure u ≡ false → Claim tables words A result → ⊥
+no-claim tables words A result u d n c =
+    let e = Option·some-injective u (c .normal) (sym d ∙ c .normal-decoded) in
+    subst T (sym (c .no-redex) ∙ ap (isNormal allPure) (sym e) ∙ n) tt
+
+-- case A: types 0 base, 1 function 0 to 0, 2 product 0 0, 3 sum 0 0; calls c with no argument and d with one, all of type 0
+abbrev pub tables : Tables
+tables = record { types = pack 0 0 0 ∷ pack 1 0 0 ∷ pack 2 0 0 ∷ pack 3 0 0 ∷ []; calls = 0 ∷ pack 1 0 0 ∷ []; inputs = [] }
+
+-- function(d v0)
+abbrev function : Term
+function = lam 1 (call 1 (arg (var 0) done))
+
+-- function(d v0) applied to c
+abbrev pub source : Term
+source = app function (call 0 done)
+
+-- and after phase 1: let c, function(d v0) applied to v0
+abbrev named : Term
+named = bind (call 0 done) (app function (var 0))
+
+-- the one that copies its input
+pub copies-ruled-out : Claim tables (encode source) 0 (encode source) → ⊥
+unfolding leaf unary binary splitForest callBuilder builders graft decodeForest decode encode node
+    positions traverse isValue operands nameFirst letInsertion fire rules contract firstStep step isNormal
+copies-ruled-out = no-claim tables (encode source) 0 (encode source) source refl refl
+
+-- phase 1 of case A, by computation
+phase₁ : Steps allPure Insertion source (record { rule = LetInsertion; place = 0; next = named } ∷ []) named
+unfolding positions traverse isValue argumentsIn operands nameFirst letInsertion fire rules contract firstStep step
+phase₁ = stepped refl (ended refl)
+
+named-has-redex : isNormal allPure named ≡ false
+unfolding node partsOf asVar asLam asApp asBind asPair asFst asSnd asInl asInr asCase isValue isComputation
+    positions traverse argumentsIn operands nameFirst letInsertion letOfLet letOfCase apply first second leftCase rightCase letValue
+    fire rules contract firstStep step isNormal
+named-has-redex = refl
+
+-- the one that inserts lets and skips phases 2 and 3: it hands back the last term of phase 1
+pub insertion-ruled-out : {u : Term} {ss : List Step} → Steps allPure Insertion source ss u → Claim tables (encode source) 0 (encode u) → ⊥
+unfolding leaf unary binary splitForest callBuilder builders graft decodeForest decode encode node
+insertion-ruled-out {u} q c =
+    let e : u ≡ named = steps-unique allPure Insertion refl q phase₁ .1 in
+    no-claim tables (encode source) 0 (encode named) named refl named-has-redex
+    (subst (λ (x : Term). Claim tables (encode source) 0 (encode x)) e c)
