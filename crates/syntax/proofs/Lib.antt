@@ -7,3 +7,4 @@ pub mod Forests
 pub mod Parts
 pub mod Positions
 pub mod CallsIn
+pub mod Sites
