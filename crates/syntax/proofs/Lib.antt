@@ -8,3 +8,5 @@ pub mod Parts
 pub mod Positions
 pub mod CallsIn
 pub mod Sites
+pub mod Nested
+pub mod Inherited
