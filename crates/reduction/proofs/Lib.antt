@@ -6,3 +6,4 @@ pub mod Unique
 pub mod Roots
 pub mod Fits
 pub mod Search
+pub mod Clear

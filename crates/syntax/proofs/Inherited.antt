@@ -1,4 +1,5 @@
--- What a term hands on to its parts holds of the subterm at each of its positions; words can hold each subterm of a term that they can hold.
+-- What a term hands on to its parts holds of the subterm at each of its positions. So words can hold each subterm of a term that they can
+-- hold.
 use mathlib.Core.Path.{_≡_, refl, subst}
 use mathlib.Core.List.{List, [], _∷_, _++_, map}
 use mathlib.Core.Option.{Option, some, none, Option·some-injective, Option·none-ne-some}
@@ -46,22 +47,27 @@ module _ {P : Term → Type 0} {PAll : Terms → Type 0} (I : Inherited P PAll) 
     all (call k ts) h = more h (all-within (call k) (allAll ts (I .parts (call k ts) h)))
     all (lam A b) h = more h (all-bound (lam A) (all b (I .first b done (I .parts (lam A b) h))))
     all (app f a) h = let i = I .parts (app f a) h in
-        more h (in-a-row (all-within (λ x. app x a) (all f (I .first f _ i))) (all-within (λ x. app f x) (all a (I .first a _ (I .rest f _ i)))))
+        more h (in-a-row (all-within (λ x. app x a) (all f (I .first f _ i)))
+        (all-within (λ x. app f x) (all a (I .first a _ (I .rest f _ i)))))
     all (bind e b) h = let i = I .parts (bind e b) h in
-        more h (in-a-row (all-within (λ x. bind x b) (all e (I .first e _ i))) (all-bound (λ x. bind e x) (all b (I .first b _ (I .rest e _ i)))))
+        more h (in-a-row (all-within (λ x. bind x b) (all e (I .first e _ i)))
+        (all-bound (λ x. bind e x) (all b (I .first b _ (I .rest e _ i)))))
     all (pair A a b) h = let i = I .parts (pair A a b) h in
-        more h (in-a-row (all-within (λ x. pair A x b) (all a (I .first a _ i))) (all-within (λ x. pair A a x) (all b (I .first b _ (I .rest a _ i)))))
+        more h (in-a-row (all-within (λ x. pair A x b) (all a (I .first a _ i)))
+        (all-within (λ x. pair A a x) (all b (I .first b _ (I .rest a _ i)))))
     all (fst a) h = more h (all-within fst (all a (I .first a done (I .parts (fst a) h))))
     all (snd a) h = more h (all-within snd (all a (I .first a done (I .parts (snd a) h))))
     all (inl A a) h = more h (all-within (inl A) (all a (I .first a done (I .parts (inl A a) h))))
     all (inr A a) h = more h (all-within (inr A) (all a (I .first a done (I .parts (inr A a) h))))
     all (case s l r) h = let i = I .parts (case s l r) h in let j = I .rest s _ i in
         more h (in-a-row (all-within (λ x. case x l r) (all s (I .first s _ i)))
-        (in-a-row (all-bound (λ x. case s x r) (all l (I .first l _ j))) (all-bound (λ x. case s l x) (all r (I .first r _ (I .rest l _ j))))))
+        (in-a-row (all-bound (λ x. case s x r) (all l (I .first l _ j)))
+        (all-bound (λ x. case s l x) (all r (I .first r _ (I .rest l _ j))))))
 
     allAll : (ts : Terms) → PAll ts → All P (positionsAll ts)
     allAll done h = no-more
-    allAll (arg t ts) h = in-a-row (all-within (λ x. arg x ts) (all t (I .first t ts h))) (all-within (λ x. arg t x) (allAll ts (I .rest t ts h)))
+    allAll (arg t ts) h = in-a-row (all-within (λ x. arg x ts) (all t (I .first t ts h)))
+        (all-within (λ x. arg t x) (allAll ts (I .rest t ts h)))
 
   pub inherited : (t : Term) → P t → (i : ℕ) (p : Position Term) → getElem? (positions t) i ≡ some p → P (p .subterm)
   inherited t h i p e = look (all t h) i p e
