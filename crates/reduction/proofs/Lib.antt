@@ -7,3 +7,4 @@ pub mod Roots
 pub mod Fits
 pub mod Search
 pub mod Clear
+pub mod EachSite

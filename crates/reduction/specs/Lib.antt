@@ -5,3 +5,4 @@ pub mod Sequence
 pub mod NormalForm
 pub mod Grammar
 pub mod Clear
+pub mod FitByKinds
