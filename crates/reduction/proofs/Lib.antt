@@ -9,3 +9,5 @@ pub mod Search
 pub mod Lowered
 pub mod StepUses
 pub mod NextSize
+pub mod Clear
+pub mod EachSite

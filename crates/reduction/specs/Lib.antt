@@ -4,3 +4,5 @@ pub mod Reduction
 pub mod Sequence
 pub mod NormalForm
 pub mod Grammar
+pub mod Clear
+pub mod FitByKinds

@@ -15,3 +15,6 @@ pub mod UsesTraverse
 pub mod Uses
 pub mod Agreement
 pub mod Sublists
+pub mod Sites
+pub mod Nested
+pub mod Inherited

@@ -4,6 +4,7 @@ pub mod Compatible
 pub mod Contracted
 pub mod Ends
 pub mod Fields
+pub mod FitByKinds
 pub mod Forms
 pub mod FormsKept
 pub mod FunctionFree
