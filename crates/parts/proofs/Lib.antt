@@ -4,3 +4,4 @@ pub mod Variables
 pub mod Counting
 pub mod Writing
 pub mod Renaming
+pub mod Substituting
