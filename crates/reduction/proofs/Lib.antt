@@ -8,3 +8,5 @@ pub mod Fits
 pub mod Search
 pub mod Clear
 pub mod EachSite
+pub mod Places
+pub mod Below

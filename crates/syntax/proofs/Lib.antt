@@ -10,3 +10,4 @@ pub mod CallsIn
 pub mod Sites
 pub mod Nested
 pub mod Inherited
+pub mod Subterms

@@ -11,6 +11,7 @@ pub mod FunctionFree
 pub mod Fundamental
 pub mod Grammar
 pub mod GrammarTest
+pub mod NextInsertion
 pub mod Operands
 pub mod OperandsKept
 pub mod PendingSteps
