@@ -48,10 +48,10 @@ module _ (P : Term → Type 0) (g : ℕ) where
 
   -- in the first part
   in-first : (ts us vs : List Term) (i : ℕ) → i ≤ length us → Keeps i ts us → Keeps i (ts ++ vs) (us ++ vs)
-  in-first ts us vs i l h b = record {
-    holds = λ k x m d. h (record { holds = λ k x m d. b .holds k x m (member-left ts vs k x d) }) .holds k x m
-        (left-member us vs k x (omega arith) d);
-  }
+  in-first ts us vs i l h b = record { holds = λ k x m d. h first .holds k x m (left-member us vs k x (omega arith) d) }
+    where
+      first : Below P 0 i ts
+      first = record { holds = λ k x m d. b .holds k x m (member-left ts vs k x d) }
 
   -- behind parts
   behind-parts : (ts us vs : List Term) (i j : ℕ) → i ≡ length ts + j → Keeps j us vs → Keeps i (ts ++ us) (ts ++ vs)
@@ -130,9 +130,12 @@ module _ (P : Term → Type 0) (R : Term → Term → Type 0) (g : ℕ)
   pub kept-before : (t t′ : Term) (i : ℕ) → At R t i t′
       → ((j : ℕ) (p : Position Term) → j < i → getElem? (positions t) j ≡ some p → P (p .subterm))
       → (j : ℕ) (p : Position Term) → j + g < i → getElem? (positions t′) j ≡ some p → P (p .subterm)
-  kept-before t t′ i s h j p l e = kept s (record { holds = λ k x m d. go k x (getElem? (positions t) k) refl (omega arith) (sym (node-at t k) ∙ d) })
-      .holds j (p .subterm) l (node-at t′ j ∙ ap (Option·map (λ q. q .subterm)) e)
+  kept-before t t′ i s h j p l e = kept s before .holds j (p .subterm) l (node-at t′ j ∙ ap (Option·map (λ q. q .subterm)) e)
     where
-      go : (k : ℕ) (x : Term) (o : Option (Position Term)) → getElem? (positions t) k ≡ o → k < i → Option·map (λ q. q .subterm) o ≡ some x → P x
-      go k x none e m d = absurd (Option·none-ne-some x d)
-      go k x (some q) e m d = subst P (Option·some-injective (q .subterm) x d) (h k q m e)
+      at : (k : ℕ) (x : Term) (o : Option (Position Term)) → getElem? (positions t) k ≡ o → k < i
+          → Option·map (λ (q : Position Term). q .subterm) o ≡ some x → P x
+      at k x none e m d = absurd (Option·none-ne-some x d)
+      at k x (some q) e m d = subst P (Option·some-injective (q .subterm) x d) (h k q m e)
+
+      before : Below P 0 i (nodes t)
+      before = record { holds = λ k x m d. at k x (getElem? (positions t) k) refl (omega arith) (sym (node-at t k) ∙ d) }

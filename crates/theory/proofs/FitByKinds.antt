@@ -61,7 +61,7 @@ root-each P (inr A a) e = e .0
 root-each P (case s l r) e = e .0
 
 -- the kind of a node's first part, and of that part's first part, d where no rule looks for one
-abbrev kind₁ : Term → ℕ → ℕ
+abbrev pub kind₁ : Term → ℕ → ℕ
 kind₁ (var n) d = d
 kind₁ (call k ts) d = d
 kind₁ (lam A b) d = d
@@ -74,7 +74,7 @@ kind₁ (inl A a) d = d
 kind₁ (inr A a) d = d
 kind₁ (case s l r) d = node s .kind
 
-abbrev kind₂ : Term → ℕ → ℕ
+abbrev pub kind₂ : Term → ℕ → ℕ
 kind₂ (var n) d = d
 kind₂ (call k ts) d = d
 kind₂ (lam A b) d = d
@@ -95,7 +95,7 @@ fits true c r u e = ap (λ (x : Bool). given x r) e
 fits false c r u e = ap (λ (x : Bool). given x r) e
 
 module _ (pure : Term → Bool) where
-  by-kinds : (t : Term) (d₁ d₂ : ℕ) → Each t Ops
+  pub by-kinds : (t : Term) (d₁ d₂ : ℕ) → Each t Ops
       → Option·map (λ (x : Contraction). x .rule) (contract pure (rules Reduction) t) ≡ ruleByKinds (node t .kind) (kind₁ t d₁) (kind₂ t d₂)
   unfolding contract rules fire letOfLet letOfCase apply first second leftCase rightCase letValue node partsOf asVar asLam asApp asBind
       asPair asFst asSnd asInl asInr asCase isValue isComputation Each ruleByKinds letByKinds valueKind

@@ -12,6 +12,7 @@ pub mod Fundamental
 pub mod Grammar
 pub mod GrammarTest
 pub mod NextInsertion
+pub mod NextReduction
 pub mod Operands
 pub mod OperandsKept
 pub mod PendingSteps

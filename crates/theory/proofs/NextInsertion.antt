@@ -4,9 +4,11 @@ use mathlib.Core.Path.{_≡_, refl, subst}
 use mathlib.Core.Bool.{Bool}
 use mathlib.Core.Option.{Option, some}
 use lib.Dec.{T}
+use lib.ListN.{getElem?}
 use Prim.Native.Nat.{ℕ, _+_, _<_}
 use native.Mathlib.Omega.{arith}
 use Rattle.syntax.specs.Term.{Term, Terms}
+use Rattle.syntax.specs.Positions.{Position, positions}
 use Rattle.syntax.specs.Values.{isValue}
 use Rattle.reduction.specs.declared.Phase.the-variants.{Insertion}
 use Rattle.reduction.specs.Redex.{Step as Stepped, step}
@@ -44,9 +46,15 @@ operands-kept (a-case₁ e s) l h = value-kept s h
 operands-kept (a-case₂ e s) l h = h
 operands-kept (a-case₃ e s) l h = h
 
-pub next-insertion : (pure : Term → Bool) (t : Term) (s : Stepped) → step pure Insertion t ≡ some s → Clear pure Insertion (s .next) (s .place)
-next-insertion pure t s e = record {
-  misses = λ j p l d. rule-only pure (p .subterm) (of-ops (p .subterm)
-      (kept-before Ops Insert 0 (λ t t′ i a m h. operands-kept a m h) t (s .next) (s .place) (step-place pure Insertion t s e)
-      (λ k q m f. ops-of (q .subterm) (only-rule pure (q .subterm) (step-at pure Insertion t s e .clear .misses k q m f))) j p (omega arith) d));
-}
+module _ (pure : Term → Bool) (t : Term) (s : Stepped) (e : step pure Insertion t ≡ some s) where
+  operands-before : (j : ℕ) (p : Position Term) → j < s .place → getElem? (positions t) j ≡ some p → Ops (p .subterm)
+  operands-before j p l d = ops-of (p .subterm) (only-rule pure (p .subterm) (step-at pure Insertion t s e .clear .misses j p l d))
+
+  operands-after : (j : ℕ) (p : Position Term) → j + 0 < s .place → getElem? (positions (s .next)) j ≡ some p → Ops (p .subterm)
+  operands-after = kept-before Ops Insert 0 (λ t t′ i a l h. operands-kept a l h) t (s .next) (s .place) (step-place pure Insertion t s e)
+      operands-before
+
+  pub next-insertion : Clear pure Insertion (s .next) (s .place)
+  next-insertion = record {
+    misses = λ j p l d. rule-only pure (p .subterm) (of-ops (p .subterm) (operands-after j p (omega arith) d));
+  }
