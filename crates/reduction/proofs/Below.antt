@@ -6,7 +6,7 @@ use mathlib.Core.Option.{Option, some, none, Option·map, Option·some-injective
 use Prim.Native.Nat.{ℕ, zero, suc, _+_, _≤_, _<_}
 use native.Mathlib.Omega.{arith}
 use lib.ListN.{length, getElem?, length-append}
-use Rattle.syntax.specs.Term.{Term, Terms, var, call, lam, app, bind, pair, fst, snd, inl, inr, case, done, arg}
+use Rattle.syntax.specs.Term.{Term, Terms}
 use Rattle.syntax.specs.Encoding.{size}
 use Rattle.syntax.specs.Positions.{Position, positions}
 use Rattle.syntax.proofs.Subterms.{nodes, nodesAll, length-nodes, node-at}

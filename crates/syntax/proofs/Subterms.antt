@@ -1,7 +1,7 @@
 -- The subterms of a term by structure: the term itself, then those of its parts in order.
 use mathlib.Core.Path.{_≡_, refl, sym, _∙_, ap, ap₂}
 use mathlib.Core.List.{List, [], _∷_, _++_, map}
-use mathlib.Core.Option.{Option, some, none, Option·map}
+use mathlib.Core.Option.{Option·map}
 use Prim.Native.Nat.{ℕ, zero, suc}
 use lib.ListN.{length, getElem?, length-map}
 use Rattle.syntax.specs.Term.{Term, Terms, var, call, lam, app, bind, pair, fst, snd, inl, inr, case, done, arg}

@@ -2,15 +2,15 @@
 -- kind is a value's, and no rule looks further than at the first part of a node's first part.
 use mathlib.Core.Path.{_≡_, refl, sym, _∙_, ap}
 use mathlib.Core.Bool.{Bool, true, false, _&&_, not}
-use mathlib.Core.List.{List, [], _∷_, _++_, append-assoc}
+use mathlib.Core.List.{List, [], _++_, append-assoc}
 use mathlib.Core.Option.{Option, some, none, Option·map}
 use lib.Dec.{T}
 use lib.ListN.{getD}
-use Prim.Native.Nat.{ℕ, _^_, _<_}
+use Prim.Native.Nat.{ℕ}
 use native.Mathlib.Omega.{arith}
 use Rattle.syntax.specs.Maybe.{given}
-use Rattle.syntax.specs.Words.{pack, kindOf}
-use Rattle.syntax.specs.Term.{Term, Terms, var, call, lam, app, bind, pair, fst, snd, inl, inr, case, node, partsOf, asVar, asLam, asApp}
+use Rattle.syntax.specs.Words.{kindOf}
+use Rattle.syntax.specs.Term.{Term, var, call, lam, app, bind, pair, fst, snd, inl, inr, case, node, partsOf, asVar, asLam, asApp}
 use Rattle.syntax.specs.Term.{asBind, asPair, asFst, asSnd, asInl, asInr, asCase}
 use Rattle.syntax.specs.Encoding.{wordOf, encode}
 use Rattle.syntax.specs.Shaped.{Shaped}
@@ -20,7 +20,7 @@ use Rattle.syntax.proofs.Options.{both-true}
 use Rattle.reduction.specs.Rules.{letOfLet, letOfCase, apply, first, second, leftCase, rightCase, letValue, fire, rules}
 use Rattle.reduction.specs.declared.Phase.the-variants.{Reduction}
 use Rattle.reduction.specs.declared.Rule.{Rule}
-use Rattle.reduction.specs.declared.Rule.the-variants.{LetOfLet, LetOfCase, Apply, First, Second, LeftCase, RightCase, LetValue}
+use Rattle.reduction.specs.declared.Rule.the-variants.{LetOfLet, Apply, First, Second, LeftCase, RightCase, LetValue}
 use Rattle.reduction.specs.Redex.{Contraction, contract}
 use Rattle.reduction.specs.FitByKinds.{valueKind, letByKinds, ruleByKinds}
 use Rattle.reduction.proofs.Search.{Each}

@@ -1,8 +1,8 @@
 -- After a let insertion no redex of phase 1 stands before its place: a let insertion keeps a value a value and a computation a computation,
 -- so the nodes around it keep operands that are values.
-use mathlib.Core.Path.{_≡_, refl, subst}
+use mathlib.Core.Path.{_≡_, subst}
 use mathlib.Core.Bool.{Bool}
-use mathlib.Core.Option.{Option, some}
+use mathlib.Core.Option.{some}
 use lib.Dec.{T}
 use lib.ListN.{getElem?}
 use Prim.Native.Nat.{ℕ, _+_, _<_}

@@ -2,19 +2,18 @@
 -- kind of its bound part, one word further, and at that part's first part only if that is a value, where no redex stands.
 use mathlib.Core.Path.{_≡_, refl, sym, _∙_, ap, subst}
 use mathlib.Core.Bool.{Bool, cond, not}
-use mathlib.Core.Option.{Option, some, none, Option·map}
+use mathlib.Core.Option.{some, none, Option·map}
 use lib.Dec.{T, eqb}
 use lib.ListN.{getElem?}
 use Prim.Native.Nat.{ℕ, _+_, _-_, _<_}
 use native.Mathlib.Omega.{arith}
 use Rattle.syntax.specs.Maybe.{given}
-use Rattle.syntax.specs.Term.{Term, Terms, var, call, lam, app, bind, pair, fst, snd, inl, inr, case, node}
+use Rattle.syntax.specs.Term.{Term, node}
 use Rattle.syntax.specs.Positions.{Position, positions}
 use Rattle.syntax.specs.Values.{isValue}
 use Rattle.syntax.proofs.Options.{map-none, given-none, not-not}
 use Rattle.reduction.specs.Rules.{rules}
 use Rattle.reduction.specs.declared.Phase.the-variants.{Reduction}
-use Rattle.reduction.specs.declared.Rule.{Rule}
 use Rattle.reduction.specs.declared.Rule.the-variants.{LetOfLet, LetOfCase, Apply, First, Second, LeftCase, RightCase}
 use Rattle.reduction.specs.Redex.{Contraction, contract, Step as Stepped, step}
 use Rattle.reduction.specs.Clear.{Clear}
@@ -30,29 +29,25 @@ use Rattle.theory.proofs.Operands.{Ops}
 use Rattle.theory.proofs.OperandsKept.{root-value, step-ops}
 use Rattle.theory.proofs.FitByKinds.{kind₁, kind₂, value-kind, root-each, by-kinds}
 
--- a step in a part keeps the node's kind
-kind-kept : {t t′ : Term} {i : ℕ} → At Reduce t i t′ → (i ≡ 0 → Reduce t t′ → ⊥) → node t .kind ≡ node t′ .kind
+-- a step keeps the kind of a value: it is in a part, since no rule fits a value
+kind-kept : {t t′ : Term} {i : ℕ} → At Reduce t i t′ → T (isValue t) → node t .kind ≡ node t′ .kind
 unfolding node
-kind-kept (a-root e r) n = absurd (n e r)
-kind-kept (a-call e s) n = refl
-kind-kept (a-lam e s) n = refl
-kind-kept (a-app₁ e s) n = refl
-kind-kept (a-app₂ e s) n = refl
-kind-kept (a-bind₁ e s) n = refl
-kind-kept (a-bind₂ e s) n = refl
-kind-kept (a-pair₁ e s) n = refl
-kind-kept (a-pair₂ e s) n = refl
-kind-kept (a-fst e s) n = refl
-kind-kept (a-snd e s) n = refl
-kind-kept (a-inl e s) n = refl
-kind-kept (a-inr e s) n = refl
-kind-kept (a-case₁ e s) n = refl
-kind-kept (a-case₂ e s) n = refl
-kind-kept (a-case₃ e s) n = refl
-
--- and of a value a step keeps the kind in any case, since no rule fits it
-value-kind-kept : {t t′ : Term} {i : ℕ} → At Reduce t i t′ → T (isValue t) → node t .kind ≡ node t′ .kind
-value-kind-kept s h = kind-kept s (λ e r. root-value r h)
+kind-kept (a-root e r) h = absurd (root-value r h)
+kind-kept (a-call e s) h = refl
+kind-kept (a-lam e s) h = refl
+kind-kept (a-app₁ e s) h = refl
+kind-kept (a-app₂ e s) h = refl
+kind-kept (a-bind₁ e s) h = refl
+kind-kept (a-bind₂ e s) h = refl
+kind-kept (a-pair₁ e s) h = refl
+kind-kept (a-pair₂ e s) h = refl
+kind-kept (a-fst e s) h = refl
+kind-kept (a-snd e s) h = refl
+kind-kept (a-inl e s) h = refl
+kind-kept (a-inr e s) h = refl
+kind-kept (a-case₁ e s) h = refl
+kind-kept (a-case₂ e s) h = refl
+kind-kept (a-case₃ e s) h = refl
 
 -- a step in a let's bound part, not at its first word, makes no rule fit the let
 bound-kept : {e e′ : Term} {i : ℕ} → At Reduce e i e′ → 0 < i → Each e Ops → (d : ℕ) → letByKinds (node e .kind) (kind₁ e d) ≡ none
@@ -66,7 +61,7 @@ bound-kept (a-app₂ e s) l o d h = h
 bound-kept (a-bind₁ {a = p} e s) l o d h =
     let k = valueKind (node p .kind) in
     let v : T (isValue p) = subst T (sym (value-kind p (root-each Ops p (o .1)))) (not-not k (given-none (not k) LetOfLet h)) in
-    subst (λ (k : ℕ). given (not (valueKind k)) LetOfLet ≡ none) (value-kind-kept s v) h
+    subst (λ (k : ℕ). given (not (valueKind k)) LetOfLet ≡ none) (kind-kept s v) h
 bound-kept (a-bind₂ e s) l o d h = h
 bound-kept (a-pair₁ e s) l o d h = h
 bound-kept (a-pair₂ e s) l o d h = h
@@ -74,7 +69,7 @@ bound-kept (a-fst e s) l o d h = h
 bound-kept (a-snd e s) l o d h = h
 bound-kept (a-inl e s) l o d h = h
 bound-kept (a-inr e s) l o d h = h
-bound-kept (a-case₁ e s) l o d h = subst (λ (k : ℕ). given (eqb k 0) LetOfCase ≡ none) (value-kind-kept s (o .0)) h
+bound-kept (a-case₁ e s) l o d h = subst (λ (k : ℕ). given (eqb k 0) LetOfCase ≡ none) (kind-kept s (o .0)) h
 bound-kept (a-case₂ e s) l o d h = h
 bound-kept (a-case₃ e s) l o d h = h
 
@@ -85,18 +80,18 @@ unfolding node ruleByKinds Each
 kinds-kept (a-root e r) l o d h = absurd (omega arith)
 kinds-kept (a-call e s) l o d h = h
 kinds-kept (a-lam e s) l o d h = h
-kinds-kept (a-app₁ e s) l o d h = subst (λ (k : ℕ). given (eqb k 2) Apply ≡ none) (value-kind-kept s (o .0 .0)) h
+kinds-kept (a-app₁ e s) l o d h = subst (λ (k : ℕ). given (eqb k 2) Apply ≡ none) (kind-kept s (o .0 .0)) h
 kinds-kept (a-app₂ e s) l o d h = h
 kinds-kept (a-bind₁ e s) l o d h = bound-kept s (omega arith) (o .1) d h
 kinds-kept (a-bind₂ e s) l o d h = h
 kinds-kept (a-pair₁ e s) l o d h = h
 kinds-kept (a-pair₂ e s) l o d h = h
-kinds-kept (a-fst e s) l o d h = subst (λ (k : ℕ). given (eqb k 5) First ≡ none) (value-kind-kept s (o .0)) h
-kinds-kept (a-snd e s) l o d h = subst (λ (k : ℕ). given (eqb k 5) Second ≡ none) (value-kind-kept s (o .0)) h
+kinds-kept (a-fst e s) l o d h = subst (λ (k : ℕ). given (eqb k 5) First ≡ none) (kind-kept s (o .0)) h
+kinds-kept (a-snd e s) l o d h = subst (λ (k : ℕ). given (eqb k 5) Second ≡ none) (kind-kept s (o .0)) h
 kinds-kept (a-inl e s) l o d h = h
 kinds-kept (a-inr e s) l o d h = h
 kinds-kept (a-case₁ e s) l o d h =
-    subst (λ (k : ℕ). cond (eqb k 8) (some LeftCase) (given (eqb k 9) RightCase) ≡ none) (value-kind-kept s (o .0)) h
+    subst (λ (k : ℕ). cond (eqb k 8) (some LeftCase) (given (eqb k 9) RightCase) ≡ none) (kind-kept s (o .0)) h
 kinds-kept (a-case₂ e s) l o d h = h
 kinds-kept (a-case₃ e s) l o d h = h
 
