@@ -13,12 +13,12 @@ use Rattle.syntax.specs.Positions.{Position, root, within, bound, positi
 use Rattle.syntax.proofs.Positions.{length-positions}
 
 -- p stands at index i of the words ws of a whole: so many words come before its subterm
-pub record Place {X : Type 0} (words : X → List ℕ) (ws : List ℕ) (i : ℕ) (p : Position X) : Type 0 where
-  pub before : List ℕ
-  pub after : List ℕ
-  pub index : length before ≡ i
-  pub whole : ws ≡ before ++ (encode (p .subterm) ++ after)
-  pub plugged : (u : Term) → words (p .plug u) ≡ before ++ (encode u ++ after)
+record Place {X : Type 0} (words : X → List ℕ) (ws : List ℕ) (i : ℕ) (p : Position X) : Type 0 where
+  before : List ℕ
+  after : List ℕ
+  index : length before ≡ i
+  whole : ws ≡ before ++ (encode (p .subterm) ++ after)
+  plugged : (u : Term) → words (p .plug u) ≡ before ++ (encode u ++ after)
 
 -- these positions stand at the indices from i on
 data Row {X : Type 0} (words : X → List ℕ) (ws : List ℕ) : ℕ → List (Position X) → Type 0 where

@@ -20,6 +20,7 @@ pub mod PendingStructure
 pub mod Preserve
 pub mod Relation
 pub mod SameRuns
+pub mod ScanReduction
 pub mod SoundInsert
 pub mod SoundReduce
 pub mod SoundStep
