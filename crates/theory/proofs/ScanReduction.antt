@@ -51,7 +51,8 @@ module _ (pure : Term → Bool) (calls : List ℕ) (t : Term) (shaped : Shaped c
   pub scan-misses : Clear pure Reduction t i → ruleOfWords (drop i (encode t ++ rest)) ≡ none → Clear pure Reduction t (suc i)
   scan-misses c e = clear-suc pure Reduction c (λ p d. map-none _ _ (rule-here p d ∙ e))
 
-  pub scan-finds : (r : Rule) → i < size t → Clear pure Reduction t i → ruleOfWords (drop i (encode t ++ rest)) ≡ some r → StepHere pure t i r
+  pub scan-finds : (r : Rule) → i < size t → Clear pure Reduction t i → ruleOfWords (drop i (encode t ++ rest)) ≡ some r
+      → StepHere pure t i r
   scan-finds r l c e = go (contract pure (rules Reduction) (p .subterm)) refl (rule-here p d ∙ e)
     where
       p : Position Term
