@@ -11,3 +11,5 @@ pub mod StepUses
 pub mod NextSize
 pub mod Clear
 pub mod EachSite
+pub mod Places
+pub mod Below
