@@ -34,7 +34,8 @@ MUTANTS = [
         (RULES, "given (isValue a) (b", "given true (b"), (ROOTS, "{Bool}", "{Bool, true}"),
         (ROOTS, "{b v : Term} → T (isValue v)", "{b v : Term} → T true"), (FITS, "(isValue (x .1)) (b", "true (b")]),
     ("left case takes the right branch", "theory", [(BOTH, "(l ⟦ v ⟧)", "(r ⟦ v ⟧)"), (FITS, "(x .1 ⟦ v ⟧)", "(x .2 ⟦ v ⟧)")]),
-    ("a claim that says nothing of redexes", "theory", [("semantics/specs/Claim", "normal ≡ true", "normal ≡ isNormal allPure normal")]),
+    ("a claim that says nothing of redexes", "theory", [
+        ("semantics/specs/Claim", "normal ≡ true", "normal ≡ isNormal allPure normal"), ("theory/proofs/Claimed", "z .normal;", "refl;")]),
     ("a run goes right to left", "theory", [(RUN, "h ← run ρ f\n    v ← run ρ a\n", "v ← run ρ a\n    h ← run ρ f\n")]),
     ("calls put at the trace's front", "theory", [(RUN, "ended x (c ++ d)", "ended x (d ++ c)")]),
     ("let of let also on a value", "reduction", [(RULES, "given (isComputation p) (bind", "given true (bind")]),
@@ -60,9 +61,8 @@ def refusal(edits):
     edits = [(name, old, new) for names, old, new in edits for name in names.split()]
     with tempfile.TemporaryDirectory() as folder:
         copy = pathlib.Path(folder)
-        for part in ("crates", "target"):
-            if (ROOT / part).exists():  # what stands in target/ is not proved again
-                shutil.copytree(ROOT / part, copy / part)
+        for part in filter(lambda x: (ROOT / x).exists(), ("crates", "target")):  # what target/ has proved is not proved again
+            shutil.copytree(ROOT / part, copy / part)
         shutil.copy(ROOT / "crates.txt", copy)
         for name, old, new in edits:
             file = copy / "crates" / (name + ".antt")
