@@ -1,5 +1,5 @@
 -- After phase 1 each operand is a value, and only then: let insertion fits a node exactly if one of its operands is a computation.
-use mathlib.Core.Path.{_≡_, refl, sym, _∙_, ap}
+use mathlib.Core.Path.{_≡_, refl}
 use mathlib.Core.Bool.{Bool, true, false}
 use mathlib.Core.Option.{Option, some, none, Option·some-ne-none}
 use lib.Dec.{T}
