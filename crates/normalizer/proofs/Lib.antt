@@ -1,2 +1,5 @@
 pub mod Pasting
 pub mod Splicing
+pub mod Rewriting
+pub mod Remaining
+pub mod Standing

@@ -54,18 +54,21 @@ pub paste-previous : (l : List ℕ) (to from i m v : ℕ) → to + i < length l 
 paste-previous l to from i m v h g e =
     ap₂ {C = List ℕ} (λ (a b : ℕ). set (paste l a (drop b l) m) (to + i) v) (add-one (to + i)) (add-one (from + i))
     ∙ paste-before l (to + i) (drop (suc (from + i)) l) m v h
-    ∙ ap (λ (x : List ℕ). paste l (to + i) x (suc m)) (ap {B = List ℕ} (λ (x : ℕ). x ∷ drop (suc (from + i)) l) e ∙ sym (drop-cons l (from + i) 0 g))
+    ∙ ap (λ (x : List ℕ). paste l (to + i) x (suc m))
+    (ap {B = List ℕ} (λ (x : ℕ). x ∷ drop (suc (from + i)) l) e ∙ sym (drop-cons l (from + i) 0 g))
 
 -- a copy of nothing, wherever it is from
 pub paste-none : (l : List ℕ) (at : ℕ) (s : List ℕ) → l ≡ paste l at s 0
 paste-none l at s = paste-zero l at s
 
 -- a list set to zeros from the front
-pub zeros-next : (l₀ l : List ℕ) (i : ℕ) → i < length l₀ → l ≡ replicate i 0 ++ drop i l₀ → set l i 0 ≡ replicate (i + 1) 0 ++ drop (i + 1) l₀
+pub zeros-next : (l₀ l : List ℕ) (i : ℕ) → i < length l₀ → l ≡ replicate i 0 ++ drop i l₀ → set l i 0 ≡ replicate (i + 1) 0
+    ++ drop (i + 1) l₀
 zeros-next l₀ l i h e =
     ap (λ (x : List ℕ). set x i 0) (e ∙ ap (λ (x : List ℕ). replicate i 0 ++ x) (drop-cons l₀ i 0 h))
     ∙ set-at (replicate i 0) (getD l₀ i 0) (drop (suc i) l₀) 0 i (length-replicate i 0)
-    ∙ ap (λ (k : ℕ). replicate i 0 ++ (0 ∷ drop k l₀)) (sym (add-one i)) ∙ shift i (drop (i + 1) l₀) ∙ ap (λ (k : ℕ). replicate k 0 ++ drop (i + 1) l₀) (sym (add-one i))
+    ∙ ap (λ (k : ℕ). replicate i 0 ++ (0 ∷ drop k l₀)) (sym (add-one i)) ∙ shift i (drop (i + 1) l₀)
+    ∙ ap (λ (k : ℕ). replicate k 0 ++ drop (i + 1) l₀) (sym (add-one i))
   where
     shift : (n : ℕ) (xs : List ℕ) → replicate n 0 ++ (0 ∷ xs) ≡ replicate (suc n) 0 ++ xs
     shift zero xs = refl
@@ -74,7 +77,8 @@ zeros-next l₀ l i h e =
 pub zeros-all : (l₀ l : List ℕ) (i : ℕ) → length l₀ ≤ i → i ≤ length l₀ → l ≡ replicate i 0 ++ drop i l₀ → l ≡ replicate (length l₀) 0
 zeros-all l₀ l i ge le e =
     let q : i ≡ length l₀ = omega (arith, ge, le) in
-    e ∙ ap (λ (k : ℕ). replicate k 0 ++ drop k l₀) q ∙ ap (λ (x : List ℕ). replicate (length l₀) 0 ++ x) (all-dropped l₀) ∙ append-nil (replicate (length l₀) 0)
+    e ∙ ap (λ (k : ℕ). replicate k 0 ++ drop k l₀) q ∙ ap (λ (x : List ℕ). replicate (length l₀) 0 ++ x) (all-dropped l₀)
+    ∙ append-nil (replicate (length l₀) 0)
   where
     all-dropped : (l : List ℕ) → drop (length l) l ≡ []
     all-dropped [] = refl

@@ -24,7 +24,8 @@ take-before l at s n i h g =
 take-of-pasted : (l : List ℕ) (at : ℕ) (s : List ℕ) (n : ℕ) → at ≤ length l → n ≤ length s → take n (drop at (paste l at s n)) ≡ take n s
 take-of-pasted l at s n h g =
     let e : at ≡ length (take at l) + 0 = omega (arith, length-take-le at l h) in
-    ap (λ (x : List ℕ). take n x) (ap₂ {C = List ℕ} (λ (k : ℕ) (x : List ℕ). drop k x) e (append-assoc (take at l) (take n s) (drop (at + n) l))
+    ap (λ (x : List ℕ). take n x)
+    (ap₂ {C = List ℕ} (λ (k : ℕ) (x : List ℕ). drop k x) e (append-assoc (take at l) (take n s) (drop (at + n) l))
     ∙ drop-append-add (take at l) (take n s ++ drop (at + n) l) 0)
     ∙ take-at (take n s) (drop (at + n) l) n (length-take-le n s g)
 

@@ -1,1 +1,3 @@
 pub mod Splices
+pub mod Currents
+pub mod Turns

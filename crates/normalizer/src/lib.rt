@@ -2,3 +2,6 @@
 
 pub mod moves; // moves.rt: words copied, moved and cleared
 pub mod splice; // splice.rt: a stretch of words replaced in place
+pub mod counts; // counts.rt: the ten counts
+pub mod phases; // phases.rt: where the search of a phase goes on
+pub mod turn; // turn.rt: one turn of the reduction
