@@ -3,3 +3,10 @@ pub mod Lookups
 pub mod Variables
 pub mod ScopedNode
 pub mod Scoping
+pub mod TypeParts
+pub mod PartTypes
+pub mod Clauses
+pub mod InferCall
+pub mod InferNode
+pub mod Inferring
+pub mod Turns

@@ -17,12 +17,9 @@ use Rattle.syntax.proofs.Nodes.{words-of}
 use Rattle.parts.specs.Fronts.{Holds, Starts, from}
 use Rattle.parts.proofs.Traversal.{Going, Next, front-of, enter, next, leave, reached, onward}
 use Rattle.typing.specs.TermChecks.{below, scopedAt}
+use Rattle.checker.specs.Answers.{Scopes}
 use Rattle.checker.proofs.Variables.{is-var, not-var}
 use Rattle.checker.proofs.ScopedNode.{scopedParts, scoped-node}
-
--- an answer: the number of words of the first term if its variables are in scope, and else 0
-abbrev pub Scopes : List ℕ → ℕ → List ℕ → ℕ → Type 0
-Scopes calls m words r = (t : Term) (rest : List ℕ) → Holds calls words t rest → r ≡ cond (scopedAt m t) (size t) 0
 
 -- what the answer for one term tells
 scoped-if : (b : Bool) (u : Term) (l : ℕ) → l ≡ cond b (size u) 0 → (l ≡ 0 → ⊥) → (b ≡ true) × (l ≡ size u)

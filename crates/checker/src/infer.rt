@@ -1,17 +1,15 @@
 // Types of terms: refusal 9.
 ghost use mathlib.Core.Path.{_≡_};
 ghost use mathlib.Core.Bool.{cond};
-ghost use mathlib.Core.List.{List, [], _∷_};
-ghost use Prim.Native.Nat.{ℕ, _+_, _≤_};
+ghost use mathlib.Core.List.{[], _∷_};
+ghost use Prim.Native.Nat.{_+_, _≤_};
 ghost use lib.ListN.{length, getD, take, getElem?};
 ghost use Rattle.syntax.specs.Maybe.{given as givenOf};
 ghost use Rattle.syntax.specs.Words.{countOf, argumentFields, kindOf, numberOf, typeOf};
 ghost use Rattle.syntax.specs.Tables.{over, components as componentsAt};
-ghost use Rattle.syntax.specs.Term.{Term};
-ghost use Rattle.syntax.specs.Encoding.{size};
-ghost use Rattle.parts.specs.Fronts.{Holds, Starts};
-ghost use Rattle.typing.specs.Infer.{equal, infer as typeAt};
-ghost use Rattle.checker.specs.Answers.{scope, inferredOf};
+ghost use Rattle.parts.specs.Fronts.{Starts};
+ghost use Rattle.typing.specs.Infer.{equal};
+ghost use Rattle.checker.specs.Answers.{scope, inferredOf, Infers};
 ghost use Rattle.checker.specs.Nodes.{componentsOf, binderType, formOf, judge as judgeOf, callType, nodeType};
 
 pub enum Components {
@@ -190,4 +188,41 @@ fn node_type(types: &[u64], calls: &[u64], w: u64, a: u64, b: u64, c: u64, words
         Components::Of(x, y) => judge(k, ty, a, b, c, x, y, words),
         Components::Missing => Inferred::Untyped,
     }
+}
+
+// 9: the type of the first term, with its number of words; the types of its binders go on the stack from the depth on
+pub fn infer(types: &[u64], calls: &[u64], inputs: &[u64], stack: &mut [u64], depth: usize, term: &[u64]) -> Inferred
+    requires room { ⌜ depth + length (now term) ≤ length (now stack) ⌝ }
+    requires starts { ⌜ Starts (now calls) (now term) ⌝ }
+    ensures kept { λ _. ⌜ scope (now (inputs .entry)) (now (stack .exit)) depth ≡ scope (now (inputs .entry)) (now (stack .entry)) depth ⌝ }
+    ensures typed { λ r. ⌜ Infers (over (now (types .entry)) (now (calls .entry)) (now (inputs .entry))) (scope (now (inputs .entry)) (now (stack .entry)) depth) (now (term .entry)) r ⌝ }
+{
+    let w = term[0];
+    let k = parts::fields::kind(w);
+    if k == 0 {
+        return variable(inputs, stack, depth, parts::fields::number(w));
+    }
+    let count = parts::shape::part_count(calls, w);
+    if 3 < count {
+        return Inferred::Untyped;
+    }
+    let mut found: [u64; 3] = [0; 3];
+    let mut at: usize = 1;
+    let mut j: usize = 0;
+    while j < count {
+        stack[depth] = binder(types, w, j, found[0]);
+        let inner = depth + parts::shape::binders(k, j);
+        let r = infer(types, calls, inputs, stack, inner, &term[at..]);
+        match r {
+            Inferred::Untyped => {
+                return Inferred::Untyped;
+            }
+            Inferred::Typed(a, l) => {
+                found[j] = a;
+                at = at + l;
+            }
+        }
+        j += 1;
+    }
+    node_type(types, calls, w, found[0], found[1], found[2], at)
 }

@@ -1,19 +1,14 @@
 // Variables in scope: refusal 8.
-ghost use mathlib.Core.Path.{_≡_};
-ghost use mathlib.Core.Bool.{cond};
-ghost use mathlib.Core.List.{List};
-ghost use Prim.Native.Nat.{ℕ, _+_, _≤_};
+ghost use Prim.Native.Nat.{_+_, _≤_};
 ghost use lib.ListN.{length};
-ghost use Rattle.syntax.specs.Term.{Term};
-ghost use Rattle.syntax.specs.Encoding.{size};
-ghost use Rattle.parts.specs.Fronts.{Holds, Starts};
-ghost use Rattle.typing.specs.TermChecks.{scopedAt};
+ghost use Rattle.parts.specs.Fronts.{Starts};
+ghost use Rattle.checker.specs.Answers.{Scopes};
 
 // 8: the number of words of the first term if its variables are in scope, and else 0
 pub fn scoped(calls: &[u64], bound: usize, term: &[u64]) -> usize
     requires room { ⌜ bound + length (now term) ≤ 65536 ⌝ }
     requires starts { ⌜ Starts (now calls) (now term) ⌝ }
-    ensures { λ r. ⌜ ((t : Term) (rest : List ℕ) → Holds (now (calls .entry)) (now (term .entry)) t rest → r ≡ cond (scopedAt bound t) (size t) 0) ⌝ }
+    ensures { λ r. ⌜ Scopes (now (calls .entry)) bound (now (term .entry)) r ⌝ }
 {
     let w = term[0];
     let k = parts::fields::kind(w);

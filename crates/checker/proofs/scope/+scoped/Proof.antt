@@ -14,7 +14,8 @@ use Rattle.parts.proofs.fields.number.Reads as number-reads
 use Rattle.parts.proofs.shape.binders.Reads as binders-reads
 use Rattle.parts.proofs.shape.part_count.Reads as part-count-reads
 use Rattle.syntax.specs.Kinds.{bindersAt}
-use Rattle.checker.proofs.Scoping.{Scopes, ToCome, var-in, var-out, scoped-enter, scoped-next, scoped-reached, scoped-fail, scoped-leave}
+use Rattle.checker.specs.Answers.{Scopes}
+use Rattle.checker.proofs.Scoping.{ToCome, var-in, var-out, scoped-enter, scoped-next, scoped-reached, scoped-fail, scoped-leave}
 use Rattle.checker.proofs.scope.scoped.Reads as scoped
 use Rattle.checker.proofs.scope.scoped.Kinds as scoped-kinds
 use Rattle.checker.proofs.scope.+scoped.Lts-scoped as scoped-lts
