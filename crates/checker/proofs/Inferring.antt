@@ -24,11 +24,11 @@ use Rattle.checker.proofs.PartTypes.{inside, inferParts}
 use Rattle.checker.proofs.InferNode.{infer-node, infer-many}
 
 -- what an answer tells
-untyped-if : (o : Option ℕ) (m : ℕ) (r : Inferred) → r ≡ inferredOf o m → r ≡ Untyped → o ≡ none
+pub untyped-if : (o : Option ℕ) (m : ℕ) (r : Inferred) → r ≡ inferredOf o m → r ≡ Untyped → o ≡ none
 untyped-if none m r p z = refl
 untyped-if (some A) m r p z = let y : _≡_ {A = ℕ} 0 1 = cc in absurd (omega arith)
 
-typed-if : (o : Option ℕ) (m A l : ℕ) (r : Inferred) → r ≡ inferredOf o m → r ≡ Typed A l → (o ≡ some A) × (l ≡ m)
+pub typed-if : (o : Option ℕ) (m A l : ℕ) (r : Inferred) → r ≡ inferredOf o m → r ≡ Typed A l → (o ≡ some A) × (l ≡ m)
 typed-if none m A l r p z = let y : _≡_ {A = ℕ} 0 1 = cc in absurd (omega arith)
 typed-if (some B) m A l r p z =
     let y : B ≡ A = cc in

@@ -10,3 +10,5 @@ pub mod InferCall
 pub mod InferNode
 pub mod Inferring
 pub mod Turns
+pub mod Screens
+pub mod TermPlaces

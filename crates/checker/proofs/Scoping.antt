@@ -22,11 +22,11 @@ use Rattle.checker.proofs.Variables.{is-var, not-var}
 use Rattle.checker.proofs.ScopedNode.{scopedParts, scoped-node}
 
 -- what the answer for one term tells
-scoped-if : (b : Bool) (u : Term) (l : ℕ) → l ≡ cond b (size u) 0 → (l ≡ 0 → ⊥) → (b ≡ true) × (l ≡ size u)
+pub scoped-if : (b : Bool) (u : Term) (l : ℕ) → l ≡ cond b (size u) 0 → (l ≡ 0 → ⊥) → (b ≡ true) × (l ≡ size u)
 scoped-if true u l e z = (refl, e)
 scoped-if false u l e z = absurd (z e)
 
-unscoped-if : (b : Bool) (u : Term) (l : ℕ) → l ≡ cond b (size u) 0 → l ≡ 0 → b ≡ false
+pub unscoped-if : (b : Bool) (u : Term) (l : ℕ) → l ≡ cond b (size u) 0 → l ≡ 0 → b ≡ false
 unfolding size
 unscoped-if true u l e z = absurd (omega (arith, words-of u))
 unscoped-if false u l e z = refl

@@ -4,4 +4,4 @@ pub mod tables; // tables.rt: refusals 1 to 5, on the tables
 pub mod words; // words.rt: refusals 6 and 7, on the term words
 pub mod scope; // scope.rt: refusal 8, variables
 pub mod infer; // infer.rt: refusal 9, types
-// pub mod check; // check.rt: all of them, and the public call `check`
+pub mod check; // check.rt: all of them, and the public call `check`
