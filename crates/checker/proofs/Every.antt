@@ -1,23 +1,26 @@
 -- A test of every member of a list, member by member: what a loop over a table keeps.
 use mathlib.Core.Path.{_≡_, refl, sym, _∙_, ap}
-use mathlib.Core.Bool.{Bool, true, false, _&&_, _||_, not}
-use mathlib.Core.List.{List, [], _∷_}
+use mathlib.Core.Bool.{Bool, true, false, _&&_, not}
+use mathlib.Core.List.{List, _∷_}
 use Prim.Native.Nat.{ℕ, suc, _+_, _-_, _≤_, _<_}
 use native.Mathlib.Omega.{arith}
 use native.Mathlib.Numerals.{add-one}
 use lib.Dec.{eqb}
 use lib.ListN.{length, getD, drop, take, length-drop, drop-of-length-le}
-use lib.Seq.{drop-cons, take-all}
+use lib.Seq.{drop-cons}
+use borrow.Author.Tests.{not-true, not-false}
+use Rattle.syntax.proofs.Nodes.{tail-part}
 use Rattle.typing.specs.TableChecks.{every, wellFormedType, wellFormedTypes, distinct}
 
-pub drop-next : (xs : List ℕ) (i : ℕ) → i < length xs → drop i xs ≡ getD xs i 0 ∷ drop (i + 1) xs
+drop-next : (xs : List ℕ) (i : ℕ) → i < length xs → drop i xs ≡ getD xs i 0 ∷ drop (i + 1) xs
 drop-next xs i h = drop-cons xs i 0 h ∙ ap (λ (n : ℕ). getD xs i 0 ∷ drop n xs) (sym (add-one i))
 
-pub and-true : (a b : Bool) → a ≡ true → (a && b) ≡ b
-and-true a b e = rw e
+-- what the code's answer b to a test a tells of the test
+pub told-true : {a b : Bool} → b ≡ a → not b ≡ false → a ≡ true
+told-true e f = sym e ∙ not-false _ f
 
-pub and-false : (a b : Bool) → a ≡ false → (a && b) ≡ false
-and-false a b e = rw e
+pub told-false : {a b : Bool} → b ≡ a → not b ≡ true → a ≡ false
+told-false e f = sym e ∙ not-true _ f
 
 -- every member before i passes
 pub record Passing (test : ℕ → Bool) (xs : List ℕ) (i : ℕ) : Type 0 where
@@ -28,33 +31,36 @@ pub passing-start : {test : ℕ → Bool} {xs : List ℕ} → Passing test xs 0
 passing-start = record { within = omega arith; same = refl }
 
 module _ {test : ℕ → Bool} {xs : List ℕ} {i : ℕ} (p : Passing test xs i) where
-  pub passing-next : (b : Bool) → i < length xs → b ≡ test (getD xs i 0) → b ≡ true → Passing test xs (i + 1)
-  passing-next b h e t = record {
-    within = omega arith;
-    same = p .same ∙ ap (every test) (drop-next xs i h) ∙ and-true (test (getD xs i 0)) (every test (drop (i + 1) xs)) (sym e ∙ t);
-  }
+  at-member : (b : Bool) → i < length xs → test (getD xs i 0) ≡ b → every test xs ≡ (b && every test (drop (i + 1) xs))
+  at-member b h e = p .same ∙ ap (every test) (drop-next xs i h) ∙ ap (λ (x : Bool). x && every test (drop (i + 1) xs)) e
 
-  pub passing-not : (b : Bool) → i < length xs → b ≡ test (getD xs i 0) → b ≡ false → false ≡ every test xs
-  passing-not b h e t = sym (p .same ∙ ap (every test) (drop-next xs i h) ∙ and-false (test (getD xs i 0)) (every test (drop (i + 1) xs)) (sym e ∙ t))
+  pub passing-next : i < length xs → test (getD xs i 0) ≡ true → Passing test xs (i + 1)
+  passing-next h e = record { within = omega arith; same = at-member true h e }
+
+  pub passing-not : i < length xs → test (getD xs i 0) ≡ false → false ≡ every test xs
+  passing-not h e = sym (at-member false h e)
 
   pub passing-end : length xs ≤ i → true ≡ every test xs
   passing-end h = sym (p .same ∙ ap (every test) (drop-of-length-le xs h))
 
--- the same for the type table, whose test knows the index
+-- every type before i passes; the test of a type knows its index
 pub record Ordered (types : List ℕ) (i : ℕ) : Type 0 where
   pub within : i ≤ length types
   pub same : wellFormedTypes 0 types ≡ wellFormedTypes i (drop i types)
 
 module _ {types : List ℕ} {i : ℕ} (p : Ordered types i) where
-  unrolled : i < length types → wellFormedTypes 0 types ≡ (wellFormedType i (getD types i 0) && wellFormedTypes (i + 1) (drop (i + 1) types))
+  at-type : (b : Bool) → i < length types → wellFormedType i (getD types i 0) ≡ b
+      → wellFormedTypes 0 types ≡ (b && wellFormedTypes (i + 1) (drop (i + 1) types))
   unfolding wellFormedTypes
-  unrolled h = p .same ∙ ap (wellFormedTypes i) (drop-next types i h) ∙ ap (λ (n : ℕ). wellFormedType i (getD types i 0) && wellFormedTypes n (drop (i + 1) types)) (sym (add-one i))
+  at-type b h e = p .same ∙ ap (wellFormedTypes i) (drop-next types i h)
+      ∙ ap (λ (n : ℕ). wellFormedType i (getD types i 0) && wellFormedTypes n (drop (i + 1) types)) (sym (add-one i))
+      ∙ ap (λ (x : Bool). x && wellFormedTypes (i + 1) (drop (i + 1) types)) e
 
-  pub ordered-next : (b : Bool) → i < length types → b ≡ wellFormedType i (getD types i 0) → b ≡ true → Ordered types (i + 1)
-  ordered-next b h e t = record { within = omega arith; same = unrolled h ∙ and-true _ _ (sym e ∙ t) }
+  pub ordered-next : {b : Bool} → i < length types → b ≡ wellFormedType i (getD types i 0) → not b ≡ false → Ordered types (i + 1)
+  ordered-next h e f = record { within = omega arith; same = at-type true h (told-true e f) }
 
-  pub ordered-not : (b : Bool) → i < length types → b ≡ wellFormedType i (getD types i 0) → b ≡ false → false ≡ wellFormedTypes 0 types
-  ordered-not b h e t = sym (unrolled h ∙ and-false _ _ (sym e ∙ t))
+  pub ordered-not : {b : Bool} → i < length types → b ≡ wellFormedType i (getD types i 0) → not b ≡ true → false ≡ wellFormedTypes 0 types
+  ordered-not h e f = sym (at-type false h (told-false e f))
 
   pub ordered-end : length types ≤ i → true ≡ wellFormedTypes 0 types
   unfolding wellFormedTypes
@@ -66,21 +72,23 @@ pub record Apart (types : List ℕ) (i : ℕ) : Type 0 where
   pub same : distinct types ≡ distinct (drop i types)
 
 module _ {types : List ℕ} {i : ℕ} (p : Apart types i) where
-  abbrev rest : List ℕ
-  rest = drop (i + 1) types
+  -- whether the word at i does not stand in a list
+  abbrev apart : List ℕ → Bool
+  apart xs = every (λ x. not (eqb (getD types i 0) x)) xs
 
-  apart-from : i < length types → distinct types ≡ (every (λ x. not (eqb (getD types i 0) x)) rest && distinct rest)
+  at-word : (b : Bool) → i < length types → apart (take (length types - (i + 1)) (drop (i + 1) types)) ≡ b
+      → distinct types ≡ (b && distinct (drop (i + 1) types))
   unfolding distinct
-  apart-from h = p .same ∙ ap distinct (drop-next types i h)
+  at-word b h e = p .same ∙ ap distinct (drop-next types i h)
+      ∙ ap (λ (x : Bool). x && distinct (drop (i + 1) types)) (sym (ap apart (tail-part types (i + 1))) ∙ e)
 
-  part : (b : Bool) → b ≡ every (λ x. not (eqb (getD types i 0) x)) (take (length types - (i + 1)) rest) → b ≡ every (λ x. not (eqb (getD types i 0) x)) rest
-  part b e = e ∙ ap (every (λ x. not (eqb (getD types i 0) x))) (take-all (length types - (i + 1)) rest (simp length-drop (omega arith)))
+  pub apart-next : {b : Bool} → i < length types → b ≡ apart (take (length types - (i + 1)) (drop (i + 1) types)) → not b ≡ false
+      → Apart types (i + 1)
+  apart-next h e f = record { within = omega arith; same = at-word true h (told-true e f) }
 
-  pub apart-next : (b : Bool) → i < length types → b ≡ every (λ x. not (eqb (getD types i 0) x)) (take (length types - (i + 1)) rest) → b ≡ true → Apart types (i + 1)
-  apart-next b h e t = record { within = omega arith; same = apart-from h ∙ and-true _ _ (sym (part b e) ∙ t) }
-
-  pub apart-not : (b : Bool) → i < length types → b ≡ every (λ x. not (eqb (getD types i 0) x)) (take (length types - (i + 1)) rest) → b ≡ false → false ≡ distinct types
-  apart-not b h e t = sym (apart-from h ∙ and-false _ _ (sym (part b e) ∙ t))
+  pub apart-not : {b : Bool} → i < length types → b ≡ apart (take (length types - (i + 1)) (drop (i + 1) types)) → not b ≡ true
+      → false ≡ distinct types
+  apart-not h e f = sym (at-word false h (told-false e f))
 
   pub apart-end : length types ≤ i → true ≡ distinct types
   unfolding distinct

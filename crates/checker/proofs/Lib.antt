@@ -12,3 +12,4 @@ pub mod Inferring
 pub mod Turns
 pub mod Screens
 pub mod TermPlaces
+pub mod Verdicts

@@ -57,7 +57,7 @@ pub fn term_verdict(types: &[u64], calls: &[u64], inputs: &[u64], term: &[u64]) 
     if scoped(calls, inputs.len(), term) == 0 {
         return Checked { refusal: 8, ty: 0 };
     }
-    let mut stack: [u64; 8192] = [0; 8192];
+    let mut stack: [u64; OTHER_LIMIT] = [0; OTHER_LIMIT];
     let r = infer(types, calls, inputs, &mut stack, 0, term);
     match r {
         Inferred::Typed(a, _) => Checked { refusal: 0, ty: a },

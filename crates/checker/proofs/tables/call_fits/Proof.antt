@@ -1,128 +1,131 @@
 -- The count decides of each argument field whether it is used.
 use mathlib.Core.Path.{_≡_, refl, sym, _∙_, ap}
-use mathlib.Core.Bool.{Bool, true, false, _&&_}
+use mathlib.Core.Bool.{Bool, true, false, _&&_, not}
 use mathlib.Core.List.{List, [], _∷_}
 use Prim.Native.Nat.{ℕ, zero, suc, _≤_, _<_}
 use native.Mathlib.Omega.{arith}
 use lib.Dec.{leb, ltb, eqb}
 use lib.ListN.{take, drop}
 use borrow.Author.Needs.{needs}
-use borrow.Author.Tests.{le-leb, lt-leb, lt-ltb, le-ltb, not-true, not-false}
+use borrow.Author.Tests.{le-leb, lt-leb, lt-ltb, le-ltb}
 use Rattle.syntax.specs.Words.{countOf, resultOf, argumentFields}
 use Rattle.parts.specs.Shapes.{argumentOf}
 use Rattle.typing.specs.TableChecks.{every, wellFormedCall}
 use Rattle.typing.specs.TermChecks.{fieldFits}
+use Rattle.checker.proofs.Every.{told-true, told-false}
 use Rattle.checker.proofs.tables.call_fits.Statement.{statement}
 use Rattle.checker.proofs.tables.call_fits.Tie as tie
 
--- the tests of the argument fields, as the definition has them and field by field
+-- the test of argument field i of a call word of n arguments, over t types
+abbrev field : ℕ → ℕ → ℕ → ℕ → Bool
+field t n i x = fieldFits (ltb i n) t x
+
+-- the tests of three fields, as the definition has them
 abbrev listed : ℕ → ℕ → ℕ → ℕ → ℕ → Bool
 listed t n x y z = every (λ A. ltb A t) (take n (x ∷ y ∷ z ∷ [])) && every (λ A. eqb A 0) (drop n (x ∷ y ∷ z ∷ []))
 
-abbrev fielded : ℕ → ℕ → ℕ → ℕ → ℕ → Bool
-fielded t n x y z = fieldFits (ltb 0 n) t x && (fieldFits (ltb 1 n) t y && fieldFits (ltb 2 n) t z)
+assoc : (a b c : Bool) → ((a && b) && c) ≡ (a && (b && c))
+assoc true b c = refl
+assoc false b c = refl
 
-three : (a b c : Bool) → (a && (b && (c && true))) ≡ (a && (b && c))
-three true true true = refl
-three true true false = refl
-three true false c = refl
-three false b c = refl
-
-two-one : (a b c : Bool) → ((a && (b && true)) && (c && true)) ≡ (a && (b && c))
-two-one true true true = refl
-two-one true true false = refl
-two-one true false c = refl
-two-one false b c = refl
-
-one-two : (a b c : Bool) → ((a && true) && (b && (c && true))) ≡ (a && (b && c))
-one-two true true true = refl
-one-two true true false = refl
-one-two true false c = refl
-one-two false b c = refl
-
-all-three : (a b c : Bool) → ((a && (b && (c && true))) && true) ≡ (a && (b && c))
-all-three true true true = refl
-all-three true true false = refl
-all-three true false c = refl
-all-three false b c = refl
-
-by-fields : (t n x y z : ℕ) → n ≤ 3 → listed t n x y z ≡ fielded t n x y z
-by-fields t zero x y z h = three (eqb x 0) (eqb y 0) (eqb z 0)
-by-fields t (suc zero) x y z h = one-two (ltb x t) (eqb y 0) (eqb z 0)
-by-fields t (suc (suc zero)) x y z h = two-one (ltb x t) (ltb y t) (eqb z 0)
-by-fields t (suc (suc (suc zero))) x y z h = all-three (ltb x t) (ltb y t) (ltb z t)
+by-fields : (t n x y z : ℕ) → n ≤ 3 → every (λ b. b) (field t n 0 x ∷ field t n 1 y ∷ field t n 2 z ∷ []) ≡ listed t n x y z
+by-fields t zero x y z h = refl
+by-fields t (suc zero) x y z h = sym (assoc (ltb x t) true (eqb y 0 && (eqb z 0 && true)))
+by-fields t (suc (suc zero)) x y z h =
+    sym (assoc (ltb x t) (ltb y t && true) (eqb z 0 && true) ∙ ap (λ (b : Bool). ltb x t && b) (assoc (ltb y t) true (eqb z 0 && true)))
+by-fields t (suc (suc (suc zero))) x y z h =
+    sym (assoc (ltb x t) (ltb y t && (ltb z t && true)) true
+    ∙ ap (λ (b : Bool). ltb x t && b) (assoc (ltb y t) (ltb z t && true) true ∙ ap (λ (b : Bool). ltb y t && b) (assoc (ltb z t) true true)))
 by-fields t (suc (suc (suc (suc n)))) x y z h = absurd (omega arith)
+
+-- what is left to test of a call word
+record Left (t w : ℕ) (bs : List Bool) : Type 0 where
+  same : every (λ b. b) bs ≡ wellFormedCall t w
+
+module _ {t w : ℕ} {a : Bool} {bs : List Bool} (p : Left t w (a ∷ bs)) where
+  passes : {x : Bool} → x ≡ a → not x ≡ false → Left t w bs
+  passes e f = record { same = sym (ap (λ (y : Bool). y && every (λ b. b) bs) (told-true e f)) ∙ p .same }
+
+  fails : {x : Bool} → x ≡ a → not x ≡ true → false ≡ wellFormedCall t w
+  fails e f = sym (ap (λ (y : Bool). y && every (λ b. b) bs) (told-false e f)) ∙ p .same
+
+last : {t w : ℕ} {a : Bool} → Left t w (a ∷ []) → (x : Bool) → x ≡ a → x ≡ wellFormedCall t w
+last {a = a} p x e = e ∙ sym (right a) ∙ p .same
+  where
+    right : (b : Bool) → (b && true) ≡ b
+    right true = refl
+    right false = refl
 
 module _ (t w n : ℕ) (e : n ≡ countOf w) where
   many : 3 < n → false ≡ wellFormedCall t w
   many h = simp (lt-leb (countOf w) 3 (rw (← e) h))
 
-  module _ (h : n ≤ 3) where
-    unknown : (r : ℕ) → r ≡ resultOf w → t ≤ r → false ≡ wellFormedCall t w
-    unknown r f g = simp (le-leb (countOf w) 3 (rw (← e) h), le-ltb (resultOf w) t (rw (← f) g))
+  module _ (h : n ≤ 3) (r : ℕ) (re : r ≡ resultOf w) where
+    unknown : t ≤ r → false ≡ wellFormedCall t w
+    unknown g = simp (le-leb (countOf w) 3 (rw (← e) h), le-ltb (resultOf w) t (rw (← re) g))
 
-    module _ (r : ℕ) (f : r ≡ resultOf w) (g : r < t) where
-      known : fielded t n (argumentOf w 0) (argumentOf w 1) (argumentOf w 2) ≡ wellFormedCall t w
-      unfolding argumentOf
-      known =
-          sym (by-fields t n (argumentOf w 0) (argumentOf w 1) (argumentOf w 2) h) ∙ ap (λ (m : ℕ). listed t m (argumentOf w 0) (argumentOf w 1) (argumentOf w 2)) e
-          ∙ rest
-        where
-          rest : listed t (countOf w) (argumentOf w 0) (argumentOf w 1) (argumentOf w 2) ≡ wellFormedCall t w
-          rest = simp (le-leb (countOf w) 3 (rw (← e) h), lt-ltb (resultOf w) t (rw (← f) g))
+    -- count and result fit
+    fields-left : r < t → Left t w (field t n 0 (argumentOf w 0) ∷ field t n 1 (argumentOf w 1) ∷ field t n 2 (argumentOf w 2) ∷ [])
+    unfolding argumentOf
+    fields-left g = record {
+      same = by-fields t n (argumentOf w 0) (argumentOf w 1) (argumentOf w 2) h
+          ∙ ap (λ (m : ℕ). listed t m (argumentOf w 0) (argumentOf w 1) (argumentOf w 2)) e ∙ known;
+    }
+      where
+        known : listed t (countOf w) (argumentOf w 0) (argumentOf w 1) (argumentOf w 2) ≡ wellFormedCall t w
+        known = simp (le-leb (countOf w) 3 (rw (← e) h), lt-ltb (resultOf w) t (rw (← re) g))
 
--- what the fields' tests make of the whole, one after the other
-first-no : (x y z : Bool) → x ≡ false → false ≡ (x && (y && z))
-first-no x y z e = rw e
+-- the places past the result's test
+abbrev types : tie.Else2 → ℕ
+types d = d .before .before .before .before .args .types
 
-second-no : (x y z : Bool) → x ≡ true → y ≡ false → false ≡ (x && (y && z))
-second-no x y z e f = rw (e, f)
+abbrev word : tie.Else2 → ℕ
+word d = d .before .before .before .before .args .w
 
-third : (x y z : Bool) → x ≡ true → y ≡ true → z ≡ (x && (y && z))
-third x y z e f = rw (e, f)
+abbrev count : tie.Else2 → ℕ
+count d = d .before .before .before .kind .result
 
-module _ (t w n : ℕ) (e : n ≡ countOf w) (h : n ≤ 3) (r : ℕ) (f : r ≡ resultOf w) (g : r < t) (x : Bool) (a : ℕ) (ae : a ≡ argumentOf w 0) (xe : x ≡ fieldFits (ltb 0 n) t a) where
-  fx : fieldFits (ltb 0 n) t (argumentOf w 0) ≡ x
-  fx = ap (fieldFits (ltb 0 n) t) (sym ae) ∙ sym xe
+abbrev test : tie.Else2 → ℕ → Bool
+test d i = field (types d) (count d) i (argumentOf (word d) i)
 
-  no-1 : x ≡ false → false ≡ wellFormedCall t w
-  no-1 p = first-no (fieldFits (ltb 0 n) t (argumentOf w 0)) (fieldFits (ltb 1 n) t (argumentOf w 1)) (fieldFits (ltb 2 n) t (argumentOf w 2)) (fx ∙ p) ∙ known t w n e h r f g
+tests : (d : tie.Else2) (i a : ℕ) (b : Bool) → a ≡ argumentOf (word d) i → b ≡ field (types d) (count d) i a → b ≡ test d i
+tests d i a b e h = h ∙ ap (field (types d) (count d) i) e
 
-  module _ (xt : x ≡ true) (y : Bool) (b : ℕ) (be : b ≡ argumentOf w 1) (ye : y ≡ fieldFits (ltb 1 n) t b) where
-    fy : fieldFits (ltb 1 n) t (argumentOf w 1) ≡ y
-    fy = ap (fieldFits (ltb 1 n) t) (sym be) ∙ sym ye
+left-0 : (d : tie.Else2) → Left (types d) (word d) (test d 0 ∷ test d 1 ∷ test d 2 ∷ [])
+left-0 d = fields-left (types d) (word d) _ (d .before .before .before .kind .ensures) (d .before .before .if1 .left) _
+    (d .before .result .ensures) (d .if2 .left)
 
-    no-2 : y ≡ false → false ≡ wellFormedCall t w
-    no-2 p = second-no (fieldFits (ltb 0 n) t (argumentOf w 0)) (fieldFits (ltb 1 n) t (argumentOf w 1)) (fieldFits (ltb 2 n) t (argumentOf w 2)) (fx ∙ xt) (fy ∙ p) ∙ known t w n e h r f g
+first : (c : tie.After-field-fits) → c .field-fits .result ≡ test (c .before .before) 0
+first c = tests (c .before .before) 0 _ _ (c .before .argument .ensures) (c .field-fits .ensures)
 
-    yes : y ≡ true → (z : Bool) (d : ℕ) → d ≡ argumentOf w 2 → z ≡ fieldFits (ltb 2 n) t d → z ≡ wellFormedCall t w
-    yes p z d de ze = ze ∙ ap (fieldFits (ltb 2 n) t) de ∙ third (fieldFits (ltb 0 n) t (argumentOf w 0)) (fieldFits (ltb 1 n) t (argumentOf w 1)) (fieldFits (ltb 2 n) t (argumentOf w 2)) (fx ∙ xt) (fy ∙ p) ∙ known t w n e h r f g
+left-1 : (c : tie.Else3) → let d = c .before .before .before in Left (types d) (word d) (test d 1 ∷ test d 2 ∷ [])
+left-1 c = passes (left-0 (c .before .before .before)) (first (c .before)) (c .if3 .left)
+
+second : (c : tie.After-field-fits2) → c .field-fits2 .result ≡ test (c .before .before .before .before .before) 1
+second c = tests (c .before .before .before .before .before) 1 _ _ (c .before .argument2 .ensures) (c .field-fits2 .ensures)
+
+left-2 : (c : tie.Else4) → let d = c .before .before .before .before .before .before in Left (types d) (word d) (test d 2 ∷ [])
+left-2 c = passes (left-1 (c .before .before .before)) (second (c .before)) (c .if4 .left)
 
 pub call-fits-spec : {M : Type 1} → statement M
 call-fits-spec =
     tie.close
     (tie.spec
     (λ c κs. search needs)
-    (λ c. many (c .before .before .args .types) (c .before .before .args .w) _ (c .before .kind .ensures) (c .if1 .taken))
+    (λ c. many _ (c .before .before .args .w) _ (c .before .kind .ensures) (c .if1 .taken))
     (λ c κs. search needs)
-    (λ c. unknown (c .before .before .before .before .args .types) (c .before .before .before .before .args .w) _ (c .before .before .before .kind .ensures) (c .before .before .if1 .left) _ (c .before .result .ensures) (c .if2 .taken))
+    (λ c.
+    let k = c .before .before .before in
+    unknown _ (k .before .args .w) _ (k .kind .ensures) (c .before .before .if1 .left) _ (c .before .result .ensures) (c .if2 .taken))
+    (λ c κs. search needs)
+    (λ c κs. search needs)
+    (λ c. fails (left-0 (c .before .before .before)) (first (c .before)) (c .if3 .taken))
+    (λ c κs. search needs)
+    (λ c κs. search needs)
+    (λ c. fails (left-1 (c .before .before .before)) (second (c .before)) (c .if4 .taken))
     (λ c κs. search needs)
     (λ c κs. search needs)
     (λ c.
-    let b = c .before .before .before in
-    no-1 (b .before .before .before .before .args .types) (b .before .before .before .before .args .w) _ (b .before .before .before .kind .ensures) (b .before .before .if1 .left) _ (b .before .result .ensures) (b .if2 .left) _ _ (c .before .before .argument .ensures) (c .before .field-fits .ensures) (not-true _ (c .if3 .taken)))
-    (λ c κs. search needs)
-    (λ c κs. search needs)
-    (λ c.
-    let d = c .before .before .before in
-    let b = d .before .before .before in
-    no-2 (b .before .before .before .before .args .types) (b .before .before .before .before .args .w) _ (b .before .before .before .kind .ensures) (b .before .before .if1 .left) _ (b .before .result .ensures) (b .if2 .left) _ _ (d .before .before .argument .ensures) (d .before .field-fits .ensures) (not-false _ (d .if3 .left))
-    _ _ (c .before .before .argument2 .ensures) (c .before .field-fits2 .ensures) (not-true _ (c .if4 .taken)))
-    (λ c κs. search needs)
-    (λ c κs. search needs)
-    (λ c.
-    let e = c .before .before in
-    let d = e .before .before .before in
-    let b = d .before .before .before in
-    yes (b .before .before .before .before .args .types) (b .before .before .before .before .args .w) _ (b .before .before .before .kind .ensures) (b .before .before .if1 .left) _ (b .before .result .ensures) (b .if2 .left) _ _ (d .before .before .argument .ensures) (d .before .field-fits .ensures) (not-false _ (d .if3 .left))
-    _ _ (e .before .before .argument2 .ensures) (e .before .field-fits2 .ensures) (not-false _ (e .if4 .left)) _ _ (c .before .argument3 .ensures) (c .field-fits3 .ensures)))
+    let l = c .before .before in
+    let d = l .before .before .before .before .before .before in
+    last (left-2 l) _ (tests d 2 _ _ (c .before .argument3 .ensures) (c .field-fits3 .ensures))))

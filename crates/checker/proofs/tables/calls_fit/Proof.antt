@@ -1,14 +1,11 @@
--- Every member before i passes.
-use mathlib.Core.Path.{_≡_, refl, sym, _∙_, ap}
-use mathlib.Core.Bool.{Bool, true, false, not}
-use Prim.Native.Nat.{ℕ, _≤_, _<_, _-_}
-use native.Mathlib.Omega.{arith}
+-- Every call before i passes.
+use Prim.Native.Nat.{ℕ, _-_}
+use mathlib.Core.Path.{_≡_}
 use borrow.Author.Needs.{needs}
-use borrow.Author.Tests.{eq-eqb, ne-eqb, lt-ltb, le-ltb, not-true, not-false}
-use lib.Dec.{eqb, ltb}
-use lib.ListN.{length, getD}
+use borrow.Author.Tests.{not-true, not-false}
+use lib.ListN.{length}
 use Rattle.typing.specs.TableChecks.{wellFormedCall, wellFormedCalls}
-use Rattle.checker.proofs.Every.{Passing, passing-start, passing-next, passing-not, passing-end}
+use Rattle.checker.proofs.Every.{Passing, passing-start, passing-next, passing-not, passing-end, told-true, told-false}
 use Rattle.checker.proofs.tables.calls_fit.Statement.{statement}
 use Rattle.checker.proofs.tables.calls_fit.Tie as tie
 
@@ -18,18 +15,8 @@ Inv-loop types calls i₀ i = Passing (wellFormedCall (length types)) calls i
 abbrev μ-loop : tie.MeasureT-loop
 μ-loop types calls i₀ i = length calls - i
 
-returns : tie.Need-returns Inv-loop μ-loop
-unfolding wellFormedCalls
-returns c = passing-not (c .before .before .before .before .loop .inv) _ (c .before .before .before .loop-test .taken) (c .before .call-fits .ensures) (not-true _ (c .if1 .taken))
-
-loop-again : tie.Need-loop-again Inv-loop μ-loop
-loop-again c = passing-next (c .before .before .before .before .loop .inv) _ (c .before .before .before .loop-test .taken) (c .before .call-fits .ensures) (not-false _ (c .if1 .left))
-
-returns-2 : tie.Need-returns-2 Inv-loop μ-loop
-unfolding wellFormedCalls
-returns-2 c = passing-end (c .before .loop .inv) (c .loop-test .left)
-
 pub calls-fit-spec : {M : Type 1} → statement M
+unfolding wellFormedCalls
 calls-fit-spec =
     tie.close
     (tie.spec
@@ -39,8 +26,12 @@ calls-fit-spec =
     (λ c. search needs)
     (λ c. search needs)
     (λ c κs. search needs)
-    returns
+    (λ c.
+    let t = c .before .before .before in
+    passing-not (t .before .loop .inv) (t .loop-test .taken) (told-false (c .before .call-fits .ensures) (c .if1 .taken)))
     (λ c. search needs)
     (λ c. search needs)
-    loop-again
-    returns-2)
+    (λ c.
+    let t = c .before .before .before in
+    passing-next (t .before .loop .inv) (t .loop-test .taken) (told-true (c .before .call-fits .ensures) (c .if1 .left)))
+    (λ c. passing-end (c .before .loop .inv) (c .loop-test .left)))

@@ -3,7 +3,6 @@ use mathlib.Core.Path.{_≡_, refl}
 use Prim.Native.Nat.{ℕ, _-_}
 use native.Mathlib.Omega.{arith}
 use borrow.Author.Needs.{needs}
-use borrow.Author.Tests.{not-true, not-false}
 use lib.ListN.{length}
 use Rattle.checker.proofs.Every.{Apart, apart-next, apart-not, apart-end}
 use Rattle.checker.proofs.tables.distinct.Statement.{statement}
@@ -14,12 +13,6 @@ Inv-loop types i₀ i = Apart types i
 
 abbrev μ-loop : tie.MeasureT-loop
 μ-loop types i₀ i = length types - i
-
-returns : tie.Need-returns Inv-loop μ-loop
-returns c = apart-not (c .before .before .before .before .before .loop .inv) _ (c .before .before .before .before .loop-test .taken) (c .before .absent .ensures) (not-true _ (c .if1 .taken))
-
-loop-again : tie.Need-loop-again Inv-loop μ-loop
-loop-again c = apart-next (c .before .before .before .before .before .loop .inv) _ (c .before .before .before .before .loop-test .taken) (c .before .absent .ensures) (not-false _ (c .if1 .left))
 
 pub distinct-spec : {M : Type 1} → statement M
 distinct-spec =
@@ -36,7 +29,11 @@ distinct-spec =
     (λ c. search needs)
     (λ c. search needs)
     (λ c κs. search needs)
-    returns
+    (λ c.
+    let t = c .before .before .before .before in
+    apart-not (t .before .loop .inv) (t .loop-test .taken) (c .before .absent .ensures) (c .if1 .taken))
     (λ c. search needs)
-    loop-again
+    (λ c.
+    let t = c .before .before .before .before in
+    apart-next (t .before .loop .inv) (t .loop-test .taken) (c .before .absent .ensures) (c .if1 .left))
     (λ c. apart-end (c .before .loop .inv) (c .loop-test .left)))

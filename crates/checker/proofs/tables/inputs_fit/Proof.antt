@@ -1,12 +1,10 @@
--- Every member before i passes.
-use mathlib.Core.Path.{_≡_, refl, sym, _∙_, ap}
-use mathlib.Core.Bool.{Bool, true, false, not}
-use Prim.Native.Nat.{ℕ, _≤_, _<_, _-_}
-use native.Mathlib.Omega.{arith}
+-- Every input before i is a known type.
+use Prim.Native.Nat.{ℕ, _-_}
+use mathlib.Core.Path.{_≡_}
 use borrow.Author.Needs.{needs}
-use borrow.Author.Tests.{eq-eqb, ne-eqb, lt-ltb, le-ltb}
-use lib.Dec.{eqb, ltb}
-use lib.ListN.{length, getD}
+use borrow.Author.Tests.{lt-ltb, le-ltb}
+use lib.Dec.{ltb}
+use lib.ListN.{length}
 use Rattle.typing.specs.TableChecks.{wellFormedInputs}
 use Rattle.checker.proofs.Every.{Passing, passing-start, passing-next, passing-not, passing-end}
 use Rattle.checker.proofs.tables.inputs_fit.Statement.{statement}
@@ -18,18 +16,8 @@ Inv-loop types inputs i₀ i = Passing (λ A. ltb A (length types)) inputs i
 abbrev μ-loop : tie.MeasureT-loop
 μ-loop types inputs i₀ i = length inputs - i
 
-returns : tie.Need-returns Inv-loop μ-loop
-unfolding wellFormedInputs
-returns c = passing-not (c .before .before .before .loop .inv) _ (c .before .before .loop-test .taken) refl (le-ltb _ _ (c .if1 .taken))
-
-loop-again : tie.Need-loop-again Inv-loop μ-loop
-loop-again c = passing-next (c .before .before .before .loop .inv) _ (c .before .before .loop-test .taken) refl (lt-ltb _ _ (c .if1 .left))
-
-returns-2 : tie.Need-returns-2 Inv-loop μ-loop
-unfolding wellFormedInputs
-returns-2 c = passing-end (c .before .loop .inv) (c .loop-test .left)
-
 pub inputs-fit-spec : {M : Type 1} → statement M
+unfolding wellFormedInputs
 inputs-fit-spec =
     tie.close
     (tie.spec
@@ -38,8 +26,8 @@ inputs-fit-spec =
     (λ c. passing-start)
     (λ c. search needs)
     (λ c. search needs)
-    returns
+    (λ c. let t = c .before .before in passing-not (t .before .loop .inv) (t .loop-test .taken) (le-ltb _ _ (c .if1 .taken)))
     (λ c. search needs)
     (λ c. search needs)
-    loop-again
-    returns-2)
+    (λ c. let t = c .before .before in passing-next (t .before .loop .inv) (t .loop-test .taken) (lt-ltb _ _ (c .if1 .left)))
+    (λ c. passing-end (c .before .loop .inv) (c .loop-test .left)))

@@ -1,16 +1,13 @@
--- Every member before i passes.
-use mathlib.Core.Path.{_≡_, refl, sym, _∙_, ap}
-use mathlib.Core.Bool.{Bool, true, false, not}
+-- Every word before i passes.
+use Prim.Native.Nat.{ℕ, _-_}
+use mathlib.Core.Path.{_≡_}
 use mathlib.Core.List.{[]}
-use Prim.Native.Nat.{ℕ, _≤_, _<_, _-_}
-use native.Mathlib.Omega.{arith}
 use borrow.Author.Needs.{needs}
-use borrow.Author.Tests.{eq-eqb, ne-eqb, lt-ltb, le-ltb, not-true, not-false}
-use lib.Dec.{eqb, ltb}
-use lib.ListN.{length, getD}
-use Rattle.typing.specs.TermChecks.{wellFormedWord, wellFormedWords}
+use borrow.Author.Tests.{not-true, not-false}
+use lib.ListN.{length}
 use Rattle.syntax.specs.Tables.{over}
-use Rattle.checker.proofs.Every.{Passing, passing-start, passing-next, passing-not, passing-end}
+use Rattle.typing.specs.TermChecks.{wellFormedWord, wellFormedWords}
+use Rattle.checker.proofs.Every.{Passing, passing-start, passing-next, passing-not, passing-end, told-true, told-false}
 use Rattle.checker.proofs.words.words_fit.Statement.{statement}
 use Rattle.checker.proofs.words.words_fit.Tie as tie
 
@@ -20,18 +17,8 @@ Inv-loop types calls term i₀ i = Passing (wellFormedWord (over types calls [])
 abbrev μ-loop : tie.MeasureT-loop
 μ-loop types calls term i₀ i = length term - i
 
-returns : tie.Need-returns Inv-loop μ-loop
-unfolding wellFormedWords
-returns c = passing-not (c .before .before .before .before .loop .inv) _ (c .before .before .before .loop-test .taken) (c .before .word-fits .ensures) (not-true _ (c .if1 .taken))
-
-loop-again : tie.Need-loop-again Inv-loop μ-loop
-loop-again c = passing-next (c .before .before .before .before .loop .inv) _ (c .before .before .before .loop-test .taken) (c .before .word-fits .ensures) (not-false _ (c .if1 .left))
-
-returns-2 : tie.Need-returns-2 Inv-loop μ-loop
-unfolding wellFormedWords
-returns-2 c = passing-end (c .before .loop .inv) (c .loop-test .left)
-
 pub words-fit-spec : {M : Type 1} → statement M
+unfolding wellFormedWords
 words-fit-spec =
     tie.close
     (tie.spec
@@ -41,8 +28,12 @@ words-fit-spec =
     (λ c. search needs)
     (λ c. search needs)
     (λ c κs. search needs)
-    returns
+    (λ c.
+    let t = c .before .before .before in
+    passing-not (t .before .loop .inv) (t .loop-test .taken) (told-false (c .before .word-fits .ensures) (c .if1 .taken)))
     (λ c. search needs)
     (λ c. search needs)
-    loop-again
-    returns-2)
+    (λ c.
+    let t = c .before .before .before in
+    passing-next (t .before .loop .inv) (t .loop-test .taken) (told-true (c .before .word-fits .ensures) (c .if1 .left)))
+    (λ c. passing-end (c .before .loop .inv) (c .loop-test .left)))
