@@ -72,13 +72,16 @@ pub +infer-spec : {M : Type 1} → statement M
     (λ c κs. search needs)
     (λ c κs. search needs)
     (λ c. refl)
-    (λ c. (refl, typed-var _ _ _ _ _ (sym (c .before .before .before .before .kind .ensures) ∙ c .before .before .before .if1 .taken) (c .before .number .ensures) (c .variable .ensures)))
+    (λ c.
+    let k = c .before .before .before .before .kind .ensures in
+    (refl, typed-var _ _ _ _ _ (sym k ∙ c .before .before .before .if1 .taken) (c .before .number .ensures) (c .variable .ensures)))
     (λ c κs. search needs)
     (λ c. (refl, too-many _ _ _ _ (c .before .part-count .ensures .0) (c .if2 .taken)))
     (λ c.
-    let k = c .before .before .before .kind .ensures in
-    let p = c .before .before .before .before .before .before .before .before .before .before .pre .1 in
-    turn-enter _ _ _ _ _ _ _ _ refl (λ z. c .before .before .if1 .left (k ∙ z)) (c .before .part-count .ensures .0) (c .if2 .left) (p .0) (p .1))
+    let k = c .before .before .before in
+    let pre = k .before .before .before .before .before .before .before .pre .1 in
+    turn-enter _ _ _ _ _ _ _ _ refl (λ z. c .before .before .if1 .left (k .kind .ensures ∙ z)) (c .before .part-count .ensures .0)
+    (c .if2 .left) (pre .0) (pre .1))
     (λ c. search needs)
     (λ c κs. search needs)
     (λ c. search needs)
@@ -90,35 +93,52 @@ pub +infer-spec : {M : Type 1} → statement M
     (λ c. search needs)
     (λ c. search needs)
     (λ c κs.
-    let turn = c .before .before .before .before .before .loop .inv in
-    let g = turn .going in
-    (omega (arith, g .low, g .high, from-length (c .before .before .before .before .before .before .before .before .before .before .before .before .before .before .before .before .args .term .now) (c .before .before .before .before .before .loop .at)), (part-fits _ _ _ _ _ _ turn _ (c .before .before .before .binder .result) (c .before .before .binders .ensures .1), part-starts _ _ g (c .before .before .before .before .loop-test .taken))))
-    (λ c. search needs)
-    (λ c. same-length _ _ _ _ _ _ (c .before .before .before .before .before .before .before .before .before .before .loop .inv) (c .before .before .before .before .before .before .before .before .binder .result) _ (c .before .before .before .before .infer .kept .1 .1 .1 .0))
-    (λ c.
-    let turn = c .before .before .before .before .before .before .before .before .before .before .loop .inv in
-    let more = c .before .before .before .before .before .before .before .before .before .loop-test .taken in
-    let bs = of-word _ _ _ _ (c .before .before .before .before .before .before .before .before .before .before .before .before .before .before .kind .ensures) (c .before .before .before .before .before .before .before .binders .ensures) in
-    let B = c .before .before .before .before .before .before .before .before .binder .ensures in
-    turn-fail _ _ _ _ _ _ turn more _ _ bs B _ _ (c .before .before .before .before .infer .ensures) (c .enum-told .given .1))
-    (λ c. search needs)
-    (λ c. search needs)
+    let b = c .before .before in
+    let turn = b .before .before in
+    let t = turn .before .loop .inv in
+    let g = t .going in
+    let k = turn .before .before .before .before .before in
+    let start = k .before .before .before .before .before .before .before in
+    let left = from-length (start .args .term .now) (turn .before .loop .at) in
+    let room = part-fits _ _ _ _ _ _ t _ (b .before .binder .result) (b .binders .ensures .1) in
+    (omega (arith, g .low, g .high, left), (room, part-starts _ _ g (turn .loop-test .taken))))
     (λ c. search needs)
     (λ c.
-    let turn = c .before .before .before .before .before .before .before .before .before .before .before .loop .inv in
-    let more = c .before .before .before .before .before .before .before .before .before .before .loop-test .taken in
-    let bs = of-word _ _ _ _ (c .before .before .before .before .before .before .before .before .before .before .before .before .before .before .before .kind .ensures) (c .before .before .before .before .before .before .before .before .binders .ensures) in
-    let B = c .before .before .before .before .before .before .before .before .before .binder .ensures in
-    let term = c .before .before .before .before .before .before .before .before .before .before .before .before .before .before .before .before .before .before .before .before .before .before .good .1 .1 .1 .1 .1 in
-    omega (arith, term, turn-reached _ _ _ _ _ _ turn more _ _ bs B _ _ (c .before .before .before .before .before .infer .ensures) _ _ (c .before .r .given .1)))
+    let i = c .before .before .before .before in
+    let b = i .before .before .before in
+    same-length _ _ _ _ _ _ (b .before .before .before .loop .inv) (b .before .binder .result) _ (i .infer .kept .1 .1 .1 .0))
+    (λ c.
+    let i = c .before .before .before .before in
+    let b = i .before .before .before in
+    let turn = b .before .before in
+    let k = turn .before .before .before .before .before in
+    let binders = of-word _ _ _ _ (k .kind .ensures) (b .binders .ensures) in
+    turn-fail _ _ _ _ _ _ (turn .before .loop .inv) (turn .loop-test .taken) _ _ binders (b .before .binder .ensures) _ _ (i .infer .ensures)
+    (c .enum-told .given .1))
+    (λ c. search needs)
     (λ c. search needs)
     (λ c. search needs)
     (λ c.
-    let turn = c .before .before .before .before .before .before .before .before .before .before .before .loop .inv in
-    let more = c .before .before .before .before .before .before .before .before .before .before .loop-test .taken in
-    let bs = of-word _ _ _ _ (c .before .before .before .before .before .before .before .before .before .before .before .before .before .before .before .kind .ensures) (c .before .before .before .before .before .before .before .before .binders .ensures) in
-    let B = c .before .before .before .before .before .before .before .before .before .binder .ensures in
-    turn-next _ _ _ _ _ _ turn more _ _ bs B _ _ (c .before .before .before .before .before .infer .ensures) _ _ (c .before .r .given .1) (c .before .before .before .before .before .infer .kept .1 .1 .1 .0))
+    let i = c .before .before .before .before .before in
+    let b = i .before .before .before in
+    let turn = b .before .before in
+    let k = turn .before .before .before .before .before in
+    let binders = of-word _ _ _ _ (k .kind .ensures) (b .binders .ensures) in
+    let term = k .before .before .before .before .before .before .before .good .1 .1 .1 .1 .1 in
+    let reached =
+        turn-reached _ _ _ _ _ _ (turn .before .loop .inv) (turn .loop-test .taken) _ _ binders (b .before .binder .ensures) _ _
+        (i .infer .ensures) _ _ (c .before .r .given .1) in
+    omega (arith, term, reached))
+    (λ c. search needs)
+    (λ c. search needs)
+    (λ c.
+    let i = c .before .before .before .before .before in
+    let b = i .before .before .before in
+    let turn = b .before .before in
+    let k = turn .before .before .before .before .before in
+    let binders = of-word _ _ _ _ (k .kind .ensures) (b .binders .ensures) in
+    turn-next _ _ _ _ _ _ (turn .before .loop .inv) (turn .loop-test .taken) _ _ binders (b .before .binder .ensures) _ _ (i .infer .ensures)
+    _ _ (c .before .r .given .1) (i .infer .kept .1 .1 .1 .0))
     (λ c. search needs)
     (λ c. search needs)
     (λ c. search needs)

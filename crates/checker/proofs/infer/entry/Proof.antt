@@ -11,4 +11,6 @@ past : (xs : List ℕ) (n : ℕ) → length xs ≤ n → 0 ≡ getD xs n 0
 past xs n h = sym (List·getD-eq-default xs 0 h)
 
 pub entry-spec : {M : Type 1} → statement M
-entry-spec = tie.close (tie.spec (λ c. search needs) (λ c. search needs) (λ c. search needs) (λ c. past (c .before .args .table .now) _ (c .if1 .left)))
+entry-spec =
+    tie.close
+    (tie.spec (λ c. search needs) (λ c. search needs) (λ c. search needs) (λ c. past (c .before .args .table .now) _ (c .if1 .left)))

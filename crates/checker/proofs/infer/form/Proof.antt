@@ -1,5 +1,5 @@
 -- By the ranges.
-use mathlib.Core.Path.{_≡_, refl}
+use mathlib.Core.Path.{_≡_}
 use Prim.Native.Nat.{ℕ, _≤_, _<_}
 use native.Mathlib.Omega.{arith}
 use borrow.Author.Tests.{le-leb, lt-leb}
@@ -17,4 +17,9 @@ high : (k : ℕ) → 8 ≤ k → 3 ≡ formOf k
 high k h = simp (lt-leb k 3 (omega arith), lt-leb k 7 (omega arith))
 
 pub form-spec : {M : Type 1} → statement M
-form-spec = tie.close (tie.spec (λ c. low (c .before .args .k) (c .if1 .taken)) (λ c. middle (c .before .before .args .k) (c .before .if1 .left) (c .if2 .taken)) (λ c. high (c .before .before .args .k) (c .if2 .left)))
+form-spec =
+    tie.close
+    (tie.spec
+    (λ c. low (c .before .args .k) (c .if1 .taken))
+    (λ c. middle (c .before .before .args .k) (c .before .if1 .left) (c .if2 .taken))
+    (λ c. high (c .before .before .args .k) (c .if2 .left)))

@@ -62,25 +62,50 @@ pub +scoped-spec : {M : Type 1} → statement M
     (λ c. omega (arith, not-empty (c .before .before .before .pre .1 .1)))
     (λ c κs. search needs)
     (λ c κs. search needs)
-    (λ c. var-in _ _ _ _ (sym (c .before .before .before .kind .ensures) ∙ c .before .before .if1 .taken) (c .before .number .ensures) (c .if2 .taken))
-    (λ c. var-out _ _ _ _ (sym (c .before .before .before .kind .ensures) ∙ c .before .before .if1 .taken) (c .before .number .ensures) (c .if2 .left))
+    (λ c.
+    let k = c .before .before .before .kind .ensures in
+    var-in _ _ _ _ (sym k ∙ c .before .before .if1 .taken) (c .before .number .ensures) (c .if2 .taken))
+    (λ c.
+    let k = c .before .before .before .kind .ensures in
+    var-out _ _ _ _ (sym k ∙ c .before .before .if1 .taken) (c .before .number .ensures) (c .if2 .left))
     (λ c κs. search needs)
-    (λ c. scoped-enter _ _ _ _ _ (c .before .before .kind .ensures) (c .before .if1 .left) (c .part-count .ensures .0) (c .before .before .before .before .before .before .pre .1 .1))
+    (λ c.
+    let k = c .before .before in
+    let starts = k .before .before .before .before .pre .1 .1 in
+    scoped-enter _ _ _ _ _ (k .kind .ensures) (c .before .if1 .left) (c .part-count .ensures .0) starts)
     (λ c κs. search needs)
-    (λ c. omega (arith, c .before .before .before .before .before .before .before .before .before .pre .1 .0, c .binders .ensures .1))
+    (λ c.
+    let k = c .before .before .before .before .before in
+    let room = k .before .before .before .before .pre .1 .0 in
+    omega (arith, room, c .binders .ensures .1))
     (λ c. search needs)
     (λ c. search needs)
     (λ c. search needs)
     (λ c. search needs)
     (λ c κs.
-    let g = c .before .before .before .loop .inv in
-    let short = from-length (c .before .before .before .before .before .before .before .before .before .before .args .term .now) (c .before .before .before .loop .at) in
-    (omega (arith, g .low, g .high, short), (omega (arith, g .low, g .high, short, c .before .before .before .before .before .before .before .before .before .before .pre .1 .0, c .before .binders .ensures .1), part-starts _ _ g (c .before .before .loop-test .taken))))
-    (λ c. scoped-fail _ _ _ (c .before .before .before .before .before .loop .inv) (c .before .before .before .before .loop-test .taken) _ (of-part _ _ _ _ _ _ _ (c .before .before .before .binders .ensures .0) (c .before .scoped .ensures)) (c .if3 .taken))
+    let turn = c .before .before in
+    let g = turn .before .loop .inv in
+    let k = turn .before .before .before .before in
+    let start = k .before .before .before .before in
+    let left = from-length (start .args .term .now) (turn .before .loop .at) in
+    let b = c .before .binders .ensures .1 in
+    (omega (arith, g .low, g .high, left),
+    (omega (arith, g .low, g .high, left, start .pre .1 .0, b), part-starts _ _ g (turn .loop-test .taken))))
     (λ c.
-    let a = of-part _ _ _ _ _ _ _ (c .before .before .before .binders .ensures .0) (c .before .scoped .ensures) in
-    omega (arith, scoped-reached _ _ _ (c .before .before .before .before .before .loop .inv) (c .before .before .before .before .loop-test .taken) _ a (c .if3 .left)))
+    let b = c .before .before .before in
+    let turn = b .before in
+    let part = of-part _ _ _ _ _ _ _ (b .binders .ensures .0) (c .before .scoped .ensures) in
+    scoped-fail _ _ _ (turn .before .loop .inv) (turn .loop-test .taken) _ part (c .if3 .taken))
+    (λ c.
+    let b = c .before .before .before in
+    let turn = b .before in
+    let part = of-part _ _ _ _ _ _ _ (b .binders .ensures .0) (c .before .scoped .ensures) in
+    omega (arith, scoped-reached _ _ _ (turn .before .loop .inv) (turn .loop-test .taken) _ part (c .if3 .left)))
     (λ c. search needs)
     (λ c. search needs)
-    (λ c. scoped-next _ _ _ (c .before .before .before .before .before .loop .inv) (c .before .before .before .before .loop-test .taken) _ (of-part _ _ _ _ _ _ _ (c .before .before .before .binders .ensures .0) (c .before .scoped .ensures)) (c .if3 .left))
+    (λ c.
+    let b = c .before .before .before in
+    let turn = b .before in
+    let part = of-part _ _ _ _ _ _ _ (b .binders .ensures .0) (c .before .scoped .ensures) in
+    scoped-next _ _ _ (turn .before .loop .inv) (turn .loop-test .taken) _ part (c .if3 .left))
     (λ c. scoped-leave _ _ _ (c .before .loop .inv) (c .loop-test .left))
