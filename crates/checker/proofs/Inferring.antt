@@ -71,14 +71,15 @@ module _ (tables : Tables) (Γ : Context) (words : List ℕ) where
     -- before the first part
     pub typed-enter : (n : ℕ) → (kindOf w ≡ 0 → ⊥) → n ≡ partCount (tables .calls) w → n ≤ 3 → Starts (tables .calls) words
         → Going (tables .calls) words (ToCome tables Γ w (0 ∷ 0 ∷ 0 ∷ []) 0) n 1 0
-    typed-enter n z ne few s = enter (tables .calls) words (ToCome tables Γ w (0 ∷ 0 ∷ 0 ∷ []) 0) n s (ne ∙ ap (partCount (tables .calls)) we)
-        λ t rest h.
+    typed-enter n z ne few s =
+        let ne₀ : n ≡ partCount (tables .calls) (getD words 0 0) = ne ∙ ap (partCount (tables .calls)) we in
+        enter (tables .calls) words (ToCome tables Γ w (0 ∷ 0 ∷ 0 ∷ []) 0) n s ne₀ λ t rest h.
         let f = front-of h in
         let k : node t .kind ≡ kindOf w = sym (ap kindOf we ∙ f .kind) in
         let m : node t .number ≡ numberOf w = sym (ap numberOf we ∙ f .number) in
         let A : node t .type ≡ typeOf w = sym (ap typeOf we ∙ f .type) in
         record {
-          same = rw (k, m, A) at (infer-node tables t Γ (h .shaped) (λ y. z (sym k ∙ y)) (omega (arith, ne, ap (partCount (tables .calls)) we, f .parts)));
+          same = rw (k, m, A) at (infer-node tables t Γ (h .shaped) (λ y. z (sym k ∙ y)) (omega (arith, ne₀, few, f .parts)));
         }
 
     module _ {found : List ℕ} {n at j : ℕ} (g : Going (tables .calls) words (ToCome tables Γ w found j) n at j) where
@@ -97,7 +98,8 @@ module _ (tables : Tables) (Γ : Context) (words : List ℕ) where
         of-part : (t u : Term) (us : Terms) (o : Option ℕ) → ToCome tables Γ w found j t (arg u us)
             → infer tables u (inside tables (kindOf w) (typeOf w) Γ j found) ≡ o
             → infer tables t Γ
-            ≡ ((o >>= λ B. inferParts tables (kindOf w) (typeOf w) Γ us (j + 1) (set found j B)) >>= nodeType tables (kindOf w) (numberOf w) (typeOf w))
+            ≡ ((o >>= λ B. inferParts tables (kindOf w) (typeOf w) Γ us (j + 1) (set found j B))
+            >>= nodeType tables (kindOf w) (numberOf w) (typeOf w))
         unfolding inferParts
         of-part t u us o q e = q .same
             ∙ ap₂ {C = Option ℕ} (λ (p : Option ℕ) (i : ℕ). (p >>= λ B. inferParts tables (kindOf w) (typeOf w) Γ us i (set found j B))

@@ -52,22 +52,27 @@ pub scope-set : (inputs stack : List ℕ) (d n B : ℕ) → d ≤ n → scope in
 unfolding scope
 scope-set inputs stack zero n B h = refl
 scope-set inputs stack (suc d) n B h =
-    ap (λ (x : ℕ). x ∷ scope inputs (set stack n B) d) (getD-set-other stack n d B 0 (λ e. absurd (omega arith))) ∙ ap {B = List ℕ} (λ l. getD stack d 0 ∷ l) (scope-set inputs stack d n B (omega arith))
+    ap (λ (x : ℕ). x ∷ scope inputs (set stack n B) d) (getD-set-other stack n d B 0 (λ e. absurd (omega arith)))
+    ∙ ap {B = List ℕ} (λ l. getD stack d 0 ∷ l) (scope-set inputs stack d n B (omega arith))
 
 -- so many binders more
 abbrev pub extend : ℕ → ℕ → Context → Context
 extend zero B Γ = Γ
 extend (suc n) B Γ = B ∷ Γ
 
-pub scope-push : (inputs stack : List ℕ) (d b B : ℕ) → d < length stack → b ≤ 1 → scope inputs (set stack d B) (d + b) ≡ extend b B (scope inputs stack d)
+-- a binder's type on top of the stack, for a part under none or one
+pub scope-push : (inputs stack : List ℕ) (d b B : ℕ) → d < length stack → b ≤ 1
+    → scope inputs (set stack d B) (d + b) ≡ extend b B (scope inputs stack d)
 unfolding scope
 scope-push inputs stack d zero B h l = ap (scope inputs (set stack d B)) (add-zero d) ∙ scope-set inputs stack d d B (omega arith)
 scope-push inputs stack d (suc zero) B h l =
-    ap (scope inputs (set stack d B)) (add-one d) ∙ ap (λ (x : ℕ). x ∷ scope inputs (set stack d B) d) (getD-set-same stack d B 0 h) ∙ ap {B = List ℕ} (λ g. B ∷ g) (scope-set inputs stack d d B (omega arith))
+    ap (scope inputs (set stack d B)) (add-one d) ∙ ap (λ (x : ℕ). x ∷ scope inputs (set stack d B) d) (getD-set-same stack d B 0 h)
+    ∙ ap {B = List ℕ} (λ g. B ∷ g) (scope-set inputs stack d d B (omega arith))
 scope-push inputs stack d (suc (suc b)) B h l = absurd (omega arith)
 
 -- what a call leaves of a deeper scope it leaves of a shallower one
-pub scope-kept : (inputs s s′ : List ℕ) (d b : ℕ) → b ≤ 1 → scope inputs s′ (d + b) ≡ scope inputs s (d + b) → scope inputs s′ d ≡ scope inputs s d
+pub scope-kept : (inputs s s′ : List ℕ) (d b : ℕ) → b ≤ 1 → scope inputs s′ (d + b) ≡ scope inputs s (d + b)
+    → scope inputs s′ d ≡ scope inputs s d
 unfolding scope
 scope-kept inputs s s′ d zero l e = ap (scope inputs s′) (sym (add-zero d)) ∙ e ∙ ap (scope inputs s) (add-zero d)
 scope-kept inputs s s′ d (suc zero) l e = ap tail-of (ap (scope inputs s′) (sym (add-one d)) ∙ e ∙ ap (scope inputs s) (add-one d))

@@ -6,13 +6,14 @@ use Prim.Native.Nat.{ℕ, suc, _≤_}
 use native.Mathlib.Omega.{arith}
 use lib.Dec.{T, leb}
 use lib.ListN.{length}
-use borrow.Author.Tests.{le-leb, leb-true, not-true, not-false}
+use borrow.Author.Tests.{le-leb, leb-true}
 use Rattle.syntax.specs.Tables.{Tables}
 use Rattle.syntax.specs.Decoding.{decode}
 use Rattle.typing.specs.Infer.{infer}
 use Rattle.typing.specs.TableChecks.{lengthsFit}
 use Rattle.typing.specs.TermChecks.{wellFormedWords, scoped}
 use Rattle.typing.specs.Refusals.{Verdict, refused, accepted, _>>=_, require, provide, Typed, elaborate, otherLimit}
+use Rattle.checker.proofs.Every.{told-true, told-false}
 use Rattle.checker.specs.Places.{firstFailed, tableTests, tableRefusal}
 
 -- a verdict after tests, numbered from n
@@ -78,10 +79,10 @@ all-left limit tables words = record { same = refl }
 
 module _ {limit : ℕ} {tables : Tables} {words : List ℕ} {n : ℕ} {a : Bool} {bs : List Bool} (p : Left limit tables words n (a ∷ bs)) where
   pub passes : {b : Bool} → b ≡ a → not b ≡ false → Left limit tables words (suc n) bs
-  passes e f = record { same = p .same ∙ ap (λ (x : Bool). firstFailed n (x ∷ bs)) (sym e ∙ not-false _ f) }
+  passes e f = record { same = p .same ∙ ap (λ (x : Bool). firstFailed n (x ∷ bs)) (told-true e f) }
 
   pub fails : {b : Bool} → b ≡ a → not b ≡ true → n ≡ tableRefusal limit tables words
-  fails e f = sym (p .same ∙ ap (λ (x : Bool). firstFailed n (x ∷ bs)) (sym e ∙ not-true _ f))
+  fails e f = sym (p .same ∙ ap (λ (x : Bool). firstFailed n (x ∷ bs)) (told-false e f))
 
 -- what the last three places lean on
 pub record Ready (limit : ℕ) (tables : Tables) (words : List ℕ) : Type 0 where
@@ -94,8 +95,11 @@ both true b e = (refl, e)
 both false b e = absurd (subst T (sym e) tt)
 
 module _ (limit : ℕ) (tables : Tables) (words : List ℕ) where
+  abbrev two-fit : Bool
+  two-fit = leb (length (tables .types)) 1024 && leb (length (tables .calls)) 1024
+
   abbrev tables-fit : Bool
-  tables-fit = leb (length (tables .types)) 1024 && leb (length (tables .calls)) 1024 && leb (length (tables .inputs)) 256
+  tables-fit = two-fit && leb (length (tables .inputs)) 256
 
   -- the lengths that are asked for
   record Lengths : Type 0 where
@@ -115,7 +119,7 @@ module _ (limit : ℕ) (tables : Tables) (words : List ℕ) where
   ready e =
       let p = each 0 (tableTests limit tables words) e in
       let l = lengths (p .0) in
-      let i = both (leb (length (tables .types)) 1024 && leb (length (tables .calls)) 1024) (leb (length (tables .inputs)) 256) (l .ofTables) in
+      let i = both two-fit (leb (length (tables .inputs)) 256) (l .ofTables) in
       record { inputs = leb-true (length (tables .inputs)) 256 (i .1); short = l .ofWords; formed = p .1 .1 .1 .1 .1 .0 }
 
   -- what passes at a limit passes at a higher one

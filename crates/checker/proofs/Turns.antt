@@ -62,13 +62,15 @@ module _ (types calls inputs stack₀ : List ℕ) (depth : ℕ) (words : List �
 
     -- no part is left
     pub turn-leave : (r : Inferred) → n ≤ j
-        → r ≡ inferredOf (nodeType (over types calls []) (kindOf w) (numberOf w) (typeOf w) (getD found 0 0 ∷ getD found 1 0 ∷ getD found 2 0 ∷ [])) at
+        → r ≡ inferredOf
+        (nodeType (over types calls []) (kindOf w) (numberOf w) (typeOf w) (getD found 0 0 ∷ getD found 1 0 ∷ getD found 2 0 ∷ [])) at
         → Answers types calls inputs stack₀ depth words stack r
     unfolding nodeType callType
     turn-leave r ge e = (g .kept, typed-leave tables Γ words w (g .word) (g .going) r ge (g .three) e)
 
     -- a part typed: b binders of type B over the scope of the node
-    module _ (lt : j < n) (b B : ℕ) (be : (b ≡ bindersAt (kindOf w) j) × (b ≤ 1)) (Be : B ≡ binderType types (kindOf w) (typeOf w) j (getD found 0 0))
+    module _ (lt : j < n) (b B : ℕ) (be : (b ≡ bindersAt (kindOf w) j) × (b ≤ 1))
+        (Be : B ≡ binderType types (kindOf w) (typeOf w) j (getD found 0 0))
         (r : Inferred) (stack′ : List ℕ) (a : Answers types calls inputs (set stack depth B) (depth + b) (from words at) stack′ r) where
       context : scope inputs (set stack depth B) (depth + b) ≡ inside tables (kindOf w) (typeOf w) Γ j found
       context =

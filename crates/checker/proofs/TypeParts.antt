@@ -27,9 +27,11 @@ module _ (tables : Tables) (k A X Y : ℕ) where
   told false w e = absurd (Option·none-ne-some (X, Y) e)
 
   pub parts-are : components tables k A ≡ some (X, Y) → (X ≡ leftOf word) × (Y ≡ rightOf word)
-  parts-are e = go (ltb A (length (tables .types))) refl
+  parts-are e = go (ltb A n) refl
     where
-      go : (b : Bool) → ltb A (length (tables .types)) ≡ b → (X ≡ leftOf word) × (Y ≡ rightOf word)
-      go true h = told (eqb (kindOf word) k) word (sym (ap (fieldsOf k) (there (tables .types) A (ltb-true A (length (tables .types)) h))) ∙ e)
-      go false h = absurd (Option·none-ne-some (X, Y)
-          (sym (ap (fieldsOf k) (not-there (tables .types) A (ltb-false A (length (tables .types)) h))) ∙ e))
+      n : ℕ
+      n = length (tables .types)
+
+      go : (b : Bool) → ltb A n ≡ b → (X ≡ leftOf word) × (Y ≡ rightOf word)
+      go true h = told (eqb (kindOf word) k) word (sym (ap (fieldsOf k) (there (tables .types) A (ltb-true A n h))) ∙ e)
+      go false h = absurd (Option·none-ne-some (X, Y) (sym (ap (fieldsOf k) (not-there (tables .types) A (ltb-false A n h))) ∙ e))

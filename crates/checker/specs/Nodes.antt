@@ -21,7 +21,10 @@ componentsOf (some (X, Y)) = Of X Y
 -- the type of the variable that a node binds in its part j: a function's argument, a let's bound part, the halves of a sum.
 -- A is the node's type field, F the type of its first part.
 unfoldable pub binderType : List ℕ → ℕ → ℕ → ℕ → ℕ → ℕ
-binderType types k A j F = cond (eqb k 2) (leftOf (getD types A 0)) (cond (eqb k 4) F (cond (leb j 1) (leftOf (getD types F 0)) (rightOf (getD types F 0))))
+binderType types k A j F =
+    cond (eqb k 2) (leftOf (getD types A 0))
+    (cond (eqb k 4) F
+    (cond (leb j 1) (leftOf (getD types F 0)) (rightOf (getD types F 0))))
 
 -- the kind of type that a node is about: function, product or sum
 abbrev pub formOf : ℕ → ℕ

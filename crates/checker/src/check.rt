@@ -5,24 +5,32 @@ ghost use Rattle.syntax.specs.Tables.{over};
 ghost use Rattle.typing.specs.Refusals.{elaborate, otherLimit};
 ghost use Rattle.outcomes.specs.Check.{checkedOf, checkOutcome};
 ghost use Rattle.checker.specs.Places.{tableRefusal};
-use outcomes::Checked;
+use crate::infer::Inferred;
+use crate::infer::infer;
+use crate::scope::scoped;
+use crate::tables::calls_fit;
+use crate::tables::distinct;
+use crate::tables::inputs_fit;
 use crate::tables::lengths_fit;
 use crate::tables::types_fit;
-use crate::tables::distinct;
-use crate::tables::calls_fit;
-use crate::tables::inputs_fit;
-use crate::words::words_fit;
 use crate::words::is_whole;
-use crate::scope::scoped;
-use crate::infer::infer;
-use crate::infer::Inferred;
+use crate::words::words_fit;
+use outcomes::Checked;
 
-// the term words that a call that normalizes takes, and any other
+// the most term words that a call that normalizes takes
 pub const NORMALIZE_LIMIT: usize = 4096;
+
+// the most that any other call takes
 pub const OTHER_LIMIT: usize = 8192;
 
 // refusals 1 to 6: the number of the first place that fails, 0 if none does
-pub fn table_refusal(limit: usize, types: &[u64], calls: &[u64], inputs: &[u64], term: &[u64]) -> u32
+pub fn table_refusal(
+    limit: usize,
+    types: &[u64],
+    calls: &[u64],
+    inputs: &[u64],
+    term: &[u64],
+) -> u32
     ensures { λ r. ⌜ r ≡ tableRefusal limit (over (now (types .entry)) (now (calls .entry)) (now (inputs .entry))) (now (term .entry)) ⌝ }
 {
     if !lengths_fit(limit, types, calls, inputs, term) {
@@ -49,7 +57,9 @@ pub fn table_refusal(limit: usize, types: &[u64], calls: &[u64], inputs: &[u64],
 // refusals 7 to 9 where 1 to 6 pass, or the term's type
 pub fn term_verdict(types: &[u64], calls: &[u64], inputs: &[u64], term: &[u64]) -> Checked
     requires { ⌜ tableRefusal otherLimit (over (now types) (now calls) (now inputs)) (now term) ≡ 0 ⌝ }
-    ensures { λ r. ⌜ r ≡ checkedOf (elaborate otherLimit (over (now (types .entry)) (now (calls .entry)) (now (inputs .entry))) (now (term .entry))) ⌝ }
+    ensures { λ r. ⌜
+        r ≡ checkedOf (elaborate otherLimit (over (now (types .entry)) (now (calls .entry)) (now (inputs .entry))) (now (term .entry)))
+        ⌝ }
 {
     if !is_whole(calls, term) {
         return Checked { refusal: 7, ty: 0 };
@@ -68,11 +78,16 @@ pub fn term_verdict(types: &[u64], calls: &[u64], inputs: &[u64], term: &[u64]) 
 // refusals 1 to 9 in their order for a term of up to so many words, or the term's type
 pub fn verdict(limit: usize, types: &[u64], calls: &[u64], inputs: &[u64], term: &[u64]) -> Checked
     requires { ⌜ limit ≤ otherLimit ⌝ }
-    ensures { λ r. ⌜ r ≡ checkedOf (elaborate limit (over (now (types .entry)) (now (calls .entry)) (now (inputs .entry))) (now (term .entry))) ⌝ }
+    ensures { λ r. ⌜
+        r ≡ checkedOf (elaborate limit (over (now (types .entry)) (now (calls .entry)) (now (inputs .entry))) (now (term .entry)))
+        ⌝ }
 {
     let refusal = table_refusal(limit, types, calls, inputs, term);
     if refusal != 0 {
-        return Checked { refusal: refusal, ty: 0 };
+        return Checked {
+            refusal: refusal,
+            ty: 0,
+        };
     }
     term_verdict(types, calls, inputs, term)
 }

@@ -171,7 +171,10 @@ fn judge(k: u64, ty: u64, a: u64, b: u64, c: u64, x: u64, y: u64, words: usize) 
 
 // a node's type from its parts' types, variables apart
 fn node_type(types: &[u64], calls: &[u64], w: u64, a: u64, b: u64, c: u64, words: usize) -> Inferred
-    ensures { λ r. ⌜ r ≡ inferredOf (nodeType (over (now (types .entry)) (now (calls .entry)) []) (kindOf w) (numberOf w) (typeOf w) (a ∷ b ∷ c ∷ [])) words ⌝ }
+    ensures { λ r. ⌜
+        r ≡ inferredOf
+        (nodeType (over (now (types .entry)) (now (calls .entry)) []) (kindOf w) (numberOf w) (typeOf w) (a ∷ b ∷ c ∷ [])) words
+        ⌝ }
 {
     let k = parts::fields::kind(w);
     if k == 1 {
@@ -191,11 +194,21 @@ fn node_type(types: &[u64], calls: &[u64], w: u64, a: u64, b: u64, c: u64, words
 }
 
 // 9: the type of the first term, with its number of words; the types of its binders go on the stack from the depth on
-pub fn infer(types: &[u64], calls: &[u64], inputs: &[u64], stack: &mut [u64], depth: usize, term: &[u64]) -> Inferred
+pub fn infer(
+    types: &[u64],
+    calls: &[u64],
+    inputs: &[u64],
+    stack: &mut [u64],
+    depth: usize,
+    term: &[u64],
+) -> Inferred
     requires room { ⌜ depth + length (now term) ≤ length (now stack) ⌝ }
     requires starts { ⌜ Starts (now calls) (now term) ⌝ }
     ensures kept { λ _. ⌜ scope (now (inputs .entry)) (now (stack .exit)) depth ≡ scope (now (inputs .entry)) (now (stack .entry)) depth ⌝ }
-    ensures typed { λ r. ⌜ Infers (over (now (types .entry)) (now (calls .entry)) (now (inputs .entry))) (scope (now (inputs .entry)) (now (stack .entry)) depth) (now (term .entry)) r ⌝ }
+    ensures typed { λ r. ⌜
+        Infers (over (now (types .entry)) (now (calls .entry)) (now (inputs .entry)))
+        (scope (now (inputs .entry)) (now (stack .entry)) depth) (now (term .entry)) r
+        ⌝ }
 {
     let w = term[0];
     let k = parts::fields::kind(w);

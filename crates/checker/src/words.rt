@@ -7,8 +7,8 @@ ghost use Rattle.syntax.specs.Tables.{over};
 ghost use Rattle.syntax.specs.Parts.{partEnd};
 ghost use Rattle.typing.specs.TermChecks.{wellFormedWord, wellFormedWords};
 ghost use Rattle.checker.specs.Answers.{wholeOf};
-use parts::ends::End;
 use crate::tables::field_fits;
+use parts::ends::End;
 
 // 6: a term word
 pub fn word_fits(types: &[u64], calls: &[u64], w: u64) -> bool

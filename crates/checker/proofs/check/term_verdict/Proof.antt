@@ -1,18 +1,18 @@
 -- Each place is asked where those before it passed: the term comes from place 7, its scope from place 8.
 use Prim.Native.Nat.{ℕ, _≤_, _+_}
 use native.Mathlib.Omega.{arith}
-use mathlib.Core.Path.{_≡_}
+use mathlib.Core.Path.{_≡_, sym, _∙_}
 use mathlib.Core.List.{List}
 use borrow.Author.Needs.{needs}
-use borrow.Author.Tests.{not-true, not-false}
 use lib.ListN.{length, length-replicate}
-use mathlib.Core.Path.{sym, _∙_}
 use Rattle.syntax.specs.Tables.{Tables, over}
 use Rattle.typing.specs.Refusals.{otherLimit}
 use Rattle.checker.specs.Places.{tableRefusal}
 use Rattle.checker.specs.Answers.{scope}
+use Rattle.checker.proofs.Every.{told-true, told-false}
 use Rattle.checker.proofs.Screens.{Ready, ready}
-use Rattle.checker.proofs.TermPlaces.{Decoded, InScope, starts, not-whole, is-whole, out-of-scope, are-in-scope, has-no-type, has-type}
+use Rattle.checker.proofs.TermPlaces.{Decoded, InScope, starts, not-whole, is-whole}
+use Rattle.checker.proofs.TermPlaces.{out-of-scope, are-in-scope, has-no-type, has-type}
 use Rattle.checker.proofs.check.term_verdict.Statement.{statement}
 use Rattle.checker.proofs.check.term_verdict.Tie as tie
 
@@ -33,7 +33,9 @@ fit : (s : Entry) → Ready otherLimit (tables s) (words s)
 fit s = ready otherLimit (tables s) (words s) (pass s)
 
 decoded : (c : tie.Else1) → Decoded (tables (c .before .before)) (words (c .before .before))
-decoded c = let s = c .before .before in is-whole (tables s) (words s) (pass s) (sym (c .before .is-whole .ensures) ∙ not-false _ (c .if1 .left))
+decoded c =
+    let s = c .before .before in
+    is-whole (tables s) (words s) (pass s) (told-true (c .before .is-whole .ensures) (c .if1 .left))
 
 in-scope : (c : tie.Else2) → InScope (tables (c .before .before .before .before)) (words (c .before .before .before .before))
 in-scope c =
@@ -49,7 +51,7 @@ term-verdict-spec =
     (λ c κs. fit c .short)
     (λ c.
     let s = c .before .before in
-    not-whole (tables s) (words s) (pass s) (sym (c .before .is-whole .ensures) ∙ not-true _ (c .if1 .taken)))
+    not-whole (tables s) (words s) (pass s) (told-false (c .before .is-whole .ensures) (c .if1 .taken)))
     (λ c κs.
     let f = fit (c .before .before) in
     (omega (arith, f .inputs, f .short), starts (decoded c)))

@@ -113,8 +113,8 @@ pub +infer-spec : {M : Type 1} → statement M
     let turn = b .before .before in
     let k = turn .before .before .before .before .before in
     let binders = of-word _ _ _ _ (k .kind .ensures) (b .binders .ensures) in
-    turn-fail _ _ _ _ _ _ (turn .before .loop .inv) (turn .loop-test .taken) _ _ binders (b .before .binder .ensures) _ _ (i .infer .ensures)
-    (c .enum-told .given .1))
+    turn-fail _ _ _ _ _ _ (turn .before .loop .inv) (turn .loop-test .taken) _ _ binders (b .before .binder .ensures) _ _
+    (i .infer .ensures) (c .enum-told .given .1))
     (λ c. search needs)
     (λ c. search needs)
     (λ c. search needs)
@@ -126,8 +126,8 @@ pub +infer-spec : {M : Type 1} → statement M
     let binders = of-word _ _ _ _ (k .kind .ensures) (b .binders .ensures) in
     let term = k .before .before .before .before .before .before .before .good .1 .1 .1 .1 .1 in
     let reached =
-        turn-reached _ _ _ _ _ _ (turn .before .loop .inv) (turn .loop-test .taken) _ _ binders (b .before .binder .ensures) _ _
-        (i .infer .ensures) _ _ (c .before .r .given .1) in
+    turn-reached _ _ _ _ _ _ (turn .before .loop .inv) (turn .loop-test .taken) _ _ binders (b .before .binder .ensures) _ _
+    (i .infer .ensures) _ _ (c .before .r .given .1) in
     omega (arith, term, reached))
     (λ c. search needs)
     (λ c. search needs)
@@ -137,8 +137,8 @@ pub +infer-spec : {M : Type 1} → statement M
     let turn = b .before .before in
     let k = turn .before .before .before .before .before in
     let binders = of-word _ _ _ _ (k .kind .ensures) (b .binders .ensures) in
-    turn-next _ _ _ _ _ _ (turn .before .loop .inv) (turn .loop-test .taken) _ _ binders (b .before .binder .ensures) _ _ (i .infer .ensures)
-    _ _ (c .before .r .given .1) (i .infer .kept .1 .1 .1 .0))
+    turn-next _ _ _ _ _ _ (turn .before .loop .inv) (turn .loop-test .taken) _ _ binders (b .before .binder .ensures) _ _
+    (i .infer .ensures) _ _ (c .before .r .given .1) (i .infer .kept .1 .1 .1 .0))
     (λ c. search needs)
     (λ c. search needs)
     (λ c. search needs)

@@ -52,11 +52,11 @@ binder-spec =
     (λ c.
     let n = c .before .before .before in
     let k = n .before .before in
-    left _ (k .before .before .args .w) _ _ _ (k .kind .ensures) (n .before .if1 .left) (n .if2 .left) _ _ (c .before .before .entry2 .ensures)
-    (c .before .if3 .taken) (c .number2 .ensures))
+    left _ (k .before .before .args .w) _ _ _ (k .kind .ensures) (n .before .if1 .left) (n .if2 .left) _ _
+    (c .before .before .entry2 .ensures) (c .before .if3 .taken) (c .number2 .ensures))
     (λ c κs. search needs)
     (λ c.
     let n = c .before .before .before in
     let k = n .before .before in
-    right _ (k .before .before .args .w) _ _ _ (k .kind .ensures) (n .before .if1 .left) (n .if2 .left) _ _ (c .before .before .entry2 .ensures)
-    (c .before .if3 .left) (c .ty2 .ensures)))
+    right _ (k .before .before .args .w) _ _ _ (k .kind .ensures) (n .before .if1 .left) (n .if2 .left) _ _
+    (c .before .before .entry2 .ensures) (c .before .if3 .left) (c .ty2 .ensures)))

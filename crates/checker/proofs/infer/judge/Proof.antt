@@ -52,7 +52,9 @@ judge-spec =
     (λ c κs. search needs)
     (λ c κs. search needs)
     (λ c κs. search needs)
-    (λ c. let s = c .before .before .before in at s 5 _ (c .before .before .match .keys3) (pair-yes s _ (c .before .if1 .taken) (c .given3 .ensures)))
+    (λ c.
+    let s = c .before .before .before in
+    at s 5 _ (c .before .before .match .keys3) (pair-yes s _ (c .before .if1 .taken) (c .given3 .ensures)))
     (λ c κs. search needs)
     (λ c κs. search needs)
     (λ c κs. search needs)
@@ -65,5 +67,5 @@ judge-spec =
     (λ c. at (c .before .before) 9 _ (c .before .match .keys7) (c .given5 .ensures))
     (λ c.
     let n = c .before .match .rest in
-    other (c .before .before) _ _ (n .0 .0 .0 .0 .0 .0 .1) (n .0 .0 .0 .0 .0 .1) (n .0 .0 .0 .0 .1) (n .0 .0 .0 .1) (n .0 .0 .1) (n .0 .1) (n .1)
-    (c .given6 .ensures)))
+    let m = n .0 .0 .0 in
+    other (c .before .before) _ _ (m .0 .0 .0 .1) (m .0 .0 .1) (m .0 .1) (m .1) (n .0 .0 .1) (n .0 .1) (n .1) (c .given6 .ensures)))

@@ -117,8 +117,8 @@ node-type-spec =
     (λ c κs. search needs)
     (λ c.
     let k = c .before .before .before in
-    of-call (types (k .before)) _ (word (k .before)) _ _ _ (k .kind .ensures) _ _ (c .before .before .if1 .taken) (c .before .number .ensures)
-    (c .call-type .ensures))
+    of-call (types (k .before)) _ (word (k .before)) _ _ _ (k .kind .ensures) _ _ (c .before .before .if1 .taken)
+    (c .before .number .ensures) (c .call-type .ensures))
     (λ c.
     let k = c .before .before in
     let s = k .before in

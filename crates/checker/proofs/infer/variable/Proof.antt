@@ -39,4 +39,6 @@ variable-spec =
     (λ c.
     let a = c .before .before .before .args in
     free (a .inputs .now) (a .stack .now) (a .depth) (a .n) (c .before .before .if1 .left) (c .before .if2 .taken))
-    (λ c. let a = c .before .before .args in unknown (a .inputs .now) (a .stack .now) (a .depth) (a .n) (c .before .if1 .left) (c .if2 .left)))
+    (λ c.
+    let a = c .before .before .args in
+    unknown (a .inputs .now) (a .stack .now) (a .depth) (a .n) (c .before .if1 .left) (c .if2 .left)))

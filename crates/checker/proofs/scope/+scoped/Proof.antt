@@ -88,9 +88,10 @@ pub +scoped-spec : {M : Type 1} → statement M
     let k = turn .before .before .before .before in
     let start = k .before .before .before .before in
     let left = from-length (start .args .term .now) (turn .before .loop .at) in
-    let b = c .before .binders .ensures .1 in
-    (omega (arith, g .low, g .high, left),
-    (omega (arith, g .low, g .high, left, start .pre .1 .0, b), part-starts _ _ g (turn .loop-test .taken))))
+    let b = c .before .binders .ensures .1 in (
+      omega (arith, g .low, g .high, left),
+      (omega (arith, g .low, g .high, left, start .pre .1 .0, b), part-starts _ _ g (turn .loop-test .taken)),
+    ))
     (λ c.
     let b = c .before .before .before in
     let turn = b .before in

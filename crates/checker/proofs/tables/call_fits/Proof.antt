@@ -35,7 +35,8 @@ by-fields t (suc (suc zero)) x y z h =
     sym (assoc (ltb x t) (ltb y t && true) (eqb z 0 && true) ∙ ap (λ (b : Bool). ltb x t && b) (assoc (ltb y t) true (eqb z 0 && true)))
 by-fields t (suc (suc (suc zero))) x y z h =
     sym (assoc (ltb x t) (ltb y t && (ltb z t && true)) true
-    ∙ ap (λ (b : Bool). ltb x t && b) (assoc (ltb y t) (ltb z t && true) true ∙ ap (λ (b : Bool). ltb y t && b) (assoc (ltb z t) true true)))
+    ∙ ap (λ (b : Bool). ltb x t && b)
+    (assoc (ltb y t) (ltb z t && true) true ∙ ap (λ (b : Bool). ltb y t && b) (assoc (ltb z t) true true)))
 by-fields t (suc (suc (suc (suc n)))) x y z h = absurd (omega arith)
 
 -- what is left to test of a call word

@@ -35,8 +35,8 @@ module _ (tables : Tables) (w k : ℕ) (e : k ≡ kindOf w) where
   variable : {f : Bool} → Typed f → k ≡ 0 → f ≡ wellFormedWord tables w
   variable t z = of-kind _ (t .told ∙ simp (le-leb k 10 (t .known), eq-eqb k 0 z))
 
-  module _ {f : Bool} (t : Typed f) (z : k ≡ 0 → ⊥) (g : Bool) (n : ℕ) (ne : n ≡ numberOf w) (ge : g ≡ fieldFits (eqb k 1) (length (tables .calls)) n)
-      where
+  module _ {f : Bool} (t : Typed f) (z : k ≡ 0 → ⊥) (g : Bool) (n : ℕ) (ne : n ≡ numberOf w)
+      (ge : g ≡ fieldFits (eqb k 1) (length (tables .calls)) n) where
     numbered : g ≡ fieldFits (eqb k 1) (length (tables .calls)) (numberOf w)
     numbered = ge ∙ ap (fieldFits (eqb k 1) (length (tables .calls))) ne
 
@@ -56,7 +56,8 @@ word c = c .before .before .before .before .before .before .before .args .w
 kinded : (c : tie.After-field-fits) → c .before .before .before .before .kind .result ≡ kindOf (word c)
 kinded c = c .before .before .before .before .kind .ensures
 
-typing : (c : tie.After-field-fits) → Typed (tables c) (word c) (c .before .before .before .before .kind .result) (kinded c) (c .field-fits .result)
+typing : (c : tie.After-field-fits)
+    → Typed (tables c) (word c) (c .before .before .before .before .kind .result) (kinded c) (c .field-fits .result)
 typing c =
     typed (tables c) (word c) _ (kinded c) _ _ _ (c .before .before .before .if1 .left) (c .before .before .shape-of .ensures .ty)
     (c .before .ty .ensures) (c .field-fits .ensures)
