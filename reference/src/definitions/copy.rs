@@ -1,0 +1,29 @@
+//! Folders: an empty one to write into, and copies of whole ones.
+
+use std::fs;
+use std::io::{self, Error};
+use std::path::Path;
+
+/// Makes a folder, or takes one that is there if it is empty.
+pub fn make_empty_folder(folder: &Path) -> io::Result<()> {
+    fs::create_dir_all(folder)?;
+    if fs::read_dir(folder)?.next().is_some() {
+        return Err(Error::other(format!("{} is not empty", folder.display())));
+    }
+    Ok(())
+}
+
+/// Copies a folder with all that is in it.
+pub fn copy_folder(from: &Path, to: &Path) -> io::Result<()> {
+    fs::create_dir_all(to)?;
+    for entry in fs::read_dir(from)? {
+        let entry = entry?;
+        let target = to.join(entry.file_name());
+        if entry.file_type()?.is_dir() {
+            copy_folder(&entry.path(), &target)?;
+        } else {
+            fs::copy(entry.path(), target)?;
+        }
+    }
+    Ok(())
+}
