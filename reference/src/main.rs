@@ -2,7 +2,7 @@
 
 use reference::deep_stack::with_deep_stack;
 use reference::definitions::check::run_check;
-use reference::definitions::write_repository;
+use reference::definitions::repository::write_repository;
 use reference::lines::bundles::bundle_line;
 use reference::lines::cases::case_line;
 use reference::lines::runs::run_line;

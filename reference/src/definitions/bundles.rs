@@ -1,9 +1,10 @@
 //! Rows of the lines of `bundles`: the bytes that the program writes for a bundle.
 
 use super::notation::bytes;
+use super::tables::Table;
 
 /// What the definitions make of a row, and what the line says.
-pub const MEANING: &str = "\
+const MEANING: &str = "\
 -- A line of `bundles`: the bytes of a bundle, and the bytes that the program writes for it.
 use Prim.Native.Nat.{ℕ}
 use mathlib.Core.List.{List}
@@ -20,7 +21,16 @@ unfoldable pub expected : Row → List ℕ
 expected x = x .written
 ";
 
-pub const OWN: &[&str] = &[];
+/// The table of some lines.
+pub fn table(lines: &[String]) -> Table {
+    Table {
+        name: "Bundles",
+        subcommand: "bundles",
+        meaning: MEANING,
+        own: &[],
+        rows: lines.iter().map(|line| row(line)).collect(),
+    }
+}
 
 /// The row of a line.
 pub fn row(line: &str) -> String {

@@ -1,15 +1,19 @@
-//! Rows of the lines of `cases`: the answers of normalize, check and is_normal, with the buffers.
+//! Rows of the lines of `cases`: the answers of normalize, check and is_normal, with the buffers,
+//! and the types of all nodes.
 
-use super::notation::words;
+use super::notation::{list, words};
+use super::tables::Table;
+use crate::generate::Sample;
+use crate::typing::node_types;
 
 /// What the definitions make of a row, and what the line says.
-pub const MEANING: &str = "\
+const MEANING: &str = "\
 -- A line of `cases`: tables and term, what normalize is lent, and the answers of normalize, check and is_normal.
 use Prim.Native.Nat.{ℕ, zero, suc}
 use mathlib.Core.Bool.{Bool, false}
 use mathlib.Core.List.{List, _++_}
-use mathlib.Core.Option.{Option, some, none}
-use lib.ListN.{length, replicate}
+use mathlib.Core.Option.{Option, none}
+use lib.ListN.{replicate}
 use Rattle.syntax.specs.Tables.{Tables, over}
 use Rattle.syntax.specs.Pending.{pending}
 use Rattle.typing.specs.NodeTypes.{nodeTypes}
@@ -44,8 +48,8 @@ pub record Row : Type 0 where
   pub checkType : ℕ
   pub normalRefusal : ℕ
   pub yes : Bool
-  -- the nodes of a term that is accepted by the checks (else 0), and the steps of phase 1 of one that is normalized (else 0)
-  pub nodes : ℕ
+  -- the types of all nodes of a term that passes the checks, and the steps of phase 1 of one that is normalized (else 0)
+  pub nodeTypes′ : Option (List ℕ)
   pub insertions : ℕ
 
 -- what is compared
@@ -54,7 +58,7 @@ pub record Result : Type 0 where
   pub checked : Checked
   pub tested : Tested
   pub grammar : Bool
-  pub nodes : ℕ
+  pub nodeTypes′ : Option (List ℕ)
   pub insertions : ℕ
 
 -- buffers hold 9s at entry
@@ -64,19 +68,14 @@ nines n = replicate n 9
 abbrev pub tablesOf : Row → Tables
 tablesOf x = over (x .types) (x .calls) (x .inputs)
 
--- how many types there are, where there are types
-abbrev pub howMany : Option (List ℕ) → ℕ
-howMany none = 0
-howMany (some As) = length As
-
--- of a term that passes the checks: whether it is in the grammar, how many of its nodes have a type, and its pending operands
+-- of a term that passes the checks: whether it is in the grammar, the types of its nodes, and its pending operands
 abbrev pub grammarOf : Verdict Typed → Bool
 grammarOf (refused n) = false
 grammarOf (accepted x) = inGrammar allPure (x .term)
 
-abbrev pub nodesOf : Tables → Verdict Typed → ℕ
-nodesOf tables (refused n) = 0
-nodesOf tables (accepted x) = howMany (nodeTypes tables (x .term) (tables .inputs))
+abbrev pub nodeTypesOf : Tables → Verdict Typed → Option (List ℕ)
+nodeTypesOf tables (refused n) = none
+nodeTypesOf tables (accepted x) = nodeTypes tables (x .term) (tables .inputs)
 
 abbrev pub pendingOf : Verdict Typed → ℕ
 pendingOf (refused n) = 0
@@ -103,7 +102,7 @@ computed x = record {
   checked = checkOutcome (tablesOf x) (x .term);
   tested = isNormalOutcome (tablesOf x) (x .term);
   grammar = grammarOf (elaborated x);
-  nodes = nodesOf (tablesOf x) (elaborated x);
+  nodeTypes′ = nodeTypesOf (tablesOf x) (elaborated x);
   insertions = unless (outcomeOf x .answer .refusal) (pendingOf (elaborated x));
 }
 
@@ -120,12 +119,21 @@ expected x = record {
   checked = record { refusal = x .checkRefusal; ty = x .checkType };
   tested = record { refusal = x .normalRefusal; normal = x .yes };
   grammar = x .yes;
-  nodes = x .nodes;
+  nodeTypes′ = x .nodeTypes′;
   insertions = x .insertions;
 }
 ";
 
-pub const OWN: &[&str] = &["outcomeOf", "elaborated"];
+/// The table of some lines.
+pub fn table(lines: &[String]) -> Table {
+    Table {
+        name: "Cases",
+        subcommand: "cases",
+        meaning: MEANING,
+        own: &["outcomeOf", "elaborated"],
+        rows: lines.iter().map(|line| row(line)).collect(),
+    }
+}
 
 /// The row of a line.
 pub fn row(line: &str) -> String {
@@ -137,10 +145,13 @@ pub fn row(line: &str) -> String {
     };
     let unchanged = number(output) - number(length);
     let yes = normal_yes == "1";
-    let nodes = match check_refusal {
-        "0" => term.split_whitespace().count(),
-        _ => 0,
+    let sample = Sample {
+        types: numbers(types),
+        calls: numbers(calls),
+        inputs: numbers(inputs),
+        term: numbers(term),
     };
+    let node_types = node_types_text(&sample);
     let insertions = match refusal {
         "0" => counts.split_whitespace().next().unwrap_or("0"),
         _ => "0",
@@ -159,11 +170,26 @@ pub fn row(line: &str) -> String {
       normalForm = {normal_form};
       unchanged = {unchanged};
       checkRefusal = {check_refusal}; checkType = {check_type}; normalRefusal = {normal_refusal}; yes = {yes};
-      nodes = {nodes}; insertions = {insertions};
+      nodeTypes′ = {node_types};
+      insertions = {insertions};
     }}"
     )
 }
 
+/// The types of all nodes of a term that passes the checks.
+fn node_types_text(sample: &Sample) -> String {
+    let checked = sample.examine().ok();
+    let types = checked.and_then(|checked| node_types(&checked.tables, &checked.term));
+    types.map_or(String::from("none"), |types| {
+        format!("some ({})", list(types))
+    })
+}
+
 fn number(text: &str) -> usize {
     text.parse().expect("a number")
+}
+
+fn numbers(text: &str) -> Vec<u64> {
+    let words = text.split_whitespace();
+    words.map(|word| word.parse().expect("a word")).collect()
 }

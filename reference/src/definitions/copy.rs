@@ -1,14 +1,18 @@
-//! Folders: an empty one to write into, and copies of whole ones.
+//! Folders: an empty one to write into, outside another, and copies of whole ones.
 
 use std::fs;
 use std::io::{self, Error};
 use std::path::Path;
 
-/// Makes a folder, or takes one that is there if it is empty.
-pub fn make_empty_folder(folder: &Path) -> io::Result<()> {
+/// Makes a folder, or takes one that is there if it is empty; it must not lie in the other one.
+pub fn make_empty_folder_outside(folder: &Path, other: &Path) -> io::Result<()> {
+    let refused = |reason: &str| Err(Error::other(format!("{} {reason}", folder.display())));
     fs::create_dir_all(folder)?;
     if fs::read_dir(folder)?.next().is_some() {
-        return Err(Error::other(format!("{} is not empty", folder.display())));
+        return refused("is not empty");
+    }
+    if fs::canonicalize(folder)?.starts_with(fs::canonicalize(other)?) {
+        return refused("lies in the repository");
     }
     Ok(())
 }

@@ -1,10 +1,11 @@
 //! Rows of the lines of `runs`: a run's answer and its trace.
 
 use super::notation::{list, words};
+use super::tables::Table;
 use std::str::SplitWhitespace;
 
 /// What the definitions make of a row, and what the line says.
-pub const MEANING: &str = "\
+const MEANING: &str = "\
 -- A line of `runs`: tables and term, the values of the inputs, and the answer and the trace of the run.
 use Prim.Native.Nat.{ℕ, zero, suc, _+_, _*_, _%_}
 use mathlib.Core.List.{List}
@@ -73,7 +74,16 @@ unfoldable pub expected : Row → Outcome Value
 expected x = ended (x .answer) (x .trace)
 ";
 
-pub const OWN: &[&str] = &["weight", "weights", "spread", "answerOf", "ran"];
+/// The table of some lines.
+pub fn table(lines: &[String]) -> Table {
+    Table {
+        name: "Runs",
+        subcommand: "runs",
+        meaning: MEANING,
+        own: &["weight", "weights", "spread", "answerOf", "ran"],
+        rows: lines.iter().map(|line| row(line)).collect(),
+    }
+}
 
 /// The row of a line.
 pub fn row(line: &str) -> String {

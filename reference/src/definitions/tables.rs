@@ -51,6 +51,7 @@ use Prim.Native.Nat.{{ℕ}}
 use mathlib.Core.Path.{{_≡_, refl}}
 use mathlib.Core.Bool.{{Bool, true, false}}
 use mathlib.Core.List.{{List, [], _∷_, map}}
+use mathlib.Core.Option.{{some, none}}
 use Rattle.semantics.specs.Value.{{num, tuple, left, right, empty, also}}
 {uses}use Rattle.crosscheck.specs.{name}.{{Row, computed, expected{own}}}
 
