@@ -6,6 +6,7 @@ pub mod bundle;
 pub mod checks;
 pub mod coding;
 pub mod deep_stack;
+pub mod definitions;
 pub mod generate;
 pub mod lines;
 pub mod listing;

@@ -1,13 +1,16 @@
 //! The command: `reference SUBCOMMAND [ARGUMENTS]`, see `USAGE`.
 
 use reference::deep_stack::with_deep_stack;
+use reference::definitions::check::run_check;
+use reference::definitions::repository::write_repository;
 use reference::lines::bundles::bundle_line;
 use reference::lines::cases::case_line;
 use reference::lines::runs::run_line;
 use reference::listing::respond;
 use reference::random::Random;
 use std::env;
-use std::io::{self, BufWriter, Read, Write};
+use std::io::{self, BufWriter, Error, Read, Write};
+use std::path::Path;
 use std::process::ExitCode;
 
 const USAGE: &str = "usage: reference SUBCOMMAND
@@ -15,6 +18,10 @@ const USAGE: &str = "usage: reference SUBCOMMAND
   cases SEED COUNT    lines of small cases with their answers
   bundles SEED COUNT  lines of small bundles with their listings
   runs SEED COUNT     lines of small terms with a run of each
+  definitions REPOSITORY DIR SEED COUNT
+                      the definitions of REPOSITORY/crates checked against such lines by rt, in a
+                      repository written into DIR: COUNT cases, a fifth as many bundles, a quarter
+                      as many runs
 ";
 
 /// A bundle is refused from this length on, so that no more is read.
@@ -43,6 +50,9 @@ fn dispatch(arguments: &[String]) -> io::Result<bool> {
         ["cases", seed, count] => print_lines(seed, count, case_line),
         ["bundles", seed, count] => print_lines(seed, count, bundle_line),
         ["runs", seed, count] => print_lines(seed, count, run_line),
+        ["definitions", repository, folder, seed, count] => {
+            check_definitions(Path::new(repository), Path::new(folder), seed, count)
+        }
         _ => Ok(false),
     }
 }
@@ -64,5 +74,24 @@ fn print_lines(seed: &str, count: &str, line: fn(&mut Random) -> String) -> io::
         writeln!(output, "{}", line(&mut random))?;
     }
     output.flush()?;
+    Ok(true)
+}
+
+fn check_definitions(
+    repository: &Path,
+    folder: &Path,
+    seed: &str,
+    count: &str,
+) -> io::Result<bool> {
+    let (Ok(seed), Ok(count)) = (seed.parse(), count.parse()) else {
+        return Ok(false);
+    };
+    print!("{}", write_repository(repository, folder, seed, count)?);
+    io::stdout().flush()?;
+    let (report, is_proved) = run_check(folder)?;
+    print!("{report}");
+    if !is_proved {
+        return Err(Error::other("rt check has refused a table of rows"));
+    }
     Ok(true)
 }

@@ -76,7 +76,13 @@ fn runs_have_seven_fields() {
 
 #[test]
 fn anything_else_prints_the_usage() {
-    for arguments in [&[][..], &["nothing"], &["cases", "1"], &["cases", "x", "1"]] {
+    for arguments in [
+        &[][..],
+        &["nothing"],
+        &["cases", "1"],
+        &["cases", "x", "1"],
+        &["definitions", "repository", "folder", "x", "1"],
+    ] {
         let output = run_command(arguments, &[]);
         assert_eq!(output.status.code(), Some(2));
         assert!(output.stdout.is_empty());
