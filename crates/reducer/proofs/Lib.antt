@@ -1,0 +1,6 @@
+pub mod Sizes
+pub mod Testing
+pub mod Inserting
+pub mod Finding
+pub mod Fitting
+pub mod Scanning

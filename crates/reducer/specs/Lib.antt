@@ -1,0 +1,4 @@
+pub mod ValueTest
+pub mod Operands
+pub mod Fits
+pub mod Searches
