@@ -5,3 +5,5 @@ pub mod Counting
 pub mod Writing
 pub mod Renaming
 pub mod Substituting
+pub mod Sized
+pub mod PartsAt

@@ -4,6 +4,7 @@ pub mod Disjoint
 pub mod Bounded
 pub mod Unique
 pub mod Roots
+pub mod Fires
 pub mod Fits
 pub mod Search
 pub mod Lowered
