@@ -3,3 +3,4 @@ pub mod Splicing
 pub mod Rewriting
 pub mod Remaining
 pub mod Standing
+pub mod Looping

@@ -1,3 +1,4 @@
 pub mod Splices
 pub mod Currents
 pub mod Turns
+pub mod Reductions

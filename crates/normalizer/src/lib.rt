@@ -5,3 +5,4 @@ pub mod splice; // splice.rt: a stretch of words replaced in place
 pub mod counts; // counts.rt: the ten counts
 pub mod phases; // phases.rt: where the search of a phase goes on
 pub mod turn; // turn.rt: one turn of the reduction
+pub mod reduce; // reduce.rt: the loop over phases and steps
