@@ -1,7 +1,7 @@
 -- The type of a node from the types of its parts, whatever its kind.
 use mathlib.Core.Path.{_≡_, refl, ap}
 use mathlib.Core.List.{[], _∷_}
-use mathlib.Core.Option.{Option, some, none}
+use mathlib.Core.Option.{some, none}
 use Prim.Native.Nat.{ℕ, _≤_, _<_}
 use native.Mathlib.Omega.{arith}
 use lib.Dec.{eqb}
@@ -9,7 +9,7 @@ use lib.ListN.{getD}
 use Rattle.syntax.specs.Maybe.{_>>=_, given}
 use Rattle.syntax.specs.Words.{leftOf, rightOf}
 use Rattle.syntax.specs.Tables.{Tables, arrow, product, sum, components}
-use Rattle.syntax.specs.Term.{Term, Terms, var, call, lam, app, bind, pair, fst, snd, inl, inr, case, done, arg, node}
+use Rattle.syntax.specs.Term.{Term, var, call, lam, app, bind, pair, fst, snd, inl, inr, case, node}
 use Rattle.syntax.specs.Kinds.{bindersAt}
 use Rattle.syntax.specs.Shaped.{count, Shaped}
 use Rattle.typing.specs.Infer.{Context, infer}

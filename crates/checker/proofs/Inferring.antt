@@ -2,18 +2,18 @@
 use mathlib.Core.Path.{_≡_, refl, sym, _∙_, ap, ap₂}
 use mathlib.Core.List.{List, [], _∷_, _++_}
 use mathlib.Core.Option.{Option, some, none}
-use Prim.Native.Nat.{ℕ, suc, _+_, _≤_, _<_}
+use Prim.Native.Nat.{ℕ, _+_, _≤_, _<_}
 use native.Mathlib.Omega.{arith}
 use native.Mathlib.Numerals.{add-one}
 use lib.ListN.{length, getD, getElem?, set}
 use Rattle.syntax.specs.Maybe.{_>>=_}
 use Rattle.syntax.specs.Words.{kindOf, numberOf, typeOf}
 use Rattle.syntax.specs.Tables.{Tables}
-use Rattle.syntax.specs.Term.{Term, Terms, var, done, arg, node}
+use Rattle.syntax.specs.Term.{Term, Terms, arg, node}
 use Rattle.syntax.specs.Encoding.{encode, encodeAll, size}
 use Rattle.syntax.specs.Parts.{partCount}
 use Rattle.parts.specs.Fronts.{Holds, Starts, from}
-use Rattle.parts.proofs.Traversal.{Going, Next, front-of, enter, next, leave, reached, onward}
+use Rattle.parts.proofs.Traversal.{Going, front-of, enter, next, leave, reached, onward}
 use Rattle.typing.specs.Infer.{Context, infer}
 use Rattle.checker.specs.Nodes.{nodeType}
 use Rattle.checker.specs.Answers.{inferredOf, Infers}

@@ -11,5 +11,6 @@ pub mod InferNode
 pub mod Inferring
 pub mod Turns
 pub mod Screens
+pub mod Decoded
 pub mod TermPlaces
 pub mod Verdicts

@@ -2,7 +2,7 @@
 use mathlib.Core.Path.{_≡_, refl, sym, _∙_, ap, ap₂}
 use mathlib.Core.Bool.{Bool, true, false, _&&_, cond}
 use mathlib.Core.List.{List, _++_}
-use Prim.Native.Nat.{ℕ, suc, _+_, _≤_, _<_}
+use Prim.Native.Nat.{ℕ, _+_, _≤_, _<_}
 use native.Mathlib.Omega.{arith}
 use native.Mathlib.Numerals.{add-one}
 use lib.Dec.{ltb}
@@ -10,13 +10,13 @@ use lib.ListN.{length, getD}
 use borrow.Author.Tests.{lt-ltb, le-ltb}
 use Rattle.syntax.specs.Words.{kindOf, numberOf}
 use Rattle.syntax.specs.Kinds.{bindersAt}
-use Rattle.syntax.specs.Term.{Term, Terms, var, done, arg, node, asVar}
+use Rattle.syntax.specs.Term.{Term, Terms, var, arg, node, asVar}
 use Rattle.syntax.specs.Encoding.{encode, encodeAll, size}
 use Rattle.syntax.specs.Parts.{partCount}
 use Rattle.syntax.proofs.Nodes.{words-of}
 use Rattle.parts.specs.Fronts.{Holds, Starts, from}
-use Rattle.parts.proofs.Traversal.{Going, Next, front-of, enter, next, leave, reached, onward}
-use Rattle.typing.specs.TermChecks.{below, scopedAt}
+use Rattle.parts.proofs.Traversal.{Going, front-of, enter, next, leave, reached, onward}
+use Rattle.typing.specs.TermChecks.{scopedAt}
 use Rattle.checker.specs.Answers.{Scopes}
 use Rattle.checker.proofs.Variables.{is-var, not-var}
 use Rattle.checker.proofs.ScopedNode.{scopedParts, scoped-node}

@@ -12,7 +12,7 @@ use Rattle.syntax.specs.Decoding.{decode}
 use Rattle.typing.specs.Infer.{infer}
 use Rattle.typing.specs.TableChecks.{lengthsFit}
 use Rattle.typing.specs.TermChecks.{wellFormedWords, scoped}
-use Rattle.typing.specs.Refusals.{Verdict, refused, accepted, _>>=_, require, provide, Typed, elaborate, otherLimit}
+use Rattle.typing.specs.Refusals.{Verdict, refused, accepted, _>>=_, require, provide, Typed, elaborate}
 use Rattle.checker.proofs.Every.{told-true, told-false}
 use Rattle.checker.specs.Places.{firstFailed, tableTests, tableRefusal}
 

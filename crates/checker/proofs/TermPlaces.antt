@@ -1,51 +1,33 @@
 -- The last three places, where the first six pass: the words are those of one term, its variables are in scope, and it has a type.
 use mathlib.Core.Path.{_≡_, refl, sym, _∙_, ap, subst}
 use mathlib.Core.Bool.{Bool, true, false, cond}
-use mathlib.Core.List.{List, [], _∷_, _++_, append-nil}
+use mathlib.Core.List.{List, [], append-nil}
 use mathlib.Core.Option.{Option, some, none}
-use Prim.Native.Nat.{ℕ, _≤_}
-use native.Mathlib.Omega.{arith}
-use lib.Dec.{T, leb}
+use Prim.Native.Nat.{ℕ}
+use lib.Dec.{T}
 use lib.ListN.{length}
-use borrow.Author.Tests.{eqb-true, eq-eqb, leb-true}
-use Rattle.syntax.specs.Words.{kindOf}
+use borrow.Author.Tests.{eqb-true, eq-eqb}
 use Rattle.syntax.specs.Tables.{Tables}
 use Rattle.syntax.specs.Term.{Term}
 use Rattle.syntax.specs.Encoding.{encode, size}
 use Rattle.syntax.specs.Decoding.{decode}
 use Rattle.syntax.specs.Parts.{partEnd}
 use Rattle.syntax.proofs.Parts.{part-end}
-use Rattle.syntax.proofs.Forests.{Kinds, even-term, shaped-term}
+use Rattle.syntax.proofs.Forests.{even-term}
 use Rattle.parts.specs.Fronts.{Holds, Starts}
 use Rattle.typing.specs.Infer.{infer}
-use Rattle.typing.specs.TableChecks.{every}
-use Rattle.typing.specs.TermChecks.{wellFormedWord, wellFormedWords, scopedAt, scoped}
+use Rattle.typing.specs.TermChecks.{wellFormedWords, scopedAt, scoped}
 use Rattle.typing.specs.Refusals.{elaborate, otherLimit}
-use Rattle.typing.proofs.Encoding.{encode-decode}
 use Rattle.outcomes.specs.Check.{checkedOf}
 use Rattle.outcomes.specs.declared.Checked.{Checked}
 use Rattle.checker.specs.Places.{tableRefusal}
 use Rattle.checker.specs.Answers.{wholeOf, Scopes, inferredOf, Infers}
 use Rattle.checker.specs.declared.infer.Inferred.{Inferred}
 use Rattle.checker.specs.declared.infer.Inferred.the-variants.{Typed, Untyped}
-use Rattle.checker.proofs.Screens.{both, termChecks, elaborate-passes, ready}
+use Rattle.checker.proofs.Screens.{termChecks, elaborate-passes, ready}
+use Rattle.checker.proofs.Decoded.{kinds-of, holds-decoded}
 use Rattle.checker.proofs.Scoping.{scoped-if, unscoped-if}
 use Rattle.checker.proofs.Inferring.{untyped-if, typed-if}
-
--- words that pass place 6 are of known kinds
-kind-ok : (tables : Tables) (w : ℕ) → wellFormedWord tables w ≡ true → kindOf w ≤ 10
-kind-ok tables w h = go (leb (kindOf w) 10) refl
-  where
-    go : (b : Bool) → leb (kindOf w) 10 ≡ b → kindOf w ≤ 10
-    go true p = leb-true (kindOf w) 10 p
-    go false p = let f : wellFormedWord tables w ≡ false = simp p in absurd (subst T (sym h ∙ f) tt)
-
-kinds-of : (tables : Tables) (ws : List ℕ) → every (wellFormedWord tables) ws ≡ true → Kinds (tables .calls) ws
-unfolding Kinds
-kinds-of tables [] e = tt
-kinds-of tables (w ∷ ws) e =
-    let (h, t) = both (wellFormedWord tables w) (every (wellFormedWord tables) ws) e in
-    (kind-ok tables w h, kinds-of tables ws t)
 
 -- place 7 passed: the term that the words stand for
 pub record Decoded (tables : Tables) (words : List ℕ) : Type 0 where
@@ -79,10 +61,7 @@ module _ (tables : Tables) (words : List ℕ) (pass : tableRefusal otherLimit ta
   decoded t d = record {
     term = t;
     is = d;
-    holds = record {
-      shaped = shaped-term (tables .calls) words t d;
-      is = sym (encode-decode tables words (subst T (sym formed) tt) t d) ∙ sym (append-nil (encode t));
-    };
+    holds = holds-decoded tables words (subst T (sym formed) tt) t d;
   }
 
   abbrev whole : Bool
@@ -104,7 +83,6 @@ module _ (tables : Tables) (words : List ℕ) (pass : tableRefusal otherLimit ta
       go (some t) d = absurd (subst T (sym (ended (decoded t d)) ∙ f) tt)
 
   pub is-whole : whole ≡ true → Decoded tables words
-  unfolding wellFormedWords
   is-whole f = go (decode (tables .calls) words) refl
     where
       exact : (o : Option ℕ) → wholeOf o (length words) ≡ true → o ≡ some (length words)

@@ -1,8 +1,8 @@
 -- A turn of the loop that types the parts of a node: a part is typed in the scope of its node with the binder's type on top of the stack,
 -- and what is typed below that leaves the scope as it was.
-use mathlib.Core.Path.{_≡_, refl, sym, _∙_, ap, ap₂}
+use mathlib.Core.Path.{_≡_, refl, _∙_, ap, ap₂}
 use mathlib.Core.List.{List, [], _∷_}
-use Prim.Native.Nat.{ℕ, _+_, _-_, _≤_, _<_}
+use Prim.Native.Nat.{ℕ, _+_, _≤_, _<_}
 use native.Mathlib.Omega.{arith}
 use lib.ListN.{length, getD, set, length-set}
 use Rattle.syntax.specs.Words.{kindOf, numberOf, typeOf}
@@ -10,7 +10,7 @@ use Rattle.syntax.specs.Kinds.{bindersAt}
 use Rattle.syntax.specs.Tables.{Tables, over}
 use Rattle.syntax.specs.Parts.{partCount}
 use Rattle.parts.specs.Fronts.{Starts, from}
-use Rattle.parts.proofs.Traversal.{Going, from-length, part-starts}
+use Rattle.parts.proofs.Traversal.{Going, from-length}
 use Rattle.typing.specs.Infer.{Context}
 use Rattle.checker.specs.Nodes.{binderType, nodeType, callType}
 use Rattle.checker.specs.Answers.{scope, inferredOf, Infers}

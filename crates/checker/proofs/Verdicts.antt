@@ -1,14 +1,16 @@
 -- The answer of the checks tells their verdict: refusal 0 is an accepted term of the answered type, any other number a refusal by it.
 -- For no refusal has the number 0.
-use mathlib.Core.Path.{_≡_, refl, sym, _∙_, ap}
-use mathlib.Core.List.{List}
-use Prim.Native.Nat.{ℕ, suc}
+use mathlib.Core.Path.{_≡_, refl, sym, ap}
+use mathlib.Core.List.{List, []}
+use Prim.Native.Nat.{ℕ}
 use native.Mathlib.Omega.{arith}
 use Rattle.syntax.specs.Tables.{Tables}
+use Rattle.parts.specs.Fronts.{Holds}
 use Rattle.typing.specs.Refusals.{Verdict, refused, accepted, Typed, elaborate}
 use Rattle.typing.proofs.Accepted.{Verdicts, refusal, passed, Passed, elaborated}
 use Rattle.outcomes.specs.Check.{checkedOf}
 use Rattle.outcomes.specs.declared.Checked.{Checked}
+use Rattle.checker.proofs.Decoded.{holds-decoded}
 
 -- a verdict accepts what passed, of a type
 pub record Accepts (P : Typed → Type 0) (v : Verdict Typed) (A : ℕ) : Type 0 where
@@ -32,3 +34,8 @@ module _ (limit : ℕ) (tables : Tables) (words : List ℕ) (r : Checked) (e : r
 
   pub refused-of : (r .refusal ≡ 0 → ⊥) → elaborate limit tables words ≡ refused (r .refusal)
   refused-of z = refuses (elaborate limit tables words) r (elaborated limit tables words) e z
+
+-- the words of what passed begin with its term, and end there
+pub accepted-holds : (limit : ℕ) (tables : Tables) (words : List ℕ) (x : Typed) → Passed limit tables words x
+    → Holds (tables .calls) words (x .term) []
+accepted-holds limit tables words x p = holds-decoded tables words (p .words′) (x .term) (p .term)

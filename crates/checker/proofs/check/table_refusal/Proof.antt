@@ -1,8 +1,6 @@
 -- Each place is asked where those before it passed: what is left to ask goes from place to place.
 use Prim.Native.Nat.{ℕ, suc}
-use mathlib.Core.Path.{_≡_, sym}
-use mathlib.Core.Bool.{Bool}
-use mathlib.Core.List.{List}
+use mathlib.Core.Path.{sym}
 use borrow.Author.Needs.{needs}
 use lib.ListN.{drop}
 use Rattle.syntax.specs.Tables.{over}

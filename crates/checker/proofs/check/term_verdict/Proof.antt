@@ -1,10 +1,10 @@
 -- Each place is asked where those before it passed: the term comes from place 7, its scope from place 8.
-use Prim.Native.Nat.{ℕ, _≤_, _+_}
+use Prim.Native.Nat.{ℕ}
 use native.Mathlib.Omega.{arith}
-use mathlib.Core.Path.{_≡_, sym, _∙_}
+use mathlib.Core.Path.{_≡_}
 use mathlib.Core.List.{List}
 use borrow.Author.Needs.{needs}
-use lib.ListN.{length, length-replicate}
+use lib.ListN.{length-replicate}
 use Rattle.syntax.specs.Tables.{Tables, over}
 use Rattle.typing.specs.Refusals.{otherLimit}
 use Rattle.checker.specs.Places.{tableRefusal}

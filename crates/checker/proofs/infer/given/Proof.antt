@@ -1,5 +1,5 @@
 -- By the test.
-use mathlib.Core.Path.{_≡_, sym, ap}
+use mathlib.Core.Path.{sym, ap}
 use mathlib.Core.Bool.{Bool}
 use Rattle.syntax.specs.Maybe.{given}
 use Rattle.checker.specs.Answers.{inferredOf}

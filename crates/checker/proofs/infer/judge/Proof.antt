@@ -9,7 +9,7 @@ use Rattle.syntax.specs.Maybe.{given}
 use Rattle.checker.specs.Nodes.{judge}
 use Rattle.checker.specs.Answers.{inferredOf}
 use Rattle.checker.specs.declared.infer.Inferred.{Inferred}
-use Rattle.checker.specs.declared.infer.Inferred.the-variants.{Typed, Untyped}
+use Rattle.checker.specs.declared.infer.Inferred.the-variants.{Untyped}
 use Rattle.checker.proofs.infer.judge.Statement.{statement}
 use Rattle.checker.proofs.infer.judge.Tie as tie
 

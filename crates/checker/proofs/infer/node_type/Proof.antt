@@ -1,6 +1,6 @@
 -- The kind decides what the node is about, the components decide the rest.
-use mathlib.Core.Path.{_≡_, refl, sym, _∙_, ap, ap₂}
-use mathlib.Core.Bool.{Bool, true, false, cond}
+use mathlib.Core.Path.{_≡_, refl, _∙_, ap, ap₂}
+use mathlib.Core.Bool.{Bool, cond}
 use mathlib.Core.List.{List, [], _∷_}
 use mathlib.Core.Option.{Option, some, none}
 use Prim.Native.Nat.{ℕ}
@@ -10,8 +10,7 @@ use borrow.Author.Needs.{needs}
 use borrow.Author.Tests.{eq-eqb, ne-eqb}
 use Rattle.syntax.specs.Words.{kindOf, numberOf, typeOf}
 use Rattle.syntax.specs.Maybe.{_>>=_}
-use Rattle.syntax.specs.Tables.{Tables, components}
-use Rattle.syntax.specs.Kinds.{usesType}
+use Rattle.syntax.specs.Tables.{components}
 use Rattle.syntax.specs.Tables.{over}
 use Rattle.checker.specs.Nodes.{componentsOf, formOf, subjectOf, judge, callType, nodeType}
 use Rattle.checker.specs.Answers.{inferredOf}

@@ -1,13 +1,12 @@
 -- The parts are gone through one after the other, each under its binders; the first that is out of scope ends the search.
-use Prim.Native.Nat.{ℕ, _<_, _≤_, _+_, _-_}
+use Prim.Native.Nat.{ℕ, _<_, _+_, _-_}
 use native.Mathlib.Omega.{arith}
-use mathlib.Core.Path.{_≡_, sym, _∙_, ap}
+use mathlib.Core.Path.{_≡_, sym, _∙_}
 use mathlib.Core.List.{List}
 use borrow.Author.Needs.{needs}
 use borrow.Fn.Kinds.{In}
 use borrow.Fn.PlainCycle.{Measures, is, falls, and}
 use lib.ListN.{length}
-use Rattle.parts.specs.Fronts.{from}
 use Rattle.parts.proofs.Traversal.{Going, not-empty, from-length, part-starts}
 use Rattle.parts.proofs.fields.kind.Reads as kind-reads
 use Rattle.parts.proofs.fields.number.Reads as number-reads

@@ -1,17 +1,17 @@
 -- Every word before i is another.
-use mathlib.Core.Path.{_≡_, refl, ap}
+use mathlib.Core.Path.{ap}
 use mathlib.Core.Bool.{not}
-use Prim.Native.Nat.{ℕ, _-_}
+use Prim.Native.Nat.{_-_}
 use borrow.Author.Needs.{needs}
 use borrow.Author.Tests.{eq-eqb, ne-eqb}
 use lib.Dec.{eqb}
 use lib.ListN.{length}
-use Rattle.checker.proofs.Every.{Passing, passing-start, passing-next, passing-not, passing-end}
+use Rattle.checker.proofs.Every.{Each, each-start, passing-next, passing-not, passing-end}
 use Rattle.checker.proofs.tables.absent.Statement.{statement}
 use Rattle.checker.proofs.tables.absent.Tie as tie
 
 abbrev Inv-loop : tie.InvT-loop
-Inv-loop words w i₀ i = Passing (λ x. not (eqb w x)) words i
+Inv-loop words w i₀ i = Each (λ x. not (eqb w x)) words i
 
 abbrev μ-loop : tie.MeasureT-loop
 μ-loop words w i₀ i = length words - i
@@ -22,7 +22,7 @@ absent-spec =
     (tie.spec
     Inv-loop
     μ-loop
-    (λ c. passing-start)
+    (λ c. each-start)
     (λ c. search needs)
     (λ c. search needs)
     (λ c. let t = c .before .before in passing-not (t .before .loop .inv) (t .loop-test .taken) (ap not (eq-eqb _ _ (c .if1 .taken))))

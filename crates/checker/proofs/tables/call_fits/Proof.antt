@@ -4,11 +4,11 @@ use mathlib.Core.Bool.{Bool, true, false, _&&_, not}
 use mathlib.Core.List.{List, [], _∷_}
 use Prim.Native.Nat.{ℕ, zero, suc, _≤_, _<_}
 use native.Mathlib.Omega.{arith}
-use lib.Dec.{leb, ltb, eqb}
+use lib.Dec.{ltb, eqb}
 use lib.ListN.{take, drop}
 use borrow.Author.Needs.{needs}
 use borrow.Author.Tests.{le-leb, lt-leb, lt-ltb, le-ltb}
-use Rattle.syntax.specs.Words.{countOf, resultOf, argumentFields}
+use Rattle.syntax.specs.Words.{countOf, resultOf}
 use Rattle.parts.specs.Shapes.{argumentOf}
 use Rattle.typing.specs.TableChecks.{every, wellFormedCall}
 use Rattle.typing.specs.TermChecks.{fieldFits}

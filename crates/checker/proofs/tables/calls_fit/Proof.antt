@@ -1,16 +1,14 @@
 -- Every call before i passes.
-use Prim.Native.Nat.{ℕ, _-_}
-use mathlib.Core.Path.{_≡_}
+use Prim.Native.Nat.{_-_}
 use borrow.Author.Needs.{needs}
-use borrow.Author.Tests.{not-true, not-false}
 use lib.ListN.{length}
 use Rattle.typing.specs.TableChecks.{wellFormedCall, wellFormedCalls}
-use Rattle.checker.proofs.Every.{Passing, passing-start, passing-next, passing-not, passing-end, told-true, told-false}
+use Rattle.checker.proofs.Every.{Each, each-start, passing-next, passing-not, passing-end, told-true, told-false}
 use Rattle.checker.proofs.tables.calls_fit.Statement.{statement}
 use Rattle.checker.proofs.tables.calls_fit.Tie as tie
 
 abbrev Inv-loop : tie.InvT-loop
-Inv-loop types calls i₀ i = Passing (wellFormedCall (length types)) calls i
+Inv-loop types calls i₀ i = Each (wellFormedCall (length types)) calls i
 
 abbrev μ-loop : tie.MeasureT-loop
 μ-loop types calls i₀ i = length calls - i
@@ -22,7 +20,7 @@ calls-fit-spec =
     (tie.spec
     Inv-loop
     μ-loop
-    (λ c. passing-start)
+    (λ c. each-start)
     (λ c. search needs)
     (λ c. search needs)
     (λ c κs. search needs)

@@ -1,10 +1,8 @@
 -- No word before i stands again behind it.
-use mathlib.Core.Path.{_≡_, refl}
-use Prim.Native.Nat.{ℕ, _-_}
-use native.Mathlib.Omega.{arith}
+use Prim.Native.Nat.{_-_}
 use borrow.Author.Needs.{needs}
 use lib.ListN.{length}
-use Rattle.checker.proofs.Every.{Apart, apart-next, apart-not, apart-end}
+use Rattle.checker.proofs.Every.{Apart, apart-start, apart-next, apart-not, passing-end}
 use Rattle.checker.proofs.tables.distinct.Statement.{statement}
 use Rattle.checker.proofs.tables.distinct.Tie as tie
 
@@ -20,7 +18,7 @@ distinct-spec =
     (tie.spec
     Inv-loop
     μ-loop
-    (λ c. record { within = omega arith; same = refl })
+    (λ c. apart-start)
     (λ c. search needs)
     (λ c. search needs)
     (λ c. search needs)
@@ -36,4 +34,4 @@ distinct-spec =
     (λ c.
     let t = c .before .before .before .before in
     apart-next (t .before .loop .inv) (t .loop-test .taken) (c .before .absent .ensures) (c .if1 .left))
-    (λ c. apart-end (c .before .loop .inv) (c .loop-test .left)))
+    (λ c. passing-end (c .before .loop .inv) (c .loop-test .left)))

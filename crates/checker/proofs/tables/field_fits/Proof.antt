@@ -1,5 +1,5 @@
 -- A used field is bounded, an unused one is zero.
-use mathlib.Core.Path.{_≡_, sym, ap}
+use mathlib.Core.Path.{sym, ap}
 use mathlib.Core.Bool.{Bool}
 use Rattle.typing.specs.TermChecks.{fieldFits}
 use Rattle.checker.proofs.tables.field_fits.Statement.{statement}

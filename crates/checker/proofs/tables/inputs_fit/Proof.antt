@@ -1,17 +1,16 @@
 -- Every input before i is a known type.
-use Prim.Native.Nat.{ℕ, _-_}
-use mathlib.Core.Path.{_≡_}
+use Prim.Native.Nat.{_-_}
 use borrow.Author.Needs.{needs}
 use borrow.Author.Tests.{lt-ltb, le-ltb}
 use lib.Dec.{ltb}
 use lib.ListN.{length}
 use Rattle.typing.specs.TableChecks.{wellFormedInputs}
-use Rattle.checker.proofs.Every.{Passing, passing-start, passing-next, passing-not, passing-end}
+use Rattle.checker.proofs.Every.{Each, each-start, passing-next, passing-not, passing-end}
 use Rattle.checker.proofs.tables.inputs_fit.Statement.{statement}
 use Rattle.checker.proofs.tables.inputs_fit.Tie as tie
 
 abbrev Inv-loop : tie.InvT-loop
-Inv-loop types inputs i₀ i = Passing (λ A. ltb A (length types)) inputs i
+Inv-loop types inputs i₀ i = Each (λ A. ltb A (length types)) inputs i
 
 abbrev μ-loop : tie.MeasureT-loop
 μ-loop types inputs i₀ i = length inputs - i
@@ -23,7 +22,7 @@ inputs-fit-spec =
     (tie.spec
     Inv-loop
     μ-loop
-    (λ c. passing-start)
+    (λ c. each-start)
     (λ c. search needs)
     (λ c. search needs)
     (λ c. let t = c .before .before in passing-not (t .before .loop .inv) (t .loop-test .taken) (le-ltb _ _ (c .if1 .taken)))

@@ -1,10 +1,8 @@
 -- Every type before i passes at its index.
-use mathlib.Core.Path.{_≡_, refl}
-use Prim.Native.Nat.{ℕ, _-_}
-use native.Mathlib.Omega.{arith}
+use Prim.Native.Nat.{_-_}
 use borrow.Author.Needs.{needs}
 use lib.ListN.{length}
-use Rattle.checker.proofs.Every.{Ordered, ordered-next, ordered-not, ordered-end}
+use Rattle.checker.proofs.Every.{Ordered, ordered-start, passing-next, passing-not, passing-end, told-true, told-false}
 use Rattle.checker.proofs.tables.types_fit.Statement.{statement}
 use Rattle.checker.proofs.tables.types_fit.Tie as tie
 
@@ -20,16 +18,16 @@ types-fit-spec =
     (tie.spec
     Inv-loop
     μ-loop
-    (λ c. record { within = omega arith; same = refl })
+    (λ c. ordered-start)
     (λ c. search needs)
     (λ c. search needs)
     (λ c κs. search needs)
     (λ c.
     let t = c .before .before .before in
-    ordered-not (t .before .loop .inv) (t .loop-test .taken) (c .before .type-fits .ensures) (c .if1 .taken))
+    passing-not (t .before .loop .inv) (t .loop-test .taken) (told-false (c .before .type-fits .ensures) (c .if1 .taken)))
     (λ c. search needs)
     (λ c. search needs)
     (λ c.
     let t = c .before .before .before in
-    ordered-next (t .before .loop .inv) (t .loop-test .taken) (c .before .type-fits .ensures) (c .if1 .left))
-    (λ c. ordered-end (c .before .loop .inv) (c .loop-test .left)))
+    passing-next (t .before .loop .inv) (t .loop-test .taken) (told-true (c .before .type-fits .ensures) (c .if1 .left)))
+    (λ c. passing-end (c .before .loop .inv) (c .loop-test .left)))

@@ -1,18 +1,16 @@
 -- Every word before i passes.
-use Prim.Native.Nat.{ℕ, _-_}
-use mathlib.Core.Path.{_≡_}
+use Prim.Native.Nat.{_-_}
 use mathlib.Core.List.{[]}
 use borrow.Author.Needs.{needs}
-use borrow.Author.Tests.{not-true, not-false}
 use lib.ListN.{length}
 use Rattle.syntax.specs.Tables.{over}
 use Rattle.typing.specs.TermChecks.{wellFormedWord, wellFormedWords}
-use Rattle.checker.proofs.Every.{Passing, passing-start, passing-next, passing-not, passing-end, told-true, told-false}
+use Rattle.checker.proofs.Every.{Each, each-start, passing-next, passing-not, passing-end, told-true, told-false}
 use Rattle.checker.proofs.words.words_fit.Statement.{statement}
 use Rattle.checker.proofs.words.words_fit.Tie as tie
 
 abbrev Inv-loop : tie.InvT-loop
-Inv-loop types calls term i₀ i = Passing (wellFormedWord (over types calls [])) term i
+Inv-loop types calls term i₀ i = Each (wellFormedWord (over types calls [])) term i
 
 abbrev μ-loop : tie.MeasureT-loop
 μ-loop types calls term i₀ i = length term - i
@@ -24,7 +22,7 @@ words-fit-spec =
     (tie.spec
     Inv-loop
     μ-loop
-    (λ c. passing-start)
+    (λ c. each-start)
     (λ c. search needs)
     (λ c. search needs)
     (λ c κs. search needs)
