@@ -4,3 +4,4 @@ pub mod Rewriting
 pub mod Remaining
 pub mod Standing
 pub mod Looping
+pub mod Running

@@ -2,3 +2,4 @@ pub mod Splices
 pub mod Currents
 pub mod Turns
 pub mod Reductions
+pub mod Runs
