@@ -5,3 +5,4 @@ pub mod Remaining
 pub mod Standing
 pub mod Looping
 pub mod Running
+pub mod Turning

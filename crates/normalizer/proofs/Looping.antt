@@ -52,7 +52,8 @@ module _ (calls : List ℕ) (capacity : ℕ) where
     pub standing : Standing (over types calls inputs) capacity whole phase words len from left counts
 
   -- whatever it stood for there, it stands for here
-  abbrev pub Carries : (phase₀ phase : Phase) (words₀ words : List ℕ) (len₀ len from₀ from left₀ left : ℕ) (counts₀ counts : Counts) → Type 0
+  abbrev pub Carries : (phase₀ phase : Phase) (words₀ words : List ℕ) (len₀ len from₀ from left₀ left : ℕ) (counts₀ counts : Counts)
+      → Type 0
   Carries phase₀ phase words₀ words len₀ len from₀ from left₀ left counts₀ counts =
       (types inputs : List ℕ) (whole : Progress) → Fitting (over types calls inputs)
       → Standing (over types calls inputs) capacity whole phase₀ words₀ len₀ from₀ left₀ counts₀
@@ -90,9 +91,11 @@ module _ (calls : List ℕ) (capacity : ℕ) where
       pub record InnerStep (rule : Rule) (place n : ℕ) : Type 0 where
         pub positive : 0 < left
         pub below : (i : ℕ) → getD counts i 0 < 4294967295
-        pub next : Inner phase words₀ after len₀ n from₀ (nextFrom phase place) left₀ (left - 1) counts₀ (raise rule counts) second₀ second′ refused
+        pub next : Inner phase words₀ after len₀ n from₀ (nextFrom phase place) left₀ (left - 1) counts₀
+            (raise rule counts) second₀ second′ refused
 
-      pub inner-steps : {rule : Rule} {place n : ℕ} → Turns phase calls words len from left capacity after (Stepped rule place n) → InnerStep rule place n
+      pub inner-steps : {rule : Rule} {place n : ℕ} → Turns phase calls words len from left capacity after (Stepped rule place n)
+          → InnerStep rule place n
       inner-steps {rule} {place} {n} x =
           let h : 0 < left = standing-steps _ capacity _ now rule place n (v .begun .fit) (v .limit) x .0 in
           record {
@@ -100,7 +103,8 @@ module _ (calls : List ℕ) (capacity : ℕ) where
             below = λ i. omega (arith, h, v .bounded i);
             next = record {
               begun = v .begun;
-              carries = λ types inputs whole fit s. standing-steps _ capacity _ (v .carries types inputs whole fit s) rule place n fit (v .limit) x .1;
+              carries = λ types inputs whole fit s. standing-steps _ capacity _ (v .carries types inputs whole fit s) rule place n fit
+                  (v .limit) x .1;
               bounded = λ i. omega (arith, h, v .bounded i, one-more counts (index rule) i);
               limit = v .limit;
               room = v .room;
@@ -112,7 +116,8 @@ module _ (calls : List ℕ) (capacity : ℕ) where
           }
 
   -- the outer loop's invariant: where it begins, nothing is done
-  pub record Outer (phase : Phase) (words₀ words : List ℕ) (len₀ len budget left : ℕ) (counts : Counts) (second₀ second : List ℕ) (refused : ℕ) : Type 0 where
+  pub record Outer (phase : Phase) (words₀ words : List ℕ) (len₀ len budget left : ℕ) (counts : Counts) (second₀ second : List ℕ)
+      (refused : ℕ) : Type 0 where
     pub begun : Stands Insertion words₀ len₀ 0 budget zeroCounts
     pub carries : Carries Insertion phase words₀ words len₀ len 0 0 budget left zeroCounts counts
     pub bounded : Bounded left counts
@@ -123,7 +128,8 @@ module _ (calls : List ℕ) (capacity : ℕ) where
     pub same-second : length second ≡ length second₀
     pub none-yet : refused ≡ 0
 
-  pub inner-begins : {phase : Phase} {words₀ words : List ℕ} {len₀ len budget left : ℕ} {counts : Counts} {second₀ second : List ℕ} {refused : ℕ}
+  pub inner-begins : {phase : Phase} {words₀ words : List ℕ} {len₀ len budget left : ℕ} {counts : Counts} {second₀ second : List ℕ}
+      {refused : ℕ}
       → Outer phase words₀ words len₀ len budget left counts second₀ second refused
       → Inner phase words words len len 0 0 left left counts counts second second refused
   inner-begins o = record {
@@ -167,7 +173,8 @@ module _ (calls : List ℕ) (capacity : ℕ) where
 
     -- the reduction of whatever term was current at first stands here
     pub outer-stands : (t : Term) → Current calls words₀ len₀ t
-        → Standing (over (o .begun .types) calls (o .begun .inputs)) capacity (reduce allPure capacity (record { budget = budget }) t) phase words len from left counts
+        → Standing (over (o .begun .types) calls (o .begun .inputs)) capacity
+        (reduce allPure capacity (record { budget = budget }) t) phase words len from left counts
     outer-stands t c =
         let s = o .begun .standing in
         let e : s .term ≡ t = current-unique (s .at .current) c in
@@ -175,20 +182,23 @@ module _ (calls : List ℕ) (capacity : ℕ) where
         v .carries _ _ _ (o .begun .fit) (o .carries _ _ _ (o .begun .fit) (record {
           term = t;
           type = s .type;
-          at = record { current = c; clear = clear-zero allPure Insertion t; begun = tt };
-          typed = subst (λ (x : Term). infer (over (o .begun .types) calls (o .begun .inputs)) x (o .begun .inputs) ≡ some (s .type)) e (s .typed);
+          at = record { current = c; inside = omega arith; clear = clear-zero allPure Insertion t; begun = tt };
+          typed = subst (λ (x : Term). infer (over (o .begun .types) calls (o .begun .inputs)) x (o .begun .inputs) ≡ some (s .type)) e
+              (s .typed);
           small = s .small;
           same = sym (reduce-begins allPure capacity budget t z);
         }))
 
     -- it is refused
-    pub outer-refused : (after : List ℕ) (n : ℕ) (r : Reduced) → Turns phase calls words len from left capacity after (Refused n) → r .refusal ≡ n → r .counts ≡ counts
+    pub outer-refused : (after : List ℕ) (n : ℕ) (r : Reduced) → Turns phase calls words len from left capacity after (Refused n)
+        → r .refusal ≡ n → r .counts ≡ counts
         → Reduces calls words₀ len₀ budget capacity after r
     outer-refused after n r x re ce = record {
       told = λ t c.
           let s = outer-stands t c in
           let k = number (x .told (s .term) (s .at)) in
-          subst (Comes after r) (sym (standing-refused _ capacity _ s n x ∙ ap (λ (i : ℕ). stopped i counts) (k .1))) (refusal (re ∙ k .1) ce);
+          subst (Comes after r) (sym (standing-refused _ capacity _ s n x ∙ ap (λ (i : ℕ). stopped i counts) (k .1)))
+          (refusal (re ∙ k .1) ce);
     }
       where
         number : {t : Term} {n : ℕ} {after : List ℕ} → Turned phase calls after len left capacity t (Refused n) → (m : ℕ) × (n ≡ suc m)
@@ -200,7 +210,8 @@ module _ (calls : List ℕ) (capacity : ℕ) where
       {second₀ second₁ second : List ℕ} {refused₁ refused : ℕ}
       (o : Outer Dropping words₀ words₁ len₀ len₁ budget left₁ counts₁ second₀ second₁ refused₁)
       (v : Inner Dropping words₁ words len₁ len 0 from left₁ left counts₁ counts second₁ second refused)
-      → (r : Reduced) → Turns Dropping calls words len from left capacity after Stop → r .refusal ≡ refused → r .counts ≡ counts → r .length ≡ len
+      → (r : Reduced) → Turns Dropping calls words len from left capacity after Stop → r .refusal ≡ refused → r .counts ≡ counts
+      → r .length ≡ len
       → Reduces calls words₀ len₀ budget capacity after r
   outer-ended {after = after} o v r x re ce le = record {
     told = λ t c.
@@ -221,7 +232,7 @@ module _ (calls : List ℕ) (capacity : ℕ) where
       standing = record {
         term = x .term;
         type = x .type;
-        at = record { current = x .current; clear = clear-zero allPure Insertion (x .term); begun = tt };
+        at = record { current = x .current; inside = omega arith; clear = clear-zero allPure Insertion (x .term); begun = tt };
         typed = x .typed;
         small = x .small;
         same = sym (reduce-begins allPure capacity budget (x .term) (omega (arith, x .small, x .current .front .length-is)));

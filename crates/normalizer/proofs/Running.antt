@@ -29,7 +29,8 @@ module _ (budget : ℕ) (tables : Tables) (words : List ℕ) (before : Buffers) 
   within = normalizeWithin (capacityOf before) settings tables words
 
   -- an outcome with these words
-  runs : {answer : Answer} {output : List ℕ} (n : Normalized) → within ≡ n → answer ≡ n .answer → output ≡ overwrite (n .words) (before .output)
+  runs : {answer : Answer} {output : List ℕ} (n : Normalized) → within ≡ n → answer ≡ n .answer
+      → output ≡ overwrite (n .words) (before .output)
       → Runs settings tables words before answer output
   runs n e a o = record {
     answer-is = a ∙ ap (λ (x : Normalized). x .answer) (sym e);
@@ -55,10 +56,12 @@ module _ (budget : ℕ) (tables : Tables) (words : List ℕ) (before : Buffers) 
     pub runs-too-long : capacityOf before < size (x .term)
         → Runs settings tables words before (record { refusal = 11; ty = 0; length = 0; counts = zeroCounts }) (before .output)
     unfolding reducedTo
-    runs-too-long h = runs _ (reduces (stopped 11 zeroCounts) (reduce-too-long allPure (capacityOf before) budget (x .term) h)) refl untouched
+    runs-too-long h = runs _ (reduces (stopped 11 zeroCounts) (reduce-too-long allPure (capacityOf before) budget (x .term) h)) refl
+        untouched
 
     -- stopped on the way
-    pub runs-stopped : {after : List ℕ} (r : Reduced) → Comes after r (reduce allPure (capacityOf before) settings (x .term)) → (r .refusal ≡ 0 → ⊥)
+    pub runs-stopped : {after : List ℕ} (r : Reduced) → Comes after r (reduce allPure (capacityOf before) settings (x .term))
+        → (r .refusal ≡ 0 → ⊥)
         → Runs settings tables words before (record { refusal = r .refusal; ty = 0; length = 0; counts = r .counts }) (before .output)
     unfolding reducedTo
     runs-stopped {after} r c z = go (reduce allPure (capacityOf before) settings (x .term)) refl c
@@ -70,7 +73,8 @@ module _ (budget : ℕ) (tables : Tables) (words : List ℕ) (before : Buffers) 
         go (reached left u counts) h (ended re ce f) = absurd (z re)
 
     -- come through
-    pub runs-ended : {after : List ℕ} (r : Reduced) (A : ℕ) → Comes after r (reduce allPure (capacityOf before) settings (x .term)) → r .refusal ≡ 0
+    pub runs-ended : {after : List ℕ} (r : Reduced) (A : ℕ) → Comes after r (reduce allPure (capacityOf before) settings (x .term))
+        → r .refusal ≡ 0
         → x .type ≡ A
         → Runs settings tables words before (record { refusal = 0; ty = A; length = r .length; counts = r .counts })
         (paste (before .output) 0 after (r .length))
@@ -89,7 +93,8 @@ module _ (budget : ℕ) (tables : Tables) (words : List ℕ) (before : Buffers) 
             same ce le = ap₂ {C = Answer} (λ (i : ℕ) (cs : Counts). record { refusal = 0; ty = A; length = i; counts = cs }) le ce
                 ∙ ap (λ (B : ℕ). record { refusal = 0; ty = B; length = size u; counts = counts }) (sym te)
 
-            front : Front after (r .length) u → paste (before .output) 0 after (r .length) ≡ encode u ++ drop (length (encode u)) (before .output)
+            front : Front after (r .length) u → paste (before .output) 0 after (r .length) ≡ encode u
+                ++ drop (length (encode u)) (before .output)
             front f =
                 let none : 0 + r .length ≡ length (encode u) = omega (arith, f .length-is) in
                 ap₂ {C = List ℕ} (λ (x : List ℕ) (k : ℕ). x ++ drop k (before .output)) (f .words-are) none

@@ -19,7 +19,8 @@ use Rattle.reduction.specs.Reduction.{Counts, raise, Progress, stopped, reached
 use Rattle.reduction.specs.declared.Rule.{Rule}
 use Rattle.reduction.specs.declared.Phase.{Phase}
 use Rattle.reduction.specs.declared.Phase.the-variants.{Insertion, Reduction, Dropping}
-use Rattle.reduction.proofs.Clear.{clear-zero}
+use Rattle.syntax.proofs.Sites.{site, size-plugged}
+use Rattle.reduction.proofs.Clear.{clear-zero, step-at}
 use Rattle.theory.proofs.Fields.{Fitting, shaped}
 use Rattle.theory.proofs.TypesKept.{infer-step}
 use Rattle.theory.proofs.Operands.{inserted, not-inserted}
@@ -44,6 +45,21 @@ unfolding nextFrom
 clear-next Insertion t s e b = next-insertion allPure t s e
 clear-next Reduction t s e b = next-reduction allPure t s (inserted allPure t b) e
 clear-next Dropping t s e b = clear-zero allPure Dropping (s .next)
+
+-- and that place is within the next term
+inside-next : (phase : Phase) (t : Term) (s : Step) → step allPure phase t ≡ some s → nextFrom phase (s .place) ≤ size (s .next)
+unfolding nextFrom
+inside-next phase t s e = below phase (place-inside t s e)
+  where
+    place-inside : (t : Term) (s : Step) → step allPure phase t ≡ some s → s .place ≤ size (s .next)
+    place-inside t s e =
+        let f = step-at allPure phase t s e in
+        omega (arith, ap size (f .next), size-plugged (site t (s .place) (f .position) (f .at)) (f .contraction .contractum))
+
+    below : (phase : Phase) → s .place ≤ size (s .next) → nextFrom phase (s .place) ≤ size (s .next)
+    below Insertion h = h
+    below Reduction h = omega (arith, h)
+    below Dropping h = omega arith
 
 module _ (tables : Tables) (capacity : ℕ) (whole : Progress) where
   -- the term, its type, and what is left to do
@@ -118,6 +134,7 @@ module _ (tables : Tables) (capacity : ℕ) (whole : Progress) where
             type = s .type;
             at = record {
               current = record { shaped = typed-shaped fit limit (st .next) (s .type) typed l; front = f };
+              inside = omega (arith, f .length-is, inside-next phase (s .term) st e);
               clear = clear-next phase (s .term) st e (s .at .begun);
               begun = begun-next phase (s .term) st e (s .at .begun);
             };
@@ -140,7 +157,7 @@ module _ (tables : Tables) (capacity : ℕ) (whole : Progress) where
         record {
           term = s .term;
           type = s .type;
-          at = record { current = q .1; clear = clear-zero allPure Reduction (s .term); begun = q .0 };
+          at = record { current = q .1; inside = omega arith; clear = clear-zero allPure Reduction (s .term); begun = q .0 };
           typed = s .typed;
           small = s .small;
           same = sym (ap (onwards allPure capacity Insertion) (turn-stops allPure capacity Insertion left (s .term) counts (q .0))
@@ -155,7 +172,7 @@ module _ (tables : Tables) (capacity : ℕ) (whole : Progress) where
         record {
           term = s .term;
           type = s .type;
-          at = record { current = q .1; clear = clear-zero allPure Dropping (s .term); begun = tt };
+          at = record { current = q .1; inside = omega arith; clear = clear-zero allPure Dropping (s .term); begun = tt };
           typed = s .typed;
           small = s .small;
           same = sym (ap (onwards allPure capacity Reduction) (turn-stops allPure capacity Reduction left (s .term) counts (q .0))

@@ -24,6 +24,7 @@ Begun Dropping t = Unit
 -- the term t is current, and no redex of the phase stands before `from`
 pub record At (phase : Phase) (calls words : List ℕ) (len from : ℕ) (t : Term) : Type 0 where
   pub current : Current calls words len t
+  pub inside : from ≤ len
   pub clear : Clear allPure phase t from
   pub begun : Begun phase t
 
