@@ -1,8 +1,8 @@
 -- A forward scan finds the first redex: the nodes of a term are its words in index order, so word k of the words from index i on begins the
 -- subterm at index i + k, and a node that no rule fits moves the place that no redex stands before by one.
-use Prim.Native.Nat.{ℕ, suc, _+_, _-_, _≤_, _<_}
-use mathlib.Core.Path.{_≡_, refl, sym, _∙_, ap, subst}
-use mathlib.Core.List.{List, _++_}
+use Prim.Native.Nat.{ℕ, _+_, _-_, _≤_, _<_}
+use mathlib.Core.Path.{_≡_, refl, sym, _∙_, ap}
+use mathlib.Core.List.{List}
 use mathlib.Core.Option.{Option, some, none, Option·map}
 use native.Mathlib.Omega.{arith}
 use lib.ListN.{length, drop, getElem?, length-drop}
@@ -11,7 +11,7 @@ use Rattle.syntax.specs.Term.{Term}
 use Rattle.syntax.specs.Encoding.{encode, size}
 use Rattle.syntax.specs.Positions.{Position, positions}
 use Rattle.syntax.proofs.Nodes.{tail-part}
-use Rattle.syntax.proofs.Sites.{Site, site, drop-site, position-at}
+use Rattle.syntax.proofs.Sites.{site, drop-site, position-at}
 use Rattle.syntax.proofs.Inherited.{shaped-site}
 use Rattle.reduction.specs.Rules.{allPure, rules}
 use Rattle.reduction.specs.Clear.{Clear}
@@ -53,8 +53,8 @@ a-rule : (phase : Phase) (t : Term) (r : Rule) (k : ℕ) → rootRedex (ruleOf p
 unfolding ruleOf
 a-rule phase t r k e = go (contract allPure (rules phase) t) refl e
   where
-    go : (o : Option Contraction) → contract allPure (rules phase) t ≡ o → rootRedex (Option·map (λ (c : Contraction). c .rule) o) ≡ Redex r k
-        → Rules phase t r
+    go : (o : Option Contraction) → contract allPure (rules phase) t ≡ o
+        → rootRedex (Option·map (λ (c : Contraction). c .rule) o) ≡ Redex r k → Rules phase t r
     go none f d = let z : _≡_ {A = ℕ} 0 1 = cc in absurd (omega arith)
     go (some c) f d = record { contraction = c; is = f; rule-is = cc }
 
