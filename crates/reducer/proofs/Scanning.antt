@@ -58,6 +58,13 @@ a-rule phase t r k e = go (contract allPure (rules phase) t) refl e
     go none f d = let z : _≡_ {A = ℕ} 0 1 = cc in absurd (omega arith)
     go (some c) f d = record { contraction = c; is = f; rule-is = cc }
 
+-- a node that a rule fits, where no redex stands before it, is the first redex
+redex-at : (phase : Phase) (t : Term) (i : ℕ) (p : Position Term) (r : Rule) → Clear allPure phase t i → getElem? (positions t) i ≡ some p
+    → Rules phase (p .subterm) r → firstRedex allPure phase t ≡ Redex r i
+unfolding firstRedex
+redex-at phase t i p r h e c = ap foundOf (first-at allPure phase t i p (c .contraction) h e (c .is))
+    ∙ ap (λ (q : Rule). Redex q i) (c .rule-is)
+
 module _ (phase : Phase) (calls words : List ℕ) where
   -- no redex stands before word k
   pub record Scanned (k : ℕ) : Type 0 where
@@ -107,13 +114,12 @@ module _ (phase : Phase) (calls words : List ℕ) where
 
       -- a rule fits there
       pub scan-found : (r : Rule) (x : ℕ) → f ≡ Redex r x → FindsFirst phase calls words (Redex r k)
-      unfolding firstRedex
       scan-found r x e = record {
         told = λ t i o.
             let p = position-at t (i + k) (omega (arith, ends t i o)) in
-            let c = a-rule phase (p .position .subterm) r x (sym (fit-at t i o k (p .position) (p .is) a) ∙ e) in
-            ap (λ (q : Rule). Redex q (i + k)) (sym (c .rule-is))
-            ∙ sym (ap foundOf (first-at allPure phase t (i + k) (p .position) (c .contraction) (s .clear t i o) (p .is) (c .is)));
+            let q = p .position in
+            sym (redex-at phase t (i + k) q r (s .clear t i o) (p .is)
+            (a-rule phase (q .subterm) r x (sym (fit-at t i o k q (p .is) a) ∙ e)));
       }
 
   -- after the last word
