@@ -2,25 +2,22 @@
 -- and every operand is a value, the rule that three kinds decide.
 use Prim.Native.Nat.{ℕ}
 use mathlib.Core.Path.{_≡_, refl, sym, _∙_, ap, subst}
-use mathlib.Core.Bool.{Bool, true, false}
-use mathlib.Core.List.{List, _++_}
+use mathlib.Core.Bool.{Bool}
+use mathlib.Core.List.{List}
 use mathlib.Core.Option.{Option, some, none, Option·map}
 use lib.ListN.{getD}
 use Rattle.syntax.specs.Maybe.{given, isSome}
 use Rattle.syntax.specs.Words.{kindOf}
 use Rattle.syntax.specs.Term.{Term}
-use Rattle.syntax.specs.Encoding.{encode}
 use Rattle.reduction.specs.Rules.{letInsertion, allPure, fire, rules}
 use Rattle.reduction.specs.FitByKinds.{ruleByKinds}
 use Rattle.reduction.specs.declared.Phase.{Phase}
 use Rattle.reduction.specs.declared.Phase.the-variants.{Insertion, Reduction, Dropping}
-use Rattle.reduction.specs.declared.Rule.{Rule}
 use Rattle.reduction.specs.declared.Rule.the-variants.{LetInsertion}
 use Rattle.reduction.specs.declared.Found.{Found}
 use Rattle.reduction.specs.Redex.{Contraction, contract}
 use Rattle.theory.proofs.Operands.{inserted}
 use Rattle.theory.proofs.FitByKinds.{fit-by-kinds}
-use Rattle.parts.specs.Fronts.{Holds}
 use Rattle.reducer.specs.Operands.{Finds}
 use Rattle.reducer.specs.Fits.{rootRedex, ruleOf, Scannable, Fits}
 use Rattle.reducer.specs.declared.fits.Operand.{Operand}

@@ -1,6 +1,6 @@
 -- Let insertion fits a node exactly if one of its operands is no value, and the operands are the first so many of its parts.
-use Prim.Native.Nat.{ℕ, zero, suc, _+_, _≤_, _<_}
-use mathlib.Core.Path.{_≡_, refl, sym, _∙_, ap}
+use Prim.Native.Nat.{ℕ, zero, suc, _≤_, _<_}
+use mathlib.Core.Path.{_≡_, refl, ap}
 use mathlib.Core.Bool.{Bool, true, false, _&&_, not}
 use mathlib.Core.Option.{Option, some, none}
 use native.Mathlib.Omega.{arith}
@@ -19,8 +19,8 @@ valuesTo (suc m) done = true
 valuesTo (suc m) (arg t ts) = isValue t && valuesTo m ts
 
 -- what is found for an operand that is a value or not, given what is found for those behind it
-first-or : (b v : Bool) (o : Option Term) (u : Term) → isSome o ≡ not v → isSome {X = Term} (elim b as (λ _. Option Term) [ true ↦ o | false ↦ some u ])
-    ≡ not (b && v)
+first-or : (b v : Bool) (o : Option Term) (u : Term) → isSome o ≡ not v
+    → isSome {X = Term} (elim b as (λ _. Option Term) [ true ↦ o | false ↦ some u ]) ≡ not (b && v)
 first-or true v o u e = e
 first-or false v o u e = refl
 

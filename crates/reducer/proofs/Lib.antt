@@ -4,3 +4,4 @@ pub mod Inserting
 pub mod Finding
 pub mod Fitting
 pub mod Scanning
+pub mod Naming

@@ -1,8 +1,8 @@
 -- A forward scan finds the first redex: the nodes of a term are its words in index order, so word k of the words from index i on begins the
 -- subterm at index i + k, and a node that no rule fits moves the place that no redex stands before by one.
-use Prim.Native.Nat.{ℕ, suc, _+_, _-_, _≤_, _<_}
-use mathlib.Core.Path.{_≡_, refl, sym, _∙_, ap, subst}
-use mathlib.Core.List.{List, _++_}
+use Prim.Native.Nat.{ℕ, _+_, _-_, _≤_, _<_}
+use mathlib.Core.Path.{_≡_, refl, sym, _∙_, ap}
+use mathlib.Core.List.{List}
 use mathlib.Core.Option.{Option, some, none, Option·map}
 use native.Mathlib.Omega.{arith}
 use lib.ListN.{length, drop, getElem?, length-drop}
@@ -11,7 +11,7 @@ use Rattle.syntax.specs.Term.{Term}
 use Rattle.syntax.specs.Encoding.{encode, size}
 use Rattle.syntax.specs.Positions.{Position, positions}
 use Rattle.syntax.proofs.Nodes.{tail-part}
-use Rattle.syntax.proofs.Sites.{Site, site, drop-site, position-at}
+use Rattle.syntax.proofs.Sites.{site, drop-site, position-at}
 use Rattle.syntax.proofs.Inherited.{shaped-site}
 use Rattle.reduction.specs.Rules.{allPure, rules}
 use Rattle.reduction.specs.Clear.{Clear}
@@ -53,10 +53,17 @@ a-rule : (phase : Phase) (t : Term) (r : Rule) (k : ℕ) → rootRedex (ruleOf p
 unfolding ruleOf
 a-rule phase t r k e = go (contract allPure (rules phase) t) refl e
   where
-    go : (o : Option Contraction) → contract allPure (rules phase) t ≡ o → rootRedex (Option·map (λ (c : Contraction). c .rule) o) ≡ Redex r k
-        → Rules phase t r
+    go : (o : Option Contraction) → contract allPure (rules phase) t ≡ o
+        → rootRedex (Option·map (λ (c : Contraction). c .rule) o) ≡ Redex r k → Rules phase t r
     go none f d = let z : _≡_ {A = ℕ} 0 1 = cc in absurd (omega arith)
     go (some c) f d = record { contraction = c; is = f; rule-is = cc }
+
+-- a node that a rule fits, where no redex stands before it, is the first redex
+redex-at : (phase : Phase) (t : Term) (i : ℕ) (p : Position Term) (r : Rule) → Clear allPure phase t i → getElem? (positions t) i ≡ some p
+    → Rules phase (p .subterm) r → firstRedex allPure phase t ≡ Redex r i
+unfolding firstRedex
+redex-at phase t i p r h e c = ap foundOf (first-at allPure phase t i p (c .contraction) h e (c .is))
+    ∙ ap (λ (q : Rule). Redex q i) (c .rule-is)
 
 module _ (phase : Phase) (calls words : List ℕ) where
   -- no redex stands before word k
@@ -107,13 +114,12 @@ module _ (phase : Phase) (calls words : List ℕ) where
 
       -- a rule fits there
       pub scan-found : (r : Rule) (x : ℕ) → f ≡ Redex r x → FindsFirst phase calls words (Redex r k)
-      unfolding firstRedex
       scan-found r x e = record {
         told = λ t i o.
             let p = position-at t (i + k) (omega (arith, ends t i o)) in
-            let c = a-rule phase (p .position .subterm) r x (sym (fit-at t i o k (p .position) (p .is) a) ∙ e) in
-            ap (λ (q : Rule). Redex q (i + k)) (sym (c .rule-is))
-            ∙ sym (ap foundOf (first-at allPure phase t (i + k) (p .position) (c .contraction) (s .clear t i o) (p .is) (c .is)));
+            let q = p .position in
+            sym (redex-at phase t (i + k) q r (s .clear t i o) (p .is)
+            (a-rule phase (q .subterm) r x (sym (fit-at t i o k q (p .is) a) ∙ e)));
       }
 
   -- after the last word

@@ -1,11 +1,10 @@
 -- The end of the part at the front, as the call answers it, is the size of the term there: a term's words do not run out.
 use Prim.Native.Nat.{ℕ}
-use mathlib.Core.Path.{_≡_, refl, sym, _∙_, ap}
-use mathlib.Core.List.{List, _++_}
-use mathlib.Core.Option.{Option, some}
+use mathlib.Core.Path.{_≡_, _∙_, ap}
+use mathlib.Core.List.{List}
 use native.Mathlib.Omega.{arith}
 use Rattle.syntax.specs.Term.{Term}
-use Rattle.syntax.specs.Encoding.{encode, size}
+use Rattle.syntax.specs.Encoding.{size}
 use Rattle.syntax.specs.Parts.{partEnd}
 use Rattle.syntax.proofs.Parts.{part-end}
 use Rattle.parts.specs.Fronts.{Holds, Starts}

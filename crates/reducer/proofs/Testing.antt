@@ -6,14 +6,14 @@ use mathlib.Core.List.{List, _++_}
 use native.Mathlib.Omega.{arith}
 use lib.ListN.{length, getD}
 use Rattle.syntax.specs.Words.{kindOf}
-use Rattle.syntax.specs.Term.{Term, Terms, var, call, lam, app, bind, pair, fst, snd, inl, inr, case, done, arg, node}
-use Rattle.syntax.specs.Encoding.{encodeAll, size}
+use Rattle.syntax.specs.Term.{Term, Terms, var, call, lam, app, bind, pair, fst, snd, inl, inr, case, node}
+use Rattle.syntax.specs.Encoding.{encodeAll}
 use Rattle.syntax.specs.Parts.{partCount}
 use Rattle.syntax.specs.Values.{isValue}
 use Rattle.reduction.specs.FitByKinds.{valueKind}
 use Rattle.parts.specs.Fronts.{Holds, Starts, from}
 use Rattle.parts.proofs.Traversal.{front-of, Going, enter, Does, reached, onward, next, leave}
-use Rattle.reducer.specs.ValueTest.{Sized, Tested, Tests}
+use Rattle.reducer.specs.ValueTest.{Sized, Tests}
 use Rattle.reducer.specs.Operands.{allValues}
 use Rattle.reducer.specs.declared.value.Value.{Value}
 
@@ -67,14 +67,15 @@ other-kind (case s l r) h = refl
 abbrev pub Testing : Term → Terms → Type 0
 Testing t ts = isValue t ≡ allValues ts
 
-module _ (calls words : List ℕ) where
+module _ {calls words : List ℕ} where
   -- no value, and a value that ends there
-  computation : (r : Value) → r .value ≡ false → ((t : Term) (rest : List ℕ) → Holds calls words t rest → isValue t ≡ false) → Tests calls words r
+  computation : (r : Value) → r .value ≡ false
+      → ((t : Term) (rest : List ℕ) → Holds calls words t rest → isValue t ≡ false) → Tests calls words r
   computation r e h = record {
     told = λ t rest x. record { value-is = e ∙ sym (h t rest x); end-is = λ d. apart d e };
   }
 
-  module _ (k : ℕ) (ke : k ≡ kindOf (getD words 0 0)) where
+  module _ {k : ℕ} (ke : k ≡ kindOf (getD words 0 0)) where
     pub test-other : {b : Bool} (r : Value) → b ≡ valueKind k → b ≡ false → r .value ≡ false → Tests calls words r
     test-other r be bf e = computation r e λ t rest h.
         other-kind t (ap valueKind (sym (front-of h .kind) ∙ sym ke) ∙ sym be ∙ bf)
@@ -88,14 +89,14 @@ module _ (calls words : List ℕ) where
     }
 
     -- before the first part
-    pub test-enter : {b : Bool} (n : ℕ) → Starts calls words → b ≡ valueKind k → b ≡ true → (k ≡ 2 → ⊥)
+    pub test-enter : {b : Bool} {n : ℕ} → Starts calls words → b ≡ valueKind k → b ≡ true → (k ≡ 2 → ⊥)
         → n ≡ partCount calls (getD words 0 0) → Going calls words Testing n 1 0
-    test-enter n s be bt k2 e = enter calls words Testing n s e λ t rest h.
+    test-enter {n = n} s be bt k2 e = enter calls words Testing n s e λ t rest h.
         let f : node t .kind ≡ k = sym (front-of h .kind) ∙ sym ke in
         value-parts t (ap valueKind f ∙ sym be ∙ bt) (λ d. k2 (sym f ∙ d))
 
-  module _ (n at j : ℕ) (g : Going calls words Testing n at j) where
-    module _ (lt : j < n) (r : Value) (a : Tests calls (from words at) r) where
+  module _ {n at j : ℕ} (g : Going calls words Testing n at j) where
+    module _ (lt : j < n) {r : Value} (a : Tests calls (from words at) r) where
       -- a part that is no value
       pub test-fails : (x : Value) → r .value ≡ false → x .value ≡ false → Tests calls words x
       unfolding allValues

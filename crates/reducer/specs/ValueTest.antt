@@ -1,7 +1,7 @@
 -- What the value test says, for whatever term is at the front.
 use Prim.Native.Nat.{ℕ}
 use mathlib.Core.Path.{_≡_}
-use mathlib.Core.Bool.{Bool, true}
+use mathlib.Core.Bool.{true}
 use mathlib.Core.List.{List}
 use Rattle.syntax.specs.Term.{Term}
 use Rattle.syntax.specs.Encoding.{size}

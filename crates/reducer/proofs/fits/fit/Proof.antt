@@ -3,12 +3,6 @@ use Rattle.reducer.proofs.Fitting.{fits-insertion, fits-reduction, fits
 use borrow.Author.Needs.{needs}
 use Rattle.reducer.proofs.fits.fit.Statement.{statement}
 use Rattle.reducer.proofs.fits.fit.Tie as tie
-use Rattle.reducer.proofs.fits.fit.Reads as reads
-use Rattle.reducer.proofs.fits.fit.Lts as lts
-use Rattle.reducer.proofs.fits.first_computation.Reads as first-computation-reads
-use Rattle.reducer.proofs.fits.fit_kinds.Reads as fit-kinds-reads
-use Rattle.reducer.proofs.fits.kind_at.Reads as kind-at-reads
-use Rattle.reducer.proofs.fits.only_if.Reads as only-if-reads
 
 pub fit-spec : {M : Type 1} → statement M
 fit-spec =

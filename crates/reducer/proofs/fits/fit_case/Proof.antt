@@ -1,14 +1,11 @@
 -- Each arm of the match is the definition at its kind.
-use mathlib.Core.Path.{_≡_, refl, sym, _∙_, ap}
+use mathlib.Core.Path.{sym, _∙_, ap}
 use borrow.Author.Tests.{ne-eqb}
 use Prim.Native.Nat.{ℕ}
 use Rattle.reducer.specs.Fits.{rootRedex, caseByKind}
 use borrow.Author.Needs.{needs}
 use Rattle.reducer.proofs.fits.fit_case.Statement.{statement}
 use Rattle.reducer.proofs.fits.fit_case.Tie as tie
-use Rattle.reducer.proofs.fits.fit_case.Reads as reads
-use Rattle.reducer.proofs.fits.fit_case.Lts as lts
-use Rattle.reducer.proofs.fits.only_if.Reads as only-if-reads
 
 pub fit-case-spec : {M : Type 1} → statement M
 unfolding caseByKind

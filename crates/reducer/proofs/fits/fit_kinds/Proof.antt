@@ -1,5 +1,5 @@
 -- Each arm of the match is the definition at its kind.
-use mathlib.Core.Path.{_≡_, refl, sym, _∙_, ap}
+use mathlib.Core.Path.{sym, _∙_, ap}
 use borrow.Author.Tests.{ne-eqb}
 use Prim.Native.Nat.{ℕ}
 use Rattle.reduction.specs.FitByKinds.{ruleByKinds}
@@ -7,11 +7,6 @@ use Rattle.reducer.specs.Fits.{rootRedex, caseByKind}
 use borrow.Author.Needs.{needs}
 use Rattle.reducer.proofs.fits.fit_kinds.Statement.{statement}
 use Rattle.reducer.proofs.fits.fit_kinds.Tie as tie
-use Rattle.reducer.proofs.fits.fit_kinds.Reads as reads
-use Rattle.reducer.proofs.fits.fit_kinds.Lts as lts
-use Rattle.reducer.proofs.fits.fit_case.Reads as fit-case-reads
-use Rattle.reducer.proofs.fits.fit_let.Reads as fit-let-reads
-use Rattle.reducer.proofs.fits.only_if.Reads as only-if-reads
 
 pub fit-kinds-spec : {M : Type 1} → statement M
 unfolding ruleByKinds caseByKind

@@ -1,19 +1,15 @@
 -- Each arm of the match is the definition at its kind.
-use mathlib.Core.Path.{_≡_, refl, sym, _∙_, ap}
+use mathlib.Core.Path.{sym, _∙_, ap}
 use mathlib.Core.Bool.{Bool, not}
 use borrow.Author.Tests.{ne-eqb}
 use Prim.Native.Nat.{ℕ}
 use Rattle.syntax.specs.Maybe.{given}
 use Rattle.reduction.specs.FitByKinds.{letByKinds}
-use Rattle.reduction.specs.declared.Rule.the-variants.{LetOfLet, LetOfCase, LetValue}
+use Rattle.reduction.specs.declared.Rule.the-variants.{LetOfLet, LetValue}
 use Rattle.reducer.specs.Fits.{rootRedex}
 use borrow.Author.Needs.{needs}
 use Rattle.reducer.proofs.fits.fit_let.Statement.{statement}
 use Rattle.reducer.proofs.fits.fit_let.Tie as tie
-use Rattle.reducer.proofs.fits.fit_let.Reads as reads
-use Rattle.reducer.proofs.fits.fit_let.Lts as lts
-use Rattle.reducer.proofs.fits.only_if.Reads as only-if-reads
-use Rattle.reducer.proofs.value.value_kind.Reads as value-kind-reads
 
 pub fit-let-spec : {M : Type 1} → statement M
 unfolding letByKinds

@@ -1,13 +1,10 @@
 -- Past the end a list's words count as 0, and so does their kind.
-use mathlib.Core.Path.{_≡_, refl, sym, _∙_, ap}
+use mathlib.Core.Path.{sym, ap}
 use Prim.Native.Nat.{ℕ, _/_, _^_}
 use lib.ListN.{List·getD-eq-default}
 use borrow.Author.Needs.{needs}
 use Rattle.reducer.proofs.fits.kind_at.Statement.{statement}
 use Rattle.reducer.proofs.fits.kind_at.Tie as tie
-use Rattle.reducer.proofs.fits.kind_at.Reads as reads
-use Rattle.reducer.proofs.fits.kind_at.Lts as lts
-use Rattle.parts.proofs.fields.kind.Reads as kind-reads
 
 pub kind-at-spec : {M : Type 1} → statement M
 kind-at-spec = tie.close (tie.spec (λ c. search needs) (λ c. search needs) (λ c κs. search needs) (λ c. search needs) (λ c.

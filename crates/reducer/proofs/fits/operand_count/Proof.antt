@@ -1,12 +1,10 @@
 -- Each arm of the match is the definition at its kind.
-use mathlib.Core.Path.{_≡_, refl, sym, _∙_, ap}
+use mathlib.Core.Path.{sym, ap}
 use borrow.Author.Tests.{ne-eqb}
 use Prim.Native.Nat.{ℕ}
 use Rattle.reducer.specs.Operands.{operandCount}
 use Rattle.reducer.proofs.fits.operand_count.Statement.{statement}
 use Rattle.reducer.proofs.fits.operand_count.Tie as tie
-use Rattle.reducer.proofs.fits.operand_count.Reads as reads
-use Rattle.reducer.proofs.fits.operand_count.Lts as lts
 
 pub operand-count-spec : {M : Type 1} → statement M
 unfolding operandCount

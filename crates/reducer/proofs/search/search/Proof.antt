@@ -1,16 +1,12 @@
 -- No redex stands before the word that the scan has reached.
 use borrow.Author.Needs.{needs}
-use Prim.Native.Nat.{_≤_, _+_, _-_}
+use Prim.Native.Nat.{_-_}
 use native.Mathlib.Omega.{arith}
-use mathlib.Core.Path.{_≡_, refl, sym, ap}
 use lib.ListN.{length}
 use Rattle.parts.proofs.Traversal.{from-length}
 use Rattle.reducer.proofs.Scanning.{Scanned, scan-enter, scan-starts, scan-next, scan-found, scan-end}
 use Rattle.reducer.proofs.search.search.Statement.{statement}
 use Rattle.reducer.proofs.search.search.Tie as tie
-use Rattle.reducer.proofs.search.search.Reads as reads
-use Rattle.reducer.proofs.search.search.Lts as lts
-use Rattle.reducer.proofs.fits.fit.Reads as fit-reads
 
 abbrev Inv-loop : tie.InvT-loop
 Inv-loop phase calls rest k₀ k = Scanned phase calls rest k

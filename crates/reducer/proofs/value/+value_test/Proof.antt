@@ -1,8 +1,8 @@
 -- The parts passed are values, so the term is one if those still to come are; a part that is none ends the test.
 use borrow.Author.Needs.{needs}
-use Prim.Native.Nat.{_≤_, _+_, _-_}
+use Prim.Native.Nat.{_-_}
 use native.Mathlib.Omega.{arith}
-use mathlib.Core.Path.{_≡_, refl, sym, ap}
+use mathlib.Core.Path.{refl}
 use lib.ListN.{length}
 use borrow.Author.Tests.{not-true, not-false}
 use Rattle.parts.proofs.Traversal.{Going, not-empty, from-length, part-starts}
@@ -61,20 +61,20 @@ pub +value-test-spec : {M : Type 1} → statement M
     (λ c κs. search needs)
     (λ c.
     let kind = c .before .before .kind in
-    test-other _ _ _ (kind .ensures) _ (c .before .value-kind .ensures) (not-true _ (c .if1 .taken)) refl)
+    test-other (kind .ensures) _ (c .before .value-kind .ensures) (not-true _ (c .if1 .taken)) refl)
     (λ c κs.
     let pre = c .before .before .before .before .before .before .before .pre in
     pre .1)
     (λ c.
     let kind = c .before .before .before .before .kind in
-    test-function _ _ _ (kind .ensures) _ (c .before .if2 .taken) (c .part-size .ensures) refl)
+    test-function (kind .ensures) _ (c .before .if2 .taken) (c .part-size .ensures) refl)
     (λ c κs. search needs)
     (λ c.
     let kind = c .before .before .before .before .kind in
     let pre = c .before .before .before .before .before .before .before .before .pre in
     let value-kind = c .before .before .before .value-kind in
     let if1 = c .before .before .if1 in
-    test-enter _ _ _ (kind .ensures) _ (pre .1 .0) (value-kind .ensures) (not-false _ (if1 .left)) (c .before .if2 .left)
+    test-enter (kind .ensures) (pre .1 .0) (value-kind .ensures) (not-false _ (if1 .left)) (c .before .if2 .left)
     (c .part-count .ensures .0))
     (λ c. search needs)
     (λ c. search needs)
@@ -95,19 +95,19 @@ pub +value-test-spec : {M : Type 1} → statement M
     let loop = c .before .before .before .before .before .loop in
     let loop-test = c .before .before .before .before .loop-test in
     let value-test = c .before .before .value-test in
-    test-fails _ _ _ _ _ (loop .inv) (loop-test .taken) _ (value-test .ensures) _ (not-true _ (c .if3 .taken)) refl)
+    test-fails (loop .inv) (loop-test .taken) (value-test .ensures) _ (not-true _ (c .if3 .taken)) refl)
     (λ c.
     let loop = c .before .before .before .before .before .before .loop in
     let loop-test = c .before .before .before .before .before .loop-test in
     let value-test = c .before .before .before .value-test in
-    omega (arith, test-reached _ _ _ _ _ (loop .inv) (loop-test .taken) _ (value-test .ensures) (not-false _ (c .before .if3 .left))))
+    omega (arith, test-reached (loop .inv) (loop-test .taken) (value-test .ensures) (not-false _ (c .before .if3 .left))))
     (λ c. search needs)
     (λ c. search needs)
     (λ c.
     let loop = c .before .before .before .before .before .before .loop in
     let loop-test = c .before .before .before .before .before .loop-test in
     let value-test = c .before .before .before .value-test in
-    test-next _ _ _ _ _ (loop .inv) (loop-test .taken) _ (value-test .ensures) (not-false _ (c .before .if3 .left)))
+    test-next (loop .inv) (loop-test .taken) (value-test .ensures) (not-false _ (c .before .if3 .left)))
     (λ c.
     let loop = c .before .loop in
-    test-leave _ _ _ _ _ (loop .inv) _ (c .loop-test .left) refl refl)
+    test-leave (loop .inv) _ (c .loop-test .left) refl refl)

@@ -1,12 +1,8 @@
 -- A term's words end where its size says.
-use mathlib.Core.Path.{_≡_, refl, sym, _∙_, ap}
 use Rattle.reducer.proofs.Sizes.{sized, never-short}
 use borrow.Author.Needs.{needs}
 use Rattle.reducer.proofs.value.part_size.Statement.{statement}
 use Rattle.reducer.proofs.value.part_size.Tie as tie
-use Rattle.reducer.proofs.value.part_size.Reads as reads
-use Rattle.reducer.proofs.value.part_size.Lts as lts
-use Rattle.parts.proofs.ends.part_end.Reads as part-end-reads
 
 pub part-size-spec : {M : Type 1} → statement M
 part-size-spec = tie.close (tie.spec (λ c κs. search needs) (λ c. search needs) (λ c. search needs) (λ c.

@@ -1,14 +1,10 @@
 -- Of the kinds past the variable's, those of values are those whose type field is used.
-use mathlib.Core.Path.{_≡_, refl, sym, _∙_, ap}
-use mathlib.Core.Bool.{Bool}
+use mathlib.Core.Path.{_∙_}
 use borrow.Author.Tests.{eq-eqb, ne-eqb}
 use Rattle.reduction.specs.FitByKinds.{valueKind}
 use borrow.Author.Needs.{needs}
 use Rattle.reducer.proofs.value.value_kind.Statement.{statement}
 use Rattle.reducer.proofs.value.value_kind.Tie as tie
-use Rattle.reducer.proofs.value.value_kind.Reads as reads
-use Rattle.reducer.proofs.value.value_kind.Lts as lts
-use Rattle.parts.proofs.shape.shape_of.Reads as shape-of-reads
 
 pub value-kind-spec : {M : Type 1} → statement M
 unfolding valueKind
