@@ -63,7 +63,7 @@ term-verdict-spec =
     (λ c κs.
     let i = c .before in
     let f = fit (i .before .before .before .before) in
-    (omega (arith, f .short, length-replicate {A = ℕ} 8192 0), starts (in-scope i .decoded)))
+    (omega (arith, f .short, length-replicate {A = ℕ} otherLimit 0), starts (in-scope i .decoded)))
     (λ c. search needs)
     (λ c. search needs)
     (λ c.
