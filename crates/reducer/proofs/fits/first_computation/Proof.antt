@@ -14,7 +14,7 @@ use Rattle.reducer.proofs.fits.first_computation.Lts as lts
 use Rattle.parts.proofs.fields.kind.Reads as kind-reads
 use Rattle.parts.proofs.shape.part_count.Reads as part-count-reads
 use Rattle.reducer.proofs.fits.operand_count.Reads as operand-count-reads
-use Rattle.reducer.proofs.value.part_size.Reads as part-size-reads
+use Rattle.parts.proofs.ends.part_size.Reads as part-size-reads
 use Rattle.reducer.proofs.value.value_test.Reads as value-test-reads
 
 abbrev Inv-loop : tie.InvT-loop
