@@ -1,2 +1,4 @@
 pub mod Rows
 pub mod Measuring
+pub mod Copying
+pub mod Contracta

@@ -1,0 +1,104 @@
+-- Writing what a plan says: the stretches written one after the other are the words of the contractum, in order.
+use Prim.Native.Nat.{ℕ, suc, _+_, _-_, _≤_, _<_}
+use native.Mathlib.Omega.{arith}
+use mathlib.Core.Path.{_≡_, refl, sym, _∙_, ap}
+use mathlib.Core.List.{List, [], _∷_, _++_}
+use lib.ListN.{length, getD, set, take, drop}
+use lib.Seq.{sets}
+use Rattle.syntax.specs.Words.{pack}
+use Rattle.syntax.specs.Term.{Term, var, bind, case, node}
+use Rattle.syntax.specs.Encoding.{wordOf, encode, size}
+use Rattle.syntax.specs.Substitution.{under, renaming, substitute, only, rename, weakenBody, _⟦_⟧}
+use Rattle.syntax.specs.Under.{underBy, raiseAt, onlyAt}
+use Rattle.syntax.proofs.Under.{weakenBody-raiseAt}
+use Rattle.syntax.proofs.Sizes.{size-positive, size-bind, size-case, size-var, size-rename}
+use Rattle.parts.specs.Fronts.{Holds, Starts, from}
+use Rattle.parts.specs.Writes.{Room, Renames, RoomFor, Substitutes}
+use Rattle.parts.specs.declared.substitute.Moved.{Moved}
+use Rattle.parts.proofs.PartsAt.{held-inside, held-words, held-first}
+use Rattle.parts.proofs.Sized.{same-size}
+use Rattle.parts.proofs.Writing.{Writing, write-word, write-next, write-last}
+use Rattle.rewriter.specs.declared.plan.Plan.the-variants.{Substitute, Copy, MoveLet, MoveCase}
+use Rattle.rewriter.specs.Plans.{Laid, substitutes, copies, moves-let, moves-case}
+use Rattle.rewriter.specs.Writers.{Wrote, LetParts, LetRoom, WritesLet, Planned, Writes}
+
+-- a term at the front starts a slice
+abbrev held-starts : {calls words : List ℕ} {t : Term} {rest : List ℕ} → Holds calls words t rest → Starts calls words
+held-starts h = record { term = _; rest = _; holds = h }
+
+size-let : (e c : Term) → size (bind e (weakenBody c)) ≡ suc (size e + size c)
+size-let e c = omega (arith, size-bind e (weakenBody c), size-rename c (under renaming suc))
+
+module _ (calls words : List ℕ) where
+  -- a let over the body of another
+  module _ (start end body len at : ℕ) (r : LetRoom calls words start end body len at) where
+    let-size : end ≡ start + size (r .bound)
+    let-size = r .parts .end-is
+
+    pub let-low : start ≤ end
+    let-low = omega (arith, let-size)
+
+    pub let-bound : start + (end - start) ≤ length words
+    let-bound = omega (arith, let-size, held-inside words start (r .parts .bound))
+
+    pub let-words : at + 1 + (end - start) < len
+    let-words = omega (arith, let-size, r .room, size-let (r .bound) (r .under), size-positive (r .under))
+
+    pub let-body : body + 1 ≤ length words
+    let-body = omega (arith, held-inside words body (r .parts .under), size-positive (r .under))
+
+    pub let-under : Room calls (from words body) len (at + 1 + (end - start))
+    let-under = record {
+      start = held-starts (r .parts .under);
+      room = omega (arith, let-size, r .room, size-let (r .bound) (r .under));
+    }
+
+    pub let-fits : (old new : List ℕ) (p n : ℕ) → Renames calls (from words body) old new p 1 1 n → at + 1 + (end - start) + n ≤ len
+    let-fits old new p n f =
+        omega (arith, let-size, r .room, size-let (r .bound) (r .under), f .told (r .under) _ (r .parts .under) .read-is)
+
+  pub let-written : (start end body at n : ℕ) (old d new : List ℕ)
+      → d ≡ sets (set old at 4611686018427387904) (at + 1) (take (end - start) (drop start words))
+      → Renames calls (from words body) d new (at + 1 + (end - start)) 1 1 n
+      → WritesLet calls words start end body old new at (1 + (end - start) + n)
+  unfolding encode node size
+  let-written start end body at n old d new de f = record {
+    told = λ e c p.
+        let y = bind e (weakenBody c) in
+        let z : end - start ≡ size e = omega (arith, p .end-is) in
+        let w = f .told c (p .rest) (p .under) in
+        let we : encode (rename c (raiseAt 1 1)) ≡ encode (weakenBody c) = ap encode (sym (weakenBody-raiseAt c)) in
+        let first = write-word old at 4611686018427387904 (wordOf y) (encode y) (encode e ++ encode (weakenBody c)) refl refl in
+        let second = write-next (encode e) (encode (weakenBody c)) (at + 1) (end - start) first refl
+        (de ∙ ap (sets (set old at 4611686018427387904) (at + 1)) (held-words words start (p .bound) (end - start) z)) z in
+        let all = write-last (encode (weakenBody c)) (at + 1 + (end - start)) n second (omega arith)
+        (w .new-is ∙ ap (sets d (at + 1 + (end - start))) we) (w .read-is ∙ sym (size-rename c (under renaming suc))) in
+        record { new-is = all .0; wrote-is = all .1 };
+  }
+
+  -- a body and a value
+  module _ (body value len : ℕ) where
+    pub record Putting : Type 0 where
+      pub body-in : body ≤ length words
+      pub value-in : value ≤ length words
+      pub room : RoomFor calls (from words body) (from words value) len 0 0
+
+    laid-put : {y : Term} → Laid calls words (Substitute body value) y → size y ≤ len → Putting
+    unfolding underBy
+    laid-put (substitutes {b = b} {v = v} hb hv) r = record {
+      body-in = omega (arith, held-inside words body hb);
+      value-in = omega (arith, held-inside words value hv);
+      room = record { start = held-starts hb; value-starts = held-starts hv; room = omega (arith, r) };
+    }
+
+    pub putting : Planned calls words (Substitute body value) len → Putting
+    putting p = laid-put (p .laid) (p .room)
+
+  put-written : {body value : ℕ} {y : Term} {old new : List ℕ} {r : Moved} → Laid calls words (Substitute body value) y
+      → Substitutes calls (from words body) (from words value) old new 0 0 r → new ≡ sets old 0 (encode y)
+  unfolding underBy
+  put-written (substitutes {b = b} {v = v} {m = m} {n = n} hb hv) f = f .told b m hb v n hv .written .new-is
+
+  pub put-writes : (body value : ℕ) (old new : List ℕ) (r : Moved)
+      → Substitutes calls (from words body) (from words value) old new 0 0 r → Writes calls words (Substitute body value) old new
+  put-writes body value old new r f = record { told = λ y l. put-written l f }
