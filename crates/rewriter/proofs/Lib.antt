@@ -1,4 +1,6 @@
 pub mod Rows
 pub mod Measuring
 pub mod Copying
+pub mod LetOver
+pub mod Inserting
 pub mod Contracta

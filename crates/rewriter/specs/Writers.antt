@@ -39,5 +39,10 @@ pub record Planned (calls words : List ℕ) (plan : Plan) (len : ℕ) : Type 0 w
   pub laid : Laid calls words plan term
   pub room : size term ≤ len
 
+-- and has so many words
+pub record PlannedAs (calls words : List ℕ) (plan : Plan) (len wrote : ℕ) : Type 0 where
+  pub planned : Planned calls words plan len
+  pub wrote-is : wrote ≡ size (planned .term)
+
 pub record Writes (calls words : List ℕ) (plan : Plan) (old new : List ℕ) : Type 0 where
   pub told : (y : Term) → Laid calls words plan y → new ≡ sets old 0 (encode y)

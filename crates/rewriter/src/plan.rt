@@ -2,10 +2,11 @@
 ghost use mathlib.Core.Path.{_≡_};
 ghost use Prim.Native.Nat.{ℕ, _+_, _-_, _*_, _≤_};
 ghost use lib.ListN.{length};
-ghost use Rattle.reduction.specs.declared.Rule.the-variants.{LetOfLet, LetOfCase, Apply, First, Second, LeftCase, RightCase};
+ghost use Rattle.reduction.specs.declared.Rule.the-variants.{LetInsertion, LetOfLet, LetOfCase, Apply, First, Second, LeftCase, RightCase};
 ghost use Rattle.rewriter.specs.Plans.{StartsRedex, StartsLet, Measures, MeasuresLet};
 use parts::ends::part_size;
 use parts::uses::count_uses;
+use reducer::fits::first_computation;
 
 // Substitute(body, value): where they start. Copy(start): one part stays. MoveLet(second, third): where the inner and the outer body
 // start; the inner bound part starts at 2. MoveCase(right, third): where the right branch and the outer body start; the subject is the
@@ -155,5 +156,19 @@ fn let_of_case(calls: &[u64], t: &[u64]) -> Measured
         plan: Plan::MoveCase(right, third),
         read: end,
         wrote: end + 1 + body,
+    }
+}
+
+// let insertion: a let and a variable more
+fn let_insertion(calls: &[u64], t: &[u64]) -> Measured
+    requires { ⌜ StartsRedex LetInsertion (now calls) (now t) × (length (now t) ≤ 8192) ⌝ }
+    ensures { λ r. ⌜ Measures LetInsertion (now (calls .entry)) (now (t .entry)) r ⌝ }
+{
+    let operand = first_computation(calls, t);
+    let size = part_size(calls, t);
+    Measured {
+        plan: Plan::Insert(operand.index, operand.start, operand.size),
+        read: size,
+        wrote: size + 2,
     }
 }
