@@ -1,7 +1,7 @@
 -- Writing what a plan says: the stretches written one after the other are the words of the contractum, in order.
 use Prim.Native.Nat.{ℕ, suc, _+_, _-_, _≤_, _<_}
 use native.Mathlib.Omega.{arith}
-use mathlib.Core.Path.{_≡_, refl, sym, _∙_, ap}
+use mathlib.Core.Path.{_≡_, refl, sym, _∙_, ap, subst}
 use mathlib.Core.List.{List, _++_}
 use lib.ListN.{length, getD, set, take, drop}
 use lib.Seq.{sets}
@@ -16,11 +16,21 @@ use Rattle.parts.specs.declared.substitute.Moved.{Moved}
 use Rattle.parts.proofs.PartsAt.{held-inside, held-words, held-first}
 use Rattle.parts.proofs.Sized.{same-size}
 use Rattle.parts.proofs.Writing.{write-word, write-next, write-last}
+use Rattle.rewriter.specs.declared.plan.Plan.{Plan}
 use Rattle.rewriter.specs.declared.plan.Plan.the-variants.{Substitute, Copy, MoveLet, MoveCase, Insert}
 use Rattle.rewriter.specs.Plans.{Laid, substitutes, copies, moves-let, moves-case, inserts}
 use Rattle.rewriter.specs.Insertion.{NodeRoom, InsertsNode}
-use Rattle.rewriter.specs.Writers.{LetParts, LetRoom, WritesLet, Planned, Writes}
+use Rattle.rewriter.specs.Writers.{LetParts, LetRoom, WritesLet, Planned, PlannedAs, Writes}
 use Rattle.rewriter.proofs.LetOver.{held-starts}
+
+-- what holds of a plan holds of one that is the same
+pub planned-at : {calls words : List ℕ} {plan plan′ : Plan} {len wrote : ℕ} → plan ≡ plan′ → PlannedAs calls words plan len wrote
+    → PlannedAs calls words plan′ len wrote
+planned-at {calls} {words} {len = len} {wrote = wrote} e p = subst (λ (q : Plan). PlannedAs calls words q len wrote) e p
+
+pub writes-at : {calls words : List ℕ} {plan plan′ : Plan} {old new : List ℕ} → plan ≡ plan′ → Writes calls words plan′ old new
+    → Writes calls words plan old new
+writes-at {calls} {words} {old = old} {new = new} e w = subst (λ (q : Plan). Writes calls words q old new) (sym e) w
 
 module _ (calls words : List ℕ) where
   -- a body and a value

@@ -60,6 +60,10 @@ module _ (calls src : List ℕ) (here : Bool) (old : List ℕ) (at cut n : ℕ) 
 pub node-space : {calls src : List ℕ} {i len at : ℕ} → NodeRoom calls src i len at → at < len
 node-space r = omega (arith, r .room, size-positive (r .node))
 
+-- as much room in a buffer of the same length
+pub node-room : {calls src : List ℕ} {i len at : ℕ} → NodeRoom calls src i len at → (len′ : ℕ) → len′ ≡ len → NodeRoom calls src i len′ at
+node-room r len′ e = record { start = r .start; node = r .node; inserted = r .inserted; room = omega (arith, e, r .room) }
+
 -- the words of the node with the new variable in it
 inserted-words : (i k : ℕ) (x z : Term) → Inserted i x z → node x .kind ≡ k
     → encode z ≡ wordOf x ∷ encodeAll (insertParts k i 0 (node x .parts))

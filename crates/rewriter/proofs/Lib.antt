@@ -4,3 +4,4 @@ pub mod Copying
 pub mod LetOver
 pub mod Inserting
 pub mod Contracta
+pub mod NamedPart
