@@ -5,3 +5,5 @@ pub mod LetOver
 pub mod Inserting
 pub mod Contracta
 pub mod NamedPart
+pub mod MeasuringInsertion
+pub mod ByRule

@@ -7,6 +7,7 @@ ghost use Rattle.rewriter.specs.Plans.{StartsRedex, StartsLet, Measures,
 use parts::ends::part_size;
 use parts::uses::count_uses;
 use reducer::fits::first_computation;
+use reduction::Rule;
 
 // Substitute(body, value): where they start. Copy(start): one part stays. MoveLet(second, third): where the inner and the outer body
 // start; the inner bound part starts at 2. MoveCase(right, third): where the right branch and the outer body start; the subject is the
@@ -170,5 +171,24 @@ fn let_insertion(calls: &[u64], t: &[u64]) -> Measured
         plan: Plan::Insert(operand.index, operand.start, operand.size),
         read: size,
         wrote: size + 2,
+    }
+}
+
+// a redex of a rule: how many words it has, how many it becomes, and how these are written
+pub fn measure(rule: Rule, calls: &[u64], t: &[u64]) -> Measured
+    requires { ⌜ StartsRedex rule (now calls) (now t) × (length (now t) ≤ 8192) ⌝ }
+    ensures { λ r. ⌜ Measures rule (now (calls .entry)) (now (t .entry)) r ⌝ }
+{
+    match rule {
+        Rule::LetInsertion => let_insertion(calls, t),
+        Rule::LetOfLet => let_of_let(calls, t),
+        Rule::LetOfCase => let_of_case(calls, t),
+        Rule::Apply => apply(calls, t),
+        Rule::First => first(calls, t),
+        Rule::Second => second(calls, t),
+        Rule::LeftCase => left_case(calls, t),
+        Rule::RightCase => right_case(calls, t),
+        Rule::LetValue => let_value(calls, t),
+        Rule::Drop => let_value(calls, t),
     }
 }

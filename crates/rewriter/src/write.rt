@@ -71,14 +71,7 @@ fn move_case(calls: &[u64], t: &[u64], right: usize, third: usize, dst: &mut [u6
 }
 
 // let insertion: the part that is bound, then the node with the new variable in it
-fn insert_let(
-    calls: &[u64],
-    t: &[u64],
-    index: usize,
-    start: usize,
-    size: usize,
-    dst: &mut [u64],
-)
+fn insert_let(calls: &[u64], t: &[u64], index: usize, start: usize, size: usize, dst: &mut [u64])
     requires { ⌜ Planned (now calls) (now t) (Insert index start size) (length (now dst)) × (length (now t) ≤ 8192) ⌝ }
     ensures { λ r. ⌜ Writes (now (calls .entry)) (now (t .entry)) (Insert index start size) (now (dst .entry)) (now (dst .exit)) ⌝ }
 {

@@ -59,23 +59,32 @@ insert-node-spec =
     let binders = c .before .before .binders in
     let args = c .before .before .before .before .before .before .before .before .before .before .before .args in
     let good = c .before .before .before .before .before .before .before .before .before .before .before .good in
-    omega (arith, part-space (insert-room (loop .inv) (loop-test .taken) _ (binders .ensures .0) _ refl), loop .inv .len, length-set
-        (args .dst .now) (args .at) (getD (args .t .now) 0 0), good))
+    omega (
+      arith,
+      part-space (insert-room (loop .inv) (loop-test .taken) _ (binders .ensures .0) _ refl),
+      loop .inv .len,
+      length-set
+          (args .dst .now) (args .at) (getD (args .t .now) 0 0),
+      good,
+    ))
     (λ c κs.
     let loop = c .before .before .before .before .loop in
     let loop-test = c .before .before .before .loop-test in
     let binders = c .before .before .binders in
     let args = c .before .before .before .before .before .before .before .before .before .before .before .args in
-    let pre = c .before .before .before .before .before .before .before .before .before .before .before .pre in
-    (insert-room (loop .inv) (loop-test .taken) _ (binders .ensures .0) _ refl, binders .ensures .1, omega
-        (arith, from-length (args .t .now) (loop .m), pre .1)))
+    let pre = c .before .before .before .before .before .before .before .before .before .before .before .pre in (
+      insert-room (loop .inv) (loop-test .taken) _ (binders .ensures .0) _ refl,
+      binders .ensures .1,
+      omega
+          (arith, from-length (args .t .now) (loop .m), pre .1),
+    ))
     (λ c.
     let loop = c .before .before .before .before .before .before .before .before .loop in
     let loop-test = c .before .before .before .before .before .before .before .loop-test in
     let binders = c .before .before .before .before .before .before .binders in
     let insert-part = c .before .before .before .insert-part in
     let pre = c .before .before .before .before .before .before .before .before .before .before .before .before .before .before .before .pre
-        in
+    in
     omega (arith, insert-reached (loop .inv) (loop-test .taken) _ (binders .ensures .0) _ refl _ _ (insert-part .ensures), pre .1))
     (λ c.
     let loop = c .before .before .before .before .before .before .before .before .before .loop in
@@ -83,11 +92,17 @@ insert-node-spec =
     let binders = c .before .before .before .before .before .before .before .binders in
     let insert-part = c .before .before .before .before .insert-part in
     let args = c .before .before .before .before .before .before .before .before .before .before .before .before .before .before .before
-        .before .args in
+    .before .args in
     let good = c .before .before .before .before .before .before .before .before .before .before .before .before .before .before .before
-        .before .good in
-    omega (arith, insert-wrote (loop .inv) (loop-test .taken) _ (binders .ensures .0) _ refl _ _
-        (insert-part .ensures), loop .inv .len, length-set (args .dst .now) (args .at) (getD (args .t .now) 0 0), good))
+    .before .good in
+    omega (
+      arith,
+      insert-wrote (loop .inv) (loop-test .taken) _ (binders .ensures .0) _ refl _ _
+          (insert-part .ensures),
+      loop .inv .len,
+      length-set (args .dst .now) (args .at) (getD (args .t .now) 0 0),
+      good,
+    ))
     (λ c. search needs)
     (λ c. search needs)
     (λ c.

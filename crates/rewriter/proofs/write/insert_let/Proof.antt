@@ -20,9 +20,11 @@ insert-let-spec =
     omega (arith, inserting-let _ _ _ _ _ _ (pre .0) .room))
     (λ c κs.
     let pre = c .before .before .before .before .pre in
-    let args = c .before .before .before .before .args in
-    (inserting-let _ _ _ _ _ _ (pre .0) .inside, omega
-        (arith, inserting-let _ _ _ _ _ _ (pre .0) .room, length-set (args .dst .now) 0 4611686018427387904)))
+    let args = c .before .before .before .before .args in (
+      inserting-let _ _ _ _ _ _ (pre .0) .inside,
+      omega
+          (arith, inserting-let _ _ _ _ _ _ (pre .0) .room, length-set (args .dst .now) 0 4611686018427387904),
+    ))
     (λ c.
     let pre = c .before .before .before .before .before .before .before .before .pre in
     let good = c .before .before .before .before .before .before .before .before .good in

@@ -29,9 +29,11 @@ let-over-spec =
     omega (arith, let-words _ _ _ _ _ _ _ (pre .0), good))
     (λ c κs.
     let pre = c .before .before .before .before .pre in
-    let args = c .before .before .before .before .args in
-    (let-bound _ _ _ _ _ _ _ (pre .0), omega
-        (arith, let-words _ _ _ _ _ _ _ (pre .0), length-set (args .dst .now) (args .at) 4611686018427387904)))
+    let args = c .before .before .before .before .args in (
+      let-bound _ _ _ _ _ _ _ (pre .0),
+      omega
+          (arith, let-words _ _ _ _ _ _ _ (pre .0), length-set (args .dst .now) (args .at) 4611686018427387904),
+    ))
     (λ c.
     let pre = c .before .before .before .before .before .before .before .pre in
     omega (arith, let-body _ _ _ _ _ _ _ (pre .0), pre .1))
@@ -53,9 +55,12 @@ let-over-spec =
     (λ c κs.
     let pre = c .before .before .before .before .before .before .before .before .before .pre in
     let copy-into = c .before .before .before .before .copy-into in
-    let args = c .before .before .before .before .before .before .before .before .before .args in
-    (let-under _ _ _ _ _ _ _ (pre .0) _ (copy-into .kept .1 .1 .1 .0 ∙ length-set (args .dst .now) (args .at) _), omega
-        (arith, from-length (args .t .now) (args .body), pre .1), omega arith))
+    let args = c .before .before .before .before .before .before .before .before .before .args in (
+      let-under _ _ _ _ _ _ _ (pre .0) _ (copy-into .kept .1 .1 .1 .0 ∙ length-set (args .dst .now) (args .at) _),
+      omega
+          (arith, from-length (args .t .now) (args .body), pre .1),
+      omega arith,
+    ))
     (λ c.
     let pre = c .before .before .before .before .before .before .before .before .before .before .before .before .pre in
     let good = c .before .before .before .before .before .before .before .before .before .before .before .before .good in

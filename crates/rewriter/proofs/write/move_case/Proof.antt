@@ -34,9 +34,11 @@ move-case-spec =
     omega (arith, moving-case _ _ _ _ _ (pre .0) .other _ _ _ (let-over .ensures) .room, good))
     (λ c κs.
     let pre = c .before .before .before .before .before .before .before .before .before .pre in
-    let let-over = c .before .before .before .let-over in
-    (let-room _ _ _ _ _ _ _ (moving-case _ _ _ _ _ (pre .0) .other _ _ _ (let-over .ensures)) _
-        (let-over .kept .1 .1 .1 .1 .1 .0 ∙ simp length-set), pre .1))
+    let let-over = c .before .before .before .let-over in (
+      let-room _ _ _ _ _ _ _ (moving-case _ _ _ _ _ (pre .0) .other _ _ _ (let-over .ensures)) _
+          (let-over .kept .1 .1 .1 .1 .1 .0 ∙ simp length-set),
+      pre .1,
+    ))
     (λ c.
     let let-over2 = c .before .before .let-over2 in
     let let-over = c .before .before .before .before .before .before .let-over in

@@ -35,9 +35,10 @@ substitute-spec =
     (λ c. search needs)
     (λ c κs.
     let pre = c .before .before .before .before .before .before .pre in
-    let args = c .before .before .before .before .before .before .args in
-    (putting _ _ _ _ _ (pre .0) .room,
-        (omega (arith, from-length (args .t .now) (args .body), pre .1), omega (arith, from-length (args .t .now) (args .value), pre .1))))
+    let args = c .before .before .before .before .before .before .args in (
+      putting _ _ _ _ _ (pre .0) .room,
+      (omega (arith, from-length (args .t .now) (args .body), pre .1), omega (arith, from-length (args .t .now) (args .value), pre .1)),
+    ))
     (λ c.
     let substitute-into = c .before .before .substitute-into in
     substitute-into .kept .1 .1 .1 .0)

@@ -52,7 +52,7 @@ write-spec =
     let pre = c .before .before .before .before .before .before .before .before .before .before .pre in
     let copy-into = c .before .before .copy-into in
     let p = planned-at (plan2 .given .1) (pre .0)
-        in writes-at (plan2 .given .1) (copy-writes _ _ _ _ _ _ _ (p .planned) (p .wrote-is) (copy-into .ensures)))
+    in writes-at (plan2 .given .1) (copy-writes _ _ _ _ _ _ _ (p .planned) (p .wrote-is) (copy-into .ensures)))
     (λ c. search needs)
     (λ c.
     let plan3 = c .before .before .before .before .before .plan3 in
