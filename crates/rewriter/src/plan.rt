@@ -32,7 +32,7 @@ fn substituted(end: usize, uses: usize, size: usize) -> usize
     requires { ⌜ (uses ≤ end) × (end ≤ 8192) × (size ≤ 8192) ⌝ }
     ensures { λ r. ⌜ r ≡ end - uses + uses * size ⌝ }
 {
-    end - uses + uses * size
+    uses * size + (end - uses)
 }
 
 // apply: the body stands at 2, the value behind it
