@@ -4,23 +4,19 @@ use Prim.Native.Nat.{ℕ, suc, _+_, _-_, _≤_, _<_}
 use native.Mathlib.Omega.{arith}
 use mathlib.Core.Path.{_≡_, refl, sym, _∙_, ap}
 use mathlib.Core.List.{List, _∷_, _++_, append-assoc}
-use lib.ListN.{length, drop, length-append}
-use lib.Seq.{drop-drop}
+use lib.ListN.{length, getD, drop, take, length-append}
+use lib.Seq.{drop-drop, take-at, getD-drop}
 use Rattle.syntax.specs.Term.{Term, Terms, done, arg, node}
 use Rattle.syntax.specs.Encoding.{wordOf, encode, encodeAll, size}
 use Rattle.syntax.specs.Shaped.{count, Shaped, ShapedAll}
 use Rattle.syntax.proofs.Nodes.{encode-node, shaped-node, tail-part, next-part, past-part}
-use Rattle.syntax.proofs.Sizes.{sizeAll, size-node, size-arg}
+use Rattle.syntax.proofs.Sizes.{sizeAll, size-node, size-arg, size-positive}
 use Rattle.parts.specs.Fronts.{Holds, Starts, from}
+use Rattle.parts.specs.Joined.{joined}
 use Rattle.parts.specs.Ends.{Sized}
 use Rattle.parts.specs.Counts.{Counts}
 use Rattle.parts.specs.declared.uses.Uses.{Uses}
-use Rattle.parts.proofs.Traversal.{front-of, fits}
-
--- the terms ts, and then us
-unfoldable pub joined : Terms → Terms → Terms
-joined done us = us
-joined (arg t ts) us = arg t (joined ts us)
+use Rattle.parts.proofs.Traversal.{front-of, first-word, fits, from-length}
 
 encode-joined : (ts us : Terms) → encodeAll (joined ts us) ≡ encodeAll ts ++ encodeAll us
 unfolding joined encode
@@ -32,6 +28,19 @@ shaped-joined : (calls : List ℕ) (ts us : Terms) → ShapedAll calls ts → Sh
 unfolding joined Shaped
 shaped-joined calls done us p q = q
 shaped-joined calls (arg t ts) us p q = (p .0, shaped-joined calls ts us (p .1) q)
+
+-- a term that stands at an index: its end, its words, its first word
+module _ {calls : List ℕ} (words : List ℕ) (i : ℕ) {t : Term} {rest : List ℕ} (h : Holds calls (from words i) t rest) where
+  pub held-inside : i + size t ≤ length words
+  held-inside = omega (arith, fits h, size-positive t, from-length words i)
+
+  pub held-words : (n : ℕ) → n ≡ size t → take n (drop i words) ≡ encode t
+  unfolding size
+  held-words n e = ap (take n) (sym (tail-part words i) ∙ h .is) ∙ take-at (encode t) rest n (sym e)
+
+  pub held-first : getD words i 0 ≡ wordOf t
+  held-first = ap (λ (k : ℕ). getD words k 0) (omega arith) ∙ sym (getD-drop i words 0 0)
+      ∙ ap (λ (l : List ℕ). getD l 0 0) (sym (tail-part words i)) ∙ first-word h
 
 -- a use count tells the size too
 pub counts-sized : {calls words : List ℕ} {n : ℕ} {r : Uses} → Counts calls words n r → Sized calls words (r .end)

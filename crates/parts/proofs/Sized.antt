@@ -1,7 +1,8 @@
 -- The end of the part at the front, as the call answers it, is the size of the term there: a term's words do not run out.
 use Prim.Native.Nat.{ℕ}
-use mathlib.Core.Path.{_≡_, _∙_, ap}
+use mathlib.Core.Path.{_≡_, sym, _∙_, ap}
 use mathlib.Core.List.{List}
+use mathlib.Core.Option.{Option·some-injective}
 use native.Mathlib.Omega.{arith}
 use Rattle.syntax.specs.Term.{Term}
 use Rattle.syntax.specs.Encoding.{size}
@@ -12,6 +13,12 @@ use Rattle.parts.specs.Ends.{endOf, Sized}
 use Rattle.parts.specs.declared.ends.End.{End}
 use Rattle.parts.specs.declared.ends.End.the-variants.{At, Short}
 use Rattle.parts.proofs.Traversal.{fits}
+
+-- two terms at the front of the same words have the same size
+pub same-size : {calls words : List ℕ} {t u : Term} {rest more : List ℕ} → Holds calls words t rest → Holds calls words u more
+    → size t ≡ size u
+same-size {calls} {words} {t} {u} {rest} {more} h g = Option·some-injective (size t) (size u)
+    (sym (part-end calls t rest (h .shaped)) ∙ ap (partEnd calls) (sym (h .is) ∙ g .is) ∙ part-end calls u more (g .shaped))
 
 module _ (calls words : List ℕ) where
   ended : (t : Term) (rest : List ℕ) → Holds calls words t rest → endOf (partEnd calls words) ≡ At (size t)

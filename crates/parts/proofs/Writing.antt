@@ -3,7 +3,7 @@ use Prim.Native.Nat.{ℕ, suc, _+_, _≤_}
 use native.Mathlib.Omega.{arith}
 use native.Mathlib.Nat.{add-zero, add-suc, suc-add}
 use native.Mathlib.Numerals.{add-one}
-use mathlib.Core.Path.{_≡_, refl, sym, _∙_, ap}
+use mathlib.Core.Path.{_≡_, refl, sym, _∙_, ap, subst}
 use mathlib.Core.List.{List, [], _∷_, _++_, append-assoc, append-nil}
 use lib.ListN.{length, set, length-append}
 use lib.Seq.{sets}
@@ -49,6 +49,12 @@ pub write-all : {old new : List ℕ} {at o : ℕ} {whole : List ℕ} → Writing
 write-all {old} {at = at} {whole = whole} w =
     let e : whole ≡ w .done = w .same ∙ append-nil (w .done) in
     (w .written ∙ ap (sets old at) (sym e), w .reach ∙ ap (λ (l : List ℕ). length l) (sym e))
+
+-- the last stretch
+pub write-last : {old new new′ : List ℕ} {at o : ℕ} {whole : List ℕ} (xs : List ℕ) (p r : ℕ) → Writing old new at o whole xs
+    → p ≡ at + o → new′ ≡ sets new p xs → r ≡ length xs → (new′ ≡ sets old at whole) × (o + r ≡ length whole)
+write-last {old} {new} {at = at} {o = o} {whole = whole} xs p r w pe e re =
+    write-all (write-next xs [] p r (subst (Writing old new at o whole) (sym (append-nil xs)) w) pe e re)
 
 -- what is written and what comes next fit into the whole
 pub write-room : {old new : List ℕ} {at o : ℕ} {whole : List ℕ} (xs left : List ℕ) → Writing old new at o whole (xs ++ left)

@@ -13,8 +13,10 @@ use Rattle.syntax.specs.Shaped.{count}
 use Rattle.syntax.specs.Values.{isValue}
 use Rattle.parts.specs.Fronts.{Holds, Starts, from}
 use Rattle.parts.proofs.Traversal.{front-of, Going, enter, Does, reached, onward, next}
-use Rattle.reducer.specs.ValueTest.{Sized, Tests}
-use Rattle.reducer.specs.Operands.{operandCount, allValues, joined, Finds}
+use Rattle.parts.specs.Ends.{Sized}
+use Rattle.parts.specs.Joined.{joined}
+use Rattle.reducer.specs.ValueTest.{Tests}
+use Rattle.reducer.specs.Operands.{operandCount, allValues, Finds}
 use Rattle.reducer.specs.declared.value.Value.{Value}
 use Rattle.reducer.specs.declared.fits.Operand.{Operand}
 use Rattle.reducer.proofs.Testing.{apart}

@@ -10,7 +10,8 @@ use Rattle.syntax.specs.Shaped.{count}
 use Rattle.syntax.specs.Substitution.{traverse, traverseAll, renaming, weaken}
 use Rattle.syntax.specs.Values.{isValue, argumentsIn, operands}
 use Rattle.reduction.specs.Rules.{nameFirst, letInsertion}
-use Rattle.reducer.specs.Operands.{operandCount, allValues, joined}
+use Rattle.parts.specs.Joined.{joined}
+use Rattle.reducer.specs.Operands.{operandCount, allValues}
 
 -- whether the first m of these are values
 unfoldable pub valuesTo : ℕ → Terms → Bool

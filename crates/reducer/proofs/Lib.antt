@@ -1,4 +1,3 @@
-pub mod Sizes
 pub mod Testing
 pub mod Inserting
 pub mod Finding

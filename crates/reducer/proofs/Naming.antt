@@ -18,7 +18,8 @@ use Rattle.syntax.specs.Under.{underBy}
 use Rattle.syntax.specs.Values.{isValue, Operand, argumentsIn, operands}
 use Rattle.syntax.proofs.Nodes.{encode-node}
 use Rattle.reduction.specs.Rules.{nameFirst, letInsertion}
-use Rattle.reducer.specs.Operands.{operandCount, allValues, joined, FirstComputation}
+use Rattle.parts.specs.Joined.{joined}
+use Rattle.reducer.specs.Operands.{operandCount, allValues, FirstComputation}
 use Rattle.reducer.specs.declared.fits.Operand.{Operand as Found}
 use Rattle.reducer.proofs.Testing.{apart}
 use Rattle.reducer.proofs.Inserting.{operandsOf}

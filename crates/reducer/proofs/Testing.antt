@@ -13,7 +13,8 @@ use Rattle.syntax.specs.Values.{isValue}
 use Rattle.reduction.specs.FitByKinds.{valueKind}
 use Rattle.parts.specs.Fronts.{Holds, Starts, from}
 use Rattle.parts.proofs.Traversal.{front-of, Going, enter, Does, reached, onward, next, leave}
-use Rattle.reducer.specs.ValueTest.{Sized, Tests}
+use Rattle.parts.specs.Ends.{Sized}
+use Rattle.reducer.specs.ValueTest.{Tests}
 use Rattle.reducer.specs.Operands.{allValues}
 use Rattle.reducer.specs.declared.value.Value.{Value}
 

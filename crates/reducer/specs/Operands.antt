@@ -12,6 +12,7 @@ use Rattle.syntax.specs.Shaped.{count}
 use Rattle.syntax.specs.Values.{isValue}
 use Rattle.reduction.specs.Rules.{letInsertion}
 use Rattle.parts.specs.Fronts.{Holds}
+use Rattle.parts.specs.Joined.{joined}
 use Rattle.reducer.specs.declared.fits.Operand.{Operand}
 
 -- how many parts of a node of kind k, of its n parts the first ones, are operands: none of a function's and a let's, a case's subject,
@@ -23,11 +24,6 @@ operandCount k n = cond (eqb k 2 || eqb k 4) 0 (cond (eqb k 10) 1 n)
 unfoldable pub allValues : Terms → Bool
 allValues done = true
 allValues (arg t ts) = isValue t && allValues ts
-
--- one list of terms before another
-unfoldable pub joined : Terms → Terms → Terms
-joined done us = us
-joined (arg t ts) us = arg t (joined ts us)
 
 -- the first operand of t that is a computation: its index among the parts, where its words start, and its size
 pub record FirstComputation (t : Term) (r : Operand) : Type 0 where

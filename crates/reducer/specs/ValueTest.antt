@@ -9,10 +9,6 @@ use Rattle.syntax.specs.Values.{isValue}
 use Rattle.parts.specs.Fronts.{Holds}
 use Rattle.reducer.specs.declared.value.Value.{Value}
 
--- the term at the front has so many words
-pub record Sized (calls words : List ℕ) (n : ℕ) : Type 0 where
-  pub told : (t : Term) (rest : List ℕ) → Holds calls words t rest → n ≡ size t
-
 -- whether a term is a value, and its size if it is one
 pub record Tested (t : Term) (r : Value) : Type 0 where
   pub value-is : r .value ≡ isValue t

@@ -4,9 +4,8 @@ ghost use Prim.Native.Nat.{ℕ, _≤_};
 ghost use lib.ListN.{length};
 ghost use Rattle.parts.specs.Fronts.{Starts};
 ghost use Rattle.reduction.specs.FitByKinds.{valueKind};
-ghost use Rattle.reducer.specs.ValueTest.{Sized, Tests};
-use parts::ends::End;
-use parts::ends::part_end;
+ghost use Rattle.reducer.specs.ValueTest.{Tests};
+use parts::ends::part_size;
 use parts::fields::kind;
 use parts::shape::part_count;
 use parts::shape::shape_of;
@@ -26,18 +25,6 @@ pub fn value_kind(k: u64) -> bool
     }
     let s = shape_of(k);
     s.ty
-}
-
-// how many words the part at the front has
-pub fn part_size(calls: &[u64], t: &[u64]) -> usize
-    requires { ⌜ Starts (now calls) (now t) × (length (now t) ≤ 8192) ⌝ }
-    ensures { λ r. ⌜ Sized (now (calls .entry)) (now (t .entry)) r ⌝ }
-{
-    let end = part_end(calls, t);
-    match end {
-        End::At(size) => size,
-        End::Short => 0,
-    }
 }
 
 // whether the part at the front is a value, and its end if it is: a function is one, any other value is one if its parts are

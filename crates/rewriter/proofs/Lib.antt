@@ -1,2 +1,9 @@
 pub mod Rows
 pub mod Measuring
+pub mod Copying
+pub mod LetOver
+pub mod Inserting
+pub mod Contracta
+pub mod NamedPart
+pub mod MeasuringInsertion
+pub mod ByRule

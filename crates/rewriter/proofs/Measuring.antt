@@ -15,11 +15,12 @@ use Rattle.reduction.specs.declared.Rule.{Rule}
 use Rattle.reduction.specs.declared.Rule.the-variants.{LetOfLet, LetOfCase, Apply, First, Second, LeftCase, RightCase}
 use Rattle.reduction.proofs.Fires.{Fires, f-let, f-case, f-apply, f-first, f-second, f-left, f-right}
 use Rattle.reduction.proofs.NextSize.{size-letOfLet, size-letOfCase}
+use Rattle.parts.specs.Joined.{joined}
 use Rattle.parts.specs.Fronts.{Holds, from}
 use Rattle.parts.specs.Ends.{Sized}
 use Rattle.parts.specs.Counts.{Counts}
 use Rattle.parts.specs.declared.uses.Uses.{Uses}
-use Rattle.parts.proofs.PartsAt.{joined, PartsAt, parts-of, parts-open, part-here, parts-past, counts-sized}
+use Rattle.parts.proofs.PartsAt.{PartsAt, parts-of, parts-open, part-here, parts-past, counts-sized}
 use Rattle.rewriter.specs.declared.plan.Plan.the-variants.{Substitute, Copy, MoveLet, MoveCase}
 use Rattle.rewriter.specs.declared.plan.Measured.{Measured}
 use Rattle.rewriter.specs.Plans.{Laid, substitutes, copies, moves-let, moves-case, MeasuredAs, Measures, MeasuresLet}

@@ -11,8 +11,9 @@ use Rattle.reduction.specs.Rules.{allPure, fire}
 use Rattle.reduction.specs.declared.Rule.{Rule}
 use Rattle.reduction.specs.declared.Rule.the-variants.{LetOfLet, LetOfCase, Apply, First, Second, LeftCase, RightCase}
 use Rattle.reduction.proofs.Fires.{Fires, fires, f-let, f-case, f-apply, f-first, f-second, f-left, f-right}
+use Rattle.parts.specs.Joined.{joined}
 use Rattle.parts.specs.Fronts.{Holds}
-use Rattle.parts.proofs.PartsAt.{joined, PartsAt, parts-of, parts-open, parts-past, Row}
+use Rattle.parts.proofs.PartsAt.{PartsAt, parts-of, parts-open, parts-past, Row}
 use Rattle.rewriter.specs.Plans.{StartsRedex, StartsLet}
 
 pub fired : (r : Rule) (x y : Term) → fire allPure r x ≡ some y → Fires allPure r x y

@@ -1,3 +1,5 @@
 // A redex rewritten on words: how many words it has and becomes, how to write these, and writing them.
 
 pub mod plan; // plan.rt: how many words a redex becomes, and how they are written
+pub mod insert; // insert.rt: a node under a new binder, its variable for one of the parts
+pub mod write; // write.rt: what a redex becomes, by its plan

@@ -2,10 +2,12 @@
 ghost use mathlib.Core.Path.{_≡_};
 ghost use Prim.Native.Nat.{ℕ, _+_, _-_, _*_, _≤_};
 ghost use lib.ListN.{length};
-ghost use Rattle.reduction.specs.declared.Rule.the-variants.{LetOfLet, LetOfCase, Apply, First, Second, LeftCase, RightCase};
+ghost use Rattle.reduction.specs.declared.Rule.the-variants.{LetInsertion, LetOfLet, LetOfCase, Apply, First, Second, LeftCase, RightCase};
 ghost use Rattle.rewriter.specs.Plans.{StartsRedex, StartsLet, Measures, MeasuresLet};
 use parts::ends::part_size;
 use parts::uses::count_uses;
+use reducer::fits::first_computation;
+use reduction::Rule;
 
 // Substitute(body, value): where they start. Copy(start): one part stays. MoveLet(second, third): where the inner and the outer body
 // start; the inner bound part starts at 2. MoveCase(right, third): where the right branch and the outer body start; the subject is the
@@ -30,7 +32,7 @@ fn substituted(end: usize, uses: usize, size: usize) -> usize
     requires { ⌜ (uses ≤ end) × (end ≤ 8192) × (size ≤ 8192) ⌝ }
     ensures { λ r. ⌜ r ≡ end - uses + uses * size ⌝ }
 {
-    end - uses + uses * size
+    uses * size + (end - uses)
 }
 
 // apply: the body stands at 2, the value behind it
@@ -155,5 +157,38 @@ fn let_of_case(calls: &[u64], t: &[u64]) -> Measured
         plan: Plan::MoveCase(right, third),
         read: end,
         wrote: end + 1 + body,
+    }
+}
+
+// let insertion: a let and a variable more
+fn let_insertion(calls: &[u64], t: &[u64]) -> Measured
+    requires { ⌜ StartsRedex LetInsertion (now calls) (now t) × (length (now t) ≤ 8192) ⌝ }
+    ensures { λ r. ⌜ Measures LetInsertion (now (calls .entry)) (now (t .entry)) r ⌝ }
+{
+    let operand = first_computation(calls, t);
+    let size = part_size(calls, t);
+    Measured {
+        plan: Plan::Insert(operand.index, operand.start, operand.size),
+        read: size,
+        wrote: size + 2,
+    }
+}
+
+// a redex of a rule: how many words it has, how many it becomes, and how these are written
+pub fn measure(rule: Rule, calls: &[u64], t: &[u64]) -> Measured
+    requires { ⌜ StartsRedex rule (now calls) (now t) × (length (now t) ≤ 8192) ⌝ }
+    ensures { λ r. ⌜ Measures rule (now (calls .entry)) (now (t .entry)) r ⌝ }
+{
+    match rule {
+        Rule::LetInsertion => let_insertion(calls, t),
+        Rule::LetOfLet => let_of_let(calls, t),
+        Rule::LetOfCase => let_of_case(calls, t),
+        Rule::Apply => apply(calls, t),
+        Rule::First => first(calls, t),
+        Rule::Second => second(calls, t),
+        Rule::LeftCase => left_case(calls, t),
+        Rule::RightCase => right_case(calls, t),
+        Rule::LetValue => let_value(calls, t),
+        Rule::Drop => let_value(calls, t),
     }
 }

@@ -15,7 +15,7 @@ use Rattle.reducer.proofs.value.value_test.Kinds as value-test-kinds
 use Rattle.reducer.proofs.value.+value_test.Lts-value_test as value-test-lts
 use Rattle.parts.proofs.fields.kind.Reads as kind-reads
 use Rattle.parts.proofs.shape.part_count.Reads as part-count-reads
-use Rattle.reducer.proofs.value.part_size.Reads as part-size-reads
+use Rattle.parts.proofs.ends.part_size.Reads as part-size-reads
 use Rattle.reducer.proofs.value.value_kind.Reads as value-kind-reads
 use Rattle.reducer.proofs.value.+value_test.{statement}
 use Rattle.reducer.proofs.value.+value_test.Tie.{close}

@@ -9,5 +9,5 @@ use Rattle.rewriter.proofs.plan.substituted.Lts as lts
 
 pub substituted-spec : {M : Type 1} → statement M
 substituted-spec = tie.close
-    (tie.spec (λ c. search needs) (λ c. omega (arith, product-small (c .args .uses) (c .args .size) (omega arith) (omega arith)))
+    (tie.spec (λ c. omega (arith, product-small (c .args .uses) (c .args .size) (omega arith) (omega arith))) (λ c. search needs)
     (λ c. omega (arith, product-small (c .args .uses) (c .args .size) (omega arith) (omega arith))) (λ c. search needs))

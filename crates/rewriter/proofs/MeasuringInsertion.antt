@@ -1,0 +1,97 @@
+-- Measuring a let insertion: the first computation that is found is the part that is bound, since the parts before either are values.
+use Prim.Native.Nat.{ℕ, _+_}
+use native.Mathlib.Omega.{arith}
+use mathlib.Core.Path.{_≡_, refl, sym, _∙_, ap, subst}
+use mathlib.Core.Bool.{Bool, true, false, _&&_}
+use mathlib.Core.List.{List, _++_}
+use mathlib.Core.Option.{Option, some}
+use Rattle.syntax.specs.Maybe.{isSome}
+use Rattle.syntax.specs.Term.{Term, Terms, bind, done, arg, node}
+use Rattle.syntax.specs.Encoding.{encodeAll, size}
+use Rattle.syntax.specs.Shaped.{count}
+use Rattle.syntax.specs.Values.{isValue}
+use Rattle.syntax.proofs.Sizes.{sizeAll, size-done, size-arg}
+use Rattle.reduction.specs.Rules.{allPure, fire}
+use Rattle.reduction.specs.declared.Rule.the-variants.{LetInsertion}
+use Rattle.reduction.proofs.Fires.{Fires, f-insertion}
+use Rattle.reduction.proofs.Roots.{Insert}
+use Rattle.reduction.proofs.NextSize.{size-letInsertion}
+use Rattle.parts.specs.Joined.{joined}
+use Rattle.parts.specs.Fronts.{Holds, from}
+use Rattle.parts.specs.Ends.{Sized}
+use Rattle.parts.proofs.PartsAt.{PartsAt, parts-of, part-here, parts-past}
+use Rattle.reducer.specs.Operands.{allValues, FirstComputation, Finds}
+use Rattle.reducer.specs.declared.fits.Operand.{Operand}
+use Rattle.rewriter.specs.declared.plan.Plan.the-variants.{Insert as InsertPlan}
+use Rattle.rewriter.specs.Plans.{Laid, inserts, Inserted, MeasuredAs, Measures}
+use Rattle.rewriter.proofs.Rows.{fired}
+use Rattle.rewriter.proofs.NamedPart.{NamedPart, named-part}
+
+-- a value is no computation
+apart : {X : Type 0} (b c : Bool) → b && c ≡ true → b ≡ false → X
+apart true c h e = let z : _≡_ {A = ℕ} 0 1 = cc in absurd (omega arith)
+apart false c h e = let z : _≡_ {A = ℕ} 0 1 = cc in absurd (omega arith)
+
+and-true : (b c : Bool) → b && c ≡ true → c ≡ true
+and-true true c h = h
+and-true false c h = let z : _≡_ {A = ℕ} 0 1 = cc in absurd (omega arith)
+
+-- the first computation of a list of terms, and what stands before it
+same-first : (fs gs : Terms) (p q : Term) (ts us : Terms) → joined fs (arg p ts) ≡ joined gs (arg q us)
+    → allValues fs ≡ true → allValues gs ≡ true → isValue p ≡ false → isValue q ≡ false → (fs ≡ gs) × (p ≡ q)
+unfolding joined allValues
+same-first done done p q ts us e f g pe qe = (refl, (cc))
+same-first done (arg t gs) p q ts us e f g pe qe =
+    let s : p ≡ t = cc in apart (isValue t) (allValues gs) g (ap isValue (sym s) ∙ pe)
+same-first (arg t fs) done p q ts us e f g pe qe =
+    let s : t ≡ q = cc in apart (isValue t) (allValues fs) f (ap isValue s ∙ qe)
+same-first (arg t fs) (arg u gs) p q ts us e f g pe qe =
+    let s : t ≡ u = cc in
+    let d : joined fs (arg p ts) ≡ joined gs (arg q us) = cc in
+    let r = same-first fs gs p q ts us d (and-true (isValue t) (allValues fs) f) (and-true (isValue u) (allValues gs) g) pe qe in
+    let k : fs ≡ gs = r .0 in
+    ((cc), r .1)
+
+module _ (calls words : List ℕ) where
+  -- the parts behind some of them
+  parts-behind : (fs ts : Terms) (i : ℕ) (rest : List ℕ) → PartsAt calls words i (joined fs ts) rest
+      → PartsAt calls words (i + sizeAll fs) ts rest
+  unfolding joined
+  parts-behind done ts i rest p =
+      let e : i ≡ i + sizeAll done = omega (arith, size-done) in subst (λ (k : ℕ). PartsAt calls words k ts rest) e p
+  parts-behind (arg t fs) ts i rest p =
+      let e : i + size t + sizeAll fs ≡ i + sizeAll (arg t fs) = omega (arith, size-arg t fs) in
+      subst (λ (k : ℕ). PartsAt calls words k ts rest) e
+      (parts-behind fs ts (i + size t) rest (parts-past calls words p (size t) refl))
+
+  module _ (r : Operand) (n : ℕ) where
+    laid : {x y : Term} {rest : List ℕ} → Holds calls words x rest → NamedPart x y → FirstComputation x r
+        → Laid calls words (InsertPlan (r .index) (r .start) (r .size)) y
+    laid {x = x} {rest = rest} h s c =
+        let e = same-first (s .front) (c .front) (s .part) (c .part) (s .later) (c .later) (sym (s .parts) ∙ c .parts) (s .values)
+        (c .values) (s .computation) (c .computation) in
+        let i : count (s .front) ≡ r .index = ap count (e .0) ∙ sym (c .index-is) in
+        let k : 1 + sizeAll (s .front) ≡ r .start = ap (λ (ts : Terms). 1 + sizeAll ts) (e .0) ∙ sym (c .start-is) in
+        let at = parts-behind (s .front) (arg (s .part) (s .later)) 1 rest
+        (subst (λ (ts : Terms). PartsAt calls words 1 ts rest) (s .parts) (parts-of calls words h)) in
+        let hp = part-here calls words (subst (λ (j : ℕ). PartsAt calls words j (arg (s .part) (s .later)) rest) k at) in
+        subst (Laid calls words (InsertPlan (r .index) (r .start) (r .size))) (sym (s .is))
+        (inserts h (subst (λ (j : ℕ). Inserted j x (s .node-under)) i (s .inserted)) hp (c .size-is ∙ ap size (sym (e .1))))
+
+    inserted : {x y : Term} {rest : List ℕ} → Holds calls words x rest → Fires allPure LetInsertion x y → FirstComputation x r
+        → n ≡ size x
+        → MeasuredAs calls words x y (record { plan = InsertPlan (r .index) (r .start) (r .size); read = n; wrote = n + 2 })
+    inserted h (f-insertion i) c e = record {
+      read-is = e;
+      wrote-is = omega (arith, e, size-letInsertion i);
+      laid = laid h (named-part i) c;
+    }
+
+    pub insertion-measures : Finds calls words r → Sized calls words n
+        → Measures LetInsertion calls words (record { plan = InsertPlan (r .index) (r .start) (r .size); read = n; wrote = n + 2 })
+    unfolding fire
+    insertion-measures f s = record {
+      told = λ x y rest h e.
+          let a = f .told x rest h in
+          inserted h (fired LetInsertion x y e) (a .first (a .found-is ∙ ap isSome e)) (s .told x rest h);
+    }

@@ -1,0 +1,34 @@
+-- The new variable is one word, and a part that moves is renamed.
+use native.Mathlib.Omega.{arith}
+use Rattle.rewriter.proofs.Inserting.{part-space, part-room, part-replaced, part-moved}
+use borrow.Author.Needs.{needs}
+use Rattle.rewriter.proofs.insert.insert_part.Statement.{statement}
+use Rattle.rewriter.proofs.insert.insert_part.Tie as tie
+use Rattle.rewriter.proofs.insert.insert_part.Reads as reads
+use Rattle.rewriter.proofs.insert.insert_part.Lts as lts
+use Rattle.parts.proofs.ends.part_size.Reads as part-size-reads
+use Rattle.parts.proofs.rename.rename_into.Reads as rename-into-reads
+
+pub insert-part-spec : {M : Type 1} → statement M
+insert-part-spec =
+    tie.close
+    (tie.spec
+    (λ c. search needs)
+    (λ c.
+    let pre = c .before .before .before .before .pre in
+    part-space (pre .0))
+    (λ c κs.
+    let pre = c .before .before .before .before .pre in
+    (pre .0 .start, pre .2))
+    (λ c. search needs)
+    (λ c. part-replaced _ _ _ _ _ _ _ (c .before .if1 .taken) (c .part-size .ensures))
+    (λ c κs.
+    let pre = c .before .before .before .before .before .pre in
+    (part-room (pre .0) (c .before .if1 .left), omega (arith, pre .1, pre .2), omega arith))
+    (λ c.
+    let rename-into = c .before .before .rename-into in
+    rename-into .kept .1 .1 .0)
+    (λ c.
+    let if1 = c .before .before .before .before .if1 in
+    let rename-into = c .before .before .rename-into in
+    part-moved _ _ _ _ _ _ _ _ (if1 .left) (rename-into .ensures)))
