@@ -1,0 +1,3 @@
+// Searching for redexes and normal forms on words.
+
+pub mod marks; // marks.rt: how often each binder in scope is used, by its depth
