@@ -1,1 +1,4 @@
 pub mod Marking
+pub mod ByParts
+pub mod Testing
+pub mod NormalTests

@@ -3,12 +3,12 @@ use Prim.Native.Nat.{ℕ, suc, _+_, _-_, _^_, _≤_, _<_}
 use native.Mathlib.Omega.{arith}
 use native.Mathlib.Numerals.{add-one}
 use mathlib.Core.Path.{_≡_, refl, sym, _∙_, ap}
-use mathlib.Core.Bool.{Bool, true, false}
+use mathlib.Core.Bool.{Bool, true, false, cond}
 use mathlib.Core.List.{List}
 use lib.Dec.{eqb}
 use lib.ListN.{length, getD, set, length-set}
 use lib.Seq.{getD-set-same, getD-set-other}
-use borrow.Author.Tests.{eq-eqb, ne-eqb, eqb-true, eqb-false}
+use borrow.Author.Tests.{ne-eqb, le-ltb, eqb-true, eqb-false}
 use Rattle.syntax.specs.Kinds.{bindersAt}
 use Rattle.syntax.specs.Term.{Term, Terms, var, call, lam, app, bind, pair, fst, snd, inl, inr, case, done, arg, node}
 use Rattle.syntax.specs.Encoding.{size}
@@ -123,6 +123,11 @@ module _ {mid opened new : List ℕ} {depth b : ℕ} {part : Term} (o : Opened m
         omega (arith, m .so-far d h, part-marks d h, same, next);
   }
 
+-- a let's body stands under its binder
+pub body-binds : (k j : ℕ) → k ≡ 4 → (j ≡ 0 → ⊥) → bindersAt k j ≡ 1
+unfolding bindersAt
+body-binds k j e z = rw e (ap (λ (b : Bool). cond b 0 1) (le-ltb j 1 (omega (arith, z))))
+
 -- going on through the words: marks have grown by at most a use a word
 pub record Grown (old new : List ℕ) (depth at : ℕ) : Type 0 where
   pub len : length new ≡ length old
@@ -137,6 +142,10 @@ grown-next {depth = depth} {b = b} {part = part} o a le g l e = record {
   len = le ∙ o .len ∙ g .len;
   by = λ d h. omega (arith, g .by d h, part-marks o a d h, uses-size part (depth - 1 - d + b), e);
 }
+
+-- fewer words can be gone through
+pub space-less : {used : List ℕ} {depth l : ℕ} → Space used depth l → (m : ℕ) → m ≤ l → Space used depth m
+space-less s m le = record { deep = omega (arith, s .deep); small = s .small; low = λ d h. omega (arith, s .low d h) }
 
 -- the words from `at` on can be gone through under b binders more
 pub space-next : {old mid opened : List ℕ} {depth b at : ℕ} (l more : ℕ) → Opened mid opened depth b → b ≤ 1 → Grown old mid depth at
