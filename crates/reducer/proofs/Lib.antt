@@ -2,3 +2,5 @@ pub mod Marking
 pub mod ByParts
 pub mod Testing
 pub mod NormalTests
+pub mod UnusedParts
+pub mod Scanning

@@ -1,3 +1,4 @@
 pub mod Marks
 pub mod Roles
 pub mod Tests
+pub mod Scans

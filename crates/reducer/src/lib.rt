@@ -2,3 +2,4 @@
 
 pub mod marks; // marks.rt: how often each binder in scope is used, by its depth
 pub mod normal; // normal.rt: the test for a normal form and the test for a normal value
+pub mod unused; // unused.rt: the search of phase 3, for a let that binds a computation and whose variable is not used

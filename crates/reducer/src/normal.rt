@@ -30,7 +30,7 @@ pub enum Role {
 }
 
 // the kinds of values: variable, function, pair, left and right injection
-fn value_kind(k: u64) -> bool
+pub fn value_kind(k: u64) -> bool
     ensures { λ r. ⌜ r ≡ valueKind k ⌝ }
 {
     match k {
