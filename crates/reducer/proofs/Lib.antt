@@ -1,6 +1,6 @@
 pub mod Marking
 pub mod ByParts
-pub mod Testing
+pub mod TestedParts
 pub mod NormalTests
 pub mod UnusedParts
-pub mod Scanning
+pub mod SeenParts

@@ -30,7 +30,7 @@ use Rattle.reducer.specs.declared.normal.Part.{Part}
 use Rattle.reducer.specs.declared.normal.Role.{Role}
 use Rattle.reducer.proofs.Marking.{Opened, open-none, own-mark, body-binds}
 use Rattle.reducer.proofs.ByParts.{allPass, partPasses, value-kind, grammar-parts, value-parts, function-parts}
-use Rattle.reducer.proofs.Testing.{refused, Testing, test-enter, test-fails, test-space, test-reached, test-next}
+use Rattle.reducer.proofs.TestedParts.{refused, Testing, test-enter, test-fails, test-space, test-reached, test-next}
 
 -- what a test of a slice said of a term at its front
 module _ {test : Term → Bool} {calls words : List ℕ} {depth : ℕ} {old new : List ℕ} {r : Part} (a : Tests test calls words depth old new r) where

@@ -12,7 +12,7 @@ use Rattle.parts.proofs.Traversal.{not-empty, from-length, part-starts}
 use Rattle.reducer.specs.Tests.{isNormalValue}
 use Rattle.reducer.proofs.Marking.{open-set, space-less}
 use Rattle.reducer.proofs.ByParts.{partPasses}
-use Rattle.reducer.proofs.Testing.{Testing, test-leave, test-fails, test-space, test-reached, test-next}
+use Rattle.reducer.proofs.TestedParts.{Testing, test-leave, test-fails, test-space, test-reached, test-next}
 use Rattle.reducer.proofs.NormalTests.{said-no, said-yes, did-pass, value-variable, value-none, value-normal, function-enter}
 use Rattle.reducer.proofs.NormalTests.{values-enter, normal-enter, role-fails, form-fails, use-fails, all-pass}
 use Rattle.reducer.proofs.NormalTests.{function-binds, values-bind-none, values-space, values-reached, values-next}

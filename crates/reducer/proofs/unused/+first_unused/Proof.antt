@@ -6,8 +6,8 @@ use mathlib.Core.Path.{_≡_, refl, sym, ap, _∙_}
 use lib.ListN.{length, length-set}
 use Rattle.parts.proofs.Traversal.{not-empty, from-length, part-starts}
 use Rattle.reducer.proofs.Marking.{open-set, space-less}
-use Rattle.reducer.proofs.Scanning.{Scanning, scan-variable-at, scan-enter, scan-leave, scan-space, scan-near, scan-reached}
-use Rattle.reducer.proofs.Scanning.{scan-next}
+use Rattle.reducer.proofs.SeenParts.{Scanning, scan-variable-at, scan-enter, scan-leave, scan-space, scan-near, scan-reached}
+use Rattle.reducer.proofs.SeenParts.{scan-next}
 use Prim.Native.Nat.{ℕ, _<_}
 use borrow.Fn.Kinds.{In}
 use borrow.Fn.PlainCycle.{Measures, is, falls, and}
