@@ -4,3 +4,9 @@ pub mod Finding
 pub mod Fitting
 pub mod Scanning
 pub mod Naming
+pub mod Marking
+pub mod ByParts
+pub mod TestedParts
+pub mod NormalTests
+pub mod UnusedParts
+pub mod SeenParts

@@ -2,3 +2,7 @@ pub mod ValueTest
 pub mod Operands
 pub mod Fits
 pub mod Searches
+pub mod Marks
+pub mod Roles
+pub mod Tests
+pub mod Scans

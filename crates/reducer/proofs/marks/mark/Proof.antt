@@ -1,0 +1,29 @@
+-- A use of a binder in scope adds one to its mark, which lies as far from the innermost as the variable's number says.
+use Prim.Native.Nat.{_-_}
+use native.Mathlib.Omega.{arith}
+use Rattle.reducer.proofs.Marking.{mark-binder, mark-input}
+use borrow.Author.Needs.{needs}
+use Rattle.reducer.proofs.marks.mark.Statement.{statement}
+use Rattle.reducer.proofs.marks.mark.Tie as tie
+use Rattle.reducer.proofs.marks.mark.Reads as reads
+use Rattle.reducer.proofs.marks.mark.Lts as lts
+
+pub mark-spec : {M : Type 1} → statement M
+mark-spec =
+    tie.close
+    (tie.spec
+    (λ c. search needs)
+    (λ c. search needs)
+    (λ c. search needs)
+    (λ c. search needs)
+    (λ c.
+    let pre = c .before .before .pre in
+    let args = c .before .before .args in
+    omega (arith, pre .low (args .depth - 1 - args .number) (omega arith)))
+    (λ c. search needs)
+    (λ c. search needs)
+    (λ c. search needs)
+    (λ c.
+    let pre = c .before .before .pre in
+    mark-binder _ _ _ (c .before .if1 .taken) (omega (arith, pre .deep)))
+    (λ c. mark-input _ _ _ (c .if1 .left)))

@@ -1,0 +1,35 @@
+-- The arms of the match are those of the definition.
+use mathlib.Core.Path.{_≡_, refl, sym, _∙_, ap}
+use Rattle.reducer.specs.Roles.{suits}
+use Rattle.reducer.specs.declared.normal.Role.{Role}
+use borrow.Author.Needs.{needs}
+use Rattle.reducer.proofs.normal.admits.Statement.{statement}
+use Rattle.reducer.proofs.normal.admits.Tie as tie
+use Rattle.reducer.proofs.normal.admits.Reads as reads
+use Rattle.reducer.proofs.normal.admits.Lts as lts
+use Rattle.reducer.proofs.normal.operation_kind.Reads as operation-kind-reads
+use Rattle.reducer.proofs.normal.value_kind.Reads as value-kind-reads
+
+pub admits-spec : {M : Type 1} → statement M
+unfolding suits
+admits-spec =
+    tie.close
+    (tie.spec
+    (λ c. search needs)
+    (λ c. search needs)
+    (λ c κs. search needs)
+    (λ c. search needs)
+    (λ c κs. search needs)
+    (λ c. search needs)
+    (λ c.
+    let args = c .before .before .args in
+    ap (λ (x : Role). suits x (args .h)) (sym (c .enum-told .given .1)))
+    (λ c.
+    let args = c .before .before .before .args in
+    c .value-kind .ensures ∙ ap (λ (x : Role). suits x (args .h)) (sym (c .before .enum-told2 .given .1)))
+    (λ c.
+    let args = c .before .before .before .args in
+    c .operation-kind .ensures ∙ ap (λ (x : Role). suits x (args .h)) (sym (c .before .enum-told3 .given .1)))
+    (λ c.
+    let args = c .before .before .args in
+    ap (λ (x : Role). suits x (args .h)) (sym (c .enum-told4 .given .1))))

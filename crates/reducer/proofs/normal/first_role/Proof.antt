@@ -1,0 +1,13 @@
+-- The arms of the match are those of the definition.
+use mathlib.Core.Path.{_≡_, refl, sym, ap}
+use borrow.Author.Tests.{ne-eqb}
+use Rattle.reducer.specs.Roles.{firstRole}
+use Rattle.reducer.proofs.normal.first_role.Statement.{statement}
+use Rattle.reducer.proofs.normal.first_role.Tie as tie
+use Rattle.reducer.proofs.normal.first_role.Reads as reads
+use Rattle.reducer.proofs.normal.first_role.Lts as lts
+
+pub first-role-spec : {M : Type 1} → statement M
+first-role-spec = tie.close
+    (tie.spec (λ c. ap firstRole (sym (c .match .keys1))) (λ c. ap firstRole (sym (c .match .keys2)))
+    (λ c. simp (ne-eqb _ 1 (c .match .rest .0 .1), ne-eqb _ 4 (c .match .rest .1))))

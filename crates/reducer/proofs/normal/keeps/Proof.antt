@@ -1,0 +1,15 @@
+-- Only a let's body has to use its variable.
+use mathlib.Core.Path.{_≡_, refl, sym, _∙_, ap}
+use mathlib.Core.Bool.{Bool, true, cond}
+use lib.Dec.{eqb, leb}
+use borrow.Author.Tests.{eq-eqb, ne-eqb}
+use Rattle.reducer.specs.Roles.{keepsVariable}
+use Rattle.reducer.proofs.normal.keeps.Statement.{statement}
+use Rattle.reducer.proofs.normal.keeps.Tie as tie
+use Rattle.reducer.proofs.normal.keeps.Reads as reads
+use Rattle.reducer.proofs.normal.keeps.Lts as lts
+
+pub keeps-spec : {M : Type 1} → statement M
+unfolding keepsVariable
+keeps-spec = tie.close (tie.spec (λ c. simp (eq-eqb _ 4 (c .before .if1 .taken), eq-eqb _ 0 (c .if2 .taken)))
+    (λ c. simp (eq-eqb _ 4 (c .before .if1 .taken), ne-eqb _ 0 (c .if2 .left))) (λ c. simp (ne-eqb _ 4 (c .if1 .left))))

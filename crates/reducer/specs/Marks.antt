@@ -1,0 +1,17 @@
+-- Marks by depth: a buffer that holds, for each binder in scope by its depth (0 the outermost), how often it is used.
+use mathlib.Core.Path.{_≡_}
+use mathlib.Core.List.{List}
+use Prim.Native.Nat.{ℕ, _+_, _-_, _^_, _≤_, _<_}
+use lib.ListN.{length, getD}
+use Rattle.syntax.specs.Term.{Term}
+use Rattle.syntax.specs.Values.{uses}
+
+-- each of the binders in scope is marked with its uses in t as well
+pub record Marked (t : Term) (depth : ℕ) (old new : List ℕ) : Type 0 where
+  pub marks : (d : ℕ) → d < depth → getD new d 0 ≡ getD old d 0 + uses t (depth - 1 - d)
+
+-- so many words more can be gone through: there is a mark for each binder in them, and no mark overflows
+pub record Space (used : List ℕ) (depth more : ℕ) : Type 0 where
+  pub deep : depth + more ≤ length used
+  pub small : length used ≤ 65536
+  pub low : (d : ℕ) → d < depth → getD used d 0 + more ≤ 2 ^ 32
