@@ -9,7 +9,7 @@ use Rattle.syntax.specs.Term.{Term}
 use Rattle.reduction.specs.Redex.{Step}
 use Rattle.reduction.specs.Reduction.{Counts, index, raise, zeroCounts, Settings, Progress, stopped, reached, reduce}
 use Rattle.reduction.specs.Sequence.{tally}
-use Rattle.reduction.proofs.Exact.{Refused, budget-spent, next-too-long, first-too-long, Exact, refused, normal, reduce-exact}
+use Rattle.reduction.proofs.Exact.{budget-spent, next-too-long, first-too-long, Exact, refused, normal, reduce-exact}
 use Rattle.reduction.proofs.Path.{steps}
 
 raised : (counts : Counts) (j i : ℕ) → getD (set counts j (getD counts j 0 + 1)) i 0 ≤ suc (getD counts i 0)
@@ -24,7 +24,7 @@ unfolding tally
 tally-bound [] counts i = omega arith
 tally-bound (s ∷ ss) counts i = omega (arith, tally-bound ss (raise (s .rule) counts) i, raised counts (index (s .rule)) i)
 
-zeros : (n i : ℕ) → _≡_ {A = ℕ} (getD (replicate n 0) i 0) 0
+pub zeros : (n i : ℕ) → _≡_ {A = ℕ} (getD (replicate n 0) i 0) 0
 zeros zero i = refl
 zeros (suc n) zero = refl
 zeros (suc n) (suc i) = zeros n i

@@ -2,23 +2,23 @@
 -- within the budget and the capacity, and it is refused with 10 or 11 exactly where a run of steps meets the one or the other.
 use mathlib.Core.Path.{_≡_, refl, _∙_, ap, subst, subst⁻¹}
 use mathlib.Core.Bool.{Bool, true, false, not}
-use mathlib.Core.List.{List, [], _∷_}
-use mathlib.Core.Option.{Option, some, none}
-use Prim.Native.Nat.{ℕ, zero, suc, _+_, _-_, _≤_, _<_}
+use mathlib.Core.List.{List, _∷_}
+use mathlib.Core.Option.{some}
+use Prim.Native.Nat.{ℕ, suc, _+_, _-_, _≤_, _<_}
 use native.Mathlib.Omega.{arith}
 use lib.Dec.{T, leb, leb→le, nleb→lt}
 use lib.ListN.{length}
 use Rattle.syntax.specs.Term.{Term}
 use Rattle.syntax.specs.Encoding.{size}
 use Rattle.reduction.specs.declared.Phase.{Phase}
-use Rattle.reduction.specs.declared.Phase.the-variants.{Insertion, Dropping}
+use Rattle.reduction.specs.declared.Phase.the-variants.{Insertion}
 use Rattle.reduction.specs.Redex.{Step, step}
 use Rattle.reduction.specs.Reduction.{Counts, zeroCounts, Settings, Progress, stopped, reached, reduce}
 use Rattle.reduction.specs.Sequence.{tally, Sequence, terms}
 use Rattle.reduction.proofs.Remaining.{reduce-begins, reduce-too-long}
 use Rattle.reduction.proofs.Path.{Within, fits, nexts, Path, steps, sequence-path, sequence-end, Finished}
 use Rattle.reduction.proofs.Path.{inserted, path-finished}
-use Rattle.reduction.proofs.Halting.{from, path-from, Halt, spent, full, over, halt-from, Comes, insertion-comes}
+use Rattle.reduction.proofs.Halting.{from, path-from, Halt, spent, full, over, halt-from, insertion-comes}
 
 module _ (pure : Term → Bool) (capacity : ℕ) where
   -- where a reduction is refused: a step fits and the budget is used up; the next term is too long, and the budget is not used up; or the
@@ -47,9 +47,9 @@ module _ (pure : Term → Bool) (capacity : ℕ) where
 
   -- what the steps determine is what the reduction comes to
   pub exact-reduce : (settings : Settings) (t : Term) {x : Progress} → Exact (settings .budget) t x → reduce pure capacity settings t ≡ x
-  exact-reduce settings t (refused (budget-spent {s = s} {counts = c} p h e l d)) =
+  exact-reduce settings t (refused (budget-spent p h e l d)) =
       reduce-from p h settings 0 (omega (arith, l)) ∙ halt-from pure capacity (spent e) ∙ ap (stopped 10) d
-  exact-reduce settings t (refused (next-too-long {ss = ss} {s = s} {counts = c} p h e l k d)) =
+  exact-reduce settings t (refused (next-too-long {ss = ss} p h e l k d)) =
       reduce-from p h settings (suc (settings .budget - suc (length ss))) (omega (arith, l)) ∙ halt-from pure capacity (full e k)
       ∙ ap (stopped 11) d
   exact-reduce settings t (refused (first-too-long l)) = reduce-too-long pure capacity (settings .budget) t l

@@ -20,3 +20,4 @@ pub mod Halting
 pub mod Exact
 pub mod CountsBounded
 pub mod SearchAnswer
+pub mod CountOfRule

@@ -1,9 +1,9 @@
 -- Runs of steps through the phases in their order, not always to the end: where a bounded reduction can stand when it is refused.
 -- A reduction sequence is such a run that ends in the third phase at a term that no rule of it fits.
-use mathlib.Core.Path.{_≡_, refl, sym, _∙_, ap}
+use mathlib.Core.Path.{_≡_, refl, ap}
 use mathlib.Core.Bool.{Bool}
 use mathlib.Core.List.{List, [], _∷_, _++_, map}
-use mathlib.Core.Option.{Option, some, none}
+use mathlib.Core.Option.{some, none}
 use Prim.Native.Nat.{ℕ, _≤_}
 use Rattle.syntax.specs.Term.{Term}
 use Rattle.syntax.specs.Encoding.{size}

@@ -1,7 +1,7 @@
 -- The bounded reduction one turn at a time: what is left to do, in this phase and the phases after it, makes up the whole.
-use Prim.Native.Nat.{ℕ, zero, suc, _+_, _-_, _≤_, _<_}
+use Prim.Native.Nat.{ℕ, zero, suc, _-_, _≤_, _<_}
 use native.Mathlib.Omega.{arith}
-use mathlib.Core.Path.{_≡_, refl, sym, _∙_, ap}
+use mathlib.Core.Path.{_≡_, refl, _∙_, ap}
 use mathlib.Core.Bool.{Bool, true, false}
 use mathlib.Core.Option.{Option, some, none}
 use lib.Dec.{leb}
@@ -11,7 +11,7 @@ use Rattle.syntax.specs.Encoding.{size}
 use Rattle.reduction.specs.declared.Phase.{Phase}
 use Rattle.reduction.specs.declared.Phase.the-variants.{Insertion, Reduction, Dropping}
 use Rattle.reduction.specs.Redex.{Step, step}
-use Rattle.reduction.specs.Reduction.{Counts, raise, zeroCounts, Settings, Progress, stopped, reached, runPhase, thenPhase, reduce}
+use Rattle.reduction.specs.Reduction.{Counts, raise, zeroCounts, Progress, stopped, reached, runPhase, thenPhase, reduce}
 
 module _ (pure : Term → Bool) (capacity : ℕ) where
   -- the phases after a phase
