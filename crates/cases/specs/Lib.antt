@@ -1,3 +1,4 @@
 pub mod Table
 pub mod Sample
 pub mod Limits
+pub mod Further

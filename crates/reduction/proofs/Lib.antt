@@ -14,3 +14,10 @@ pub mod Clear
 pub mod EachSite
 pub mod Places
 pub mod Below
+pub mod Remaining
+pub mod Path
+pub mod Halting
+pub mod Exact
+pub mod CountsBounded
+pub mod SearchAnswer
+pub mod CountOfRule

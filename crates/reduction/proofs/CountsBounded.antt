@@ -1,0 +1,54 @@
+-- Each count is at most the number of steps taken, since a step raises one count by one; so it is at most the budget.
+use mathlib.Core.Path.{_≡_, refl, ap}
+use mathlib.Core.Bool.{Bool}
+use mathlib.Core.List.{List, [], _∷_}
+use Prim.Native.Nat.{ℕ, zero, suc, _+_, _≤_}
+use native.Mathlib.Omega.{arith}
+use lib.ListN.{length, getD, set, replicate}
+use Rattle.syntax.specs.Term.{Term}
+use Rattle.reduction.specs.Redex.{Step}
+use Rattle.reduction.specs.Reduction.{Counts, index, raise, zeroCounts, Settings, Progress, stopped, reached, reduce}
+use Rattle.reduction.specs.Sequence.{tally}
+use Rattle.reduction.proofs.Exact.{budget-spent, next-too-long, first-too-long, Exact, refused, normal, reduce-exact}
+use Rattle.reduction.proofs.Path.{steps}
+
+raised : (counts : Counts) (j i : ℕ) → getD (set counts j (getD counts j 0 + 1)) i 0 ≤ suc (getD counts i 0)
+raised [] j i = omega arith
+raised (x ∷ xs) zero zero = omega arith
+raised (x ∷ xs) zero (suc i) = omega arith
+raised (x ∷ xs) (suc j) zero = omega arith
+raised (x ∷ xs) (suc j) (suc i) = raised xs j i
+
+tally-bound : (ss : List Step) (counts : Counts) (i : ℕ) → getD (tally ss counts) i 0 ≤ length ss + getD counts i 0
+unfolding tally
+tally-bound [] counts i = omega arith
+tally-bound (s ∷ ss) counts i = omega (arith, tally-bound ss (raise (s .rule) counts) i, raised counts (index (s .rule)) i)
+
+pub zeros : (n i : ℕ) → _≡_ {A = ℕ} (getD (replicate n 0) i 0) 0
+zeros zero i = refl
+zeros (suc n) zero = refl
+zeros (suc n) (suc i) = zeros n i
+
+-- each count is at most the number of steps
+pub count-steps : (ss : List Step) (i : ℕ) → getD (tally ss zeroCounts) i 0 ≤ length ss
+count-steps ss i = omega (arith, tally-bound ss zeroCounts i, zeros 10 i)
+
+-- the counts of a reduction, refused or not
+abbrev pub countsOf : Progress → Counts
+countsOf (stopped n counts) = counts
+countsOf (reached left u counts) = counts
+
+module _ (pure : Term → Bool) (capacity : ℕ) where
+  exact-count : {budget : ℕ} {t : Term} {x : Progress} → Exact pure capacity budget t x → (i : ℕ) → getD (countsOf x) i 0 ≤ budget
+  exact-count (refused (budget-spent {ss = ss} p h e l d)) i =
+      omega (arith, count-steps ss i, l, ap (λ (c : Counts). getD c i 0) d)
+  exact-count (refused (next-too-long {ss = ss} p h e l k d)) i =
+      omega (arith, count-steps ss i, l, ap (λ (c : Counts). getD c i 0) d)
+  exact-count (refused (first-too-long l)) i = omega (arith, zeros 10 i)
+  exact-count (normal q h l d) i =
+      omega (arith, count-steps (steps pure q) i, l, ap (λ (c : Counts). getD c i 0) d)
+
+  -- each count is at most the budget
+  pub count-budget : (settings : Settings) (t : Term) (i : ℕ)
+      → getD (countsOf (reduce pure capacity settings t)) i 0 ≤ settings .budget
+  count-budget settings t i = exact-count (reduce-exact pure capacity settings t) i
