@@ -1,8 +1,9 @@
 pub mod Pasting
 pub mod Splicing
 pub mod Rewriting
-pub mod Remaining
+pub mod InPlace
+pub mod Seeking
+pub mod Turning
 pub mod Standing
 pub mod Looping
 pub mod Running
-pub mod Turning

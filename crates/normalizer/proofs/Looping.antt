@@ -24,7 +24,7 @@ use Rattle.normalizer.specs.declared.turn.Turn.{Turn}
 use Rattle.normalizer.specs.declared.turn.Turn.the-variants.{Stop, Refused, Step as Stepped}
 use Rattle.normalizer.specs.Reductions.{Reducible, Comes, refusal, ended, Reduces}
 use Rattle.normalizer.specs.declared.reduce.Reduced.{Reduced}
-use Rattle.normalizer.proofs.Remaining.{reduce-begins}
+use Rattle.reduction.proofs.Remaining.{reduce-begins}
 use Rattle.normalizer.proofs.Standing.{Standing, Ended, standing-ready, standing-stops, standing-refused, standing-steps}
 use Rattle.normalizer.proofs.Standing.{standing-inserted, standing-reduced, standing-ended}
 

@@ -18,7 +18,7 @@ use Rattle.normalizer.specs.Currents.{Front}
 use Rattle.normalizer.specs.Reductions.{Comes, refusal, ended}
 use Rattle.normalizer.specs.Runs.{Runs}
 use Rattle.normalizer.specs.declared.reduce.Reduced.{Reduced}
-use Rattle.normalizer.proofs.Remaining.{reduce-too-long}
+use Rattle.reduction.proofs.Remaining.{reduce-too-long}
 
 module _ (budget : ℕ) (tables : Tables) (words : List ℕ) (before : Buffers) where
   abbrev settings : Settings

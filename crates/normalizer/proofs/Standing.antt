@@ -26,12 +26,13 @@ use Rattle.theory.proofs.TypesKept.{infer-step}
 use Rattle.theory.proofs.Operands.{inserted, not-inserted}
 use Rattle.theory.proofs.NextInsertion.{next-insertion}
 use Rattle.theory.proofs.NextReduction.{next-reduction, operands-next}
+use Rattle.normalizer.specs.Begun.{Begun}
 use Rattle.normalizer.specs.Currents.{Front, Current}
-use Rattle.normalizer.specs.Turns.{Begun, At, Ready, Turned, stops, spent, full, goes, Turns, nextFrom}
+use Rattle.normalizer.specs.Turns.{At, Ready, Turned, stops, spent, full, goes, Turns, nextFrom}
 use Rattle.normalizer.specs.declared.turn.Turn.{Turn}
 use Rattle.normalizer.specs.declared.turn.Turn.the-variants.{Stop, Refused, Step as Stepped}
-use Rattle.normalizer.proofs.Remaining.{onwards, onwards-stopped, turn-stops, turn-spent, turn-full, turn-goes, insertion-ends}
-use Rattle.normalizer.proofs.Remaining.{reduction-ends}
+use Rattle.reduction.proofs.Remaining.{onwards, onwards-stopped, turn-stops, turn-spent, turn-full, turn-goes, insertion-ends}
+use Rattle.reduction.proofs.Remaining.{reduction-ends}
 
 -- after a step: what the phase takes as known still holds, and the search can go on from a place
 pub begun-next : (phase : Phase) (t : Term) (s : Step) → step allPure phase t ≡ some s → Begun phase t → Begun phase (s .next)

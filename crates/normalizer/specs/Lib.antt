@@ -1,5 +1,7 @@
 pub mod Splices
 pub mod Currents
+pub mod Begun
+pub mod Finds
 pub mod Rewrites
 pub mod Turns
 pub mod Reductions

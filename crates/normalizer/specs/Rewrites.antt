@@ -10,8 +10,8 @@ use Rattle.syntax.specs.Positions.{Position, positions}
 use Rattle.reduction.specs.Rules.{allPure, fire}
 use Rattle.reduction.specs.declared.Rule.{Rule}
 use Rattle.normalizer.specs.Currents.{Front, Current}
-use Rattle.normalizer.specs.declared.rewrite.Rewrite.{Rewrite}
-use Rattle.normalizer.specs.declared.rewrite.Rewrite.the-variants.{Full, Next}
+use Rattle.normalizer.specs.declared.rewrite.Rewritten.{Rewritten}
+use Rattle.normalizer.specs.declared.rewrite.Rewritten.the-variants.{Full, Next}
 
 -- at a place of the current term t, the rule makes y of the subterm there
 pub record RedexAt (rule : Rule) (calls words : List ℕ) (len place : ℕ) (t : Term) (p : Position Term) (y : Term) : Type 0 where
@@ -31,11 +31,11 @@ pub record Rewritable (rule : Rule) (calls words : List ℕ) (len place capacity
   pub scratch : capacity ≤ length second
 
 -- the next term u is too long, or it is current
-pub data RewrittenTo (capacity : ℕ) (after : List ℕ) (u : Term) : Rewrite → Type 0 where
+pub data RewrittenTo (capacity : ℕ) (after : List ℕ) (u : Term) : Rewritten → Type 0 where
   full : capacity < size u → RewrittenTo capacity after u Full
   next : (n : ℕ) → size u ≤ capacity → Front after n u → RewrittenTo capacity after u (Next n)
 
 -- for whatever redex is there
-pub record Rewrites (rule : Rule) (calls before : List ℕ) (len place capacity : ℕ) (after : List ℕ) (r : Rewrite) : Type 0 where
+pub record Rewrites (rule : Rule) (calls before : List ℕ) (len place capacity : ℕ) (after : List ℕ) (r : Rewritten) : Type 0 where
   pub told : (t : Term) (p : Position Term) (y : Term) → RedexAt rule calls before len place t p y
       → RewrittenTo capacity after (p .plug y) r

@@ -11,15 +11,10 @@ use Rattle.reduction.specs.Redex.{Step, step}
 use Rattle.reduction.specs.Clear.{Clear}
 use Rattle.reduction.specs.declared.Phase.{Phase}
 use Rattle.reduction.specs.declared.Phase.the-variants.{Insertion, Reduction, Dropping}
+use Rattle.normalizer.specs.Begun.{Begun}
 use Rattle.normalizer.specs.Currents.{Front, Current}
 use Rattle.normalizer.specs.declared.turn.Turn.{Turn}
 use Rattle.normalizer.specs.declared.turn.Turn.the-variants.{Stop, Refused, Step as Stepped}
-
--- what a phase takes as known of a term: in phase 2, that phase 1 is over
-abbrev pub Begun : Phase → Term → Type 0
-Begun Insertion t = Unit
-Begun Reduction t = step allPure Insertion t ≡ none
-Begun Dropping t = Unit
 
 -- the term t is current, and no redex of the phase stands before `from`
 pub record At (phase : Phase) (calls words : List ℕ) (len from : ℕ) (t : Term) : Type 0 where
