@@ -20,52 +20,60 @@ apply-spec =
     (tie.spec
     (λ c.
     let pre = c .before .before .pre in
-    let row₁ = redex-row _ _ of-apply (pre .0) in row-high _ _ row₁)
+    let row₁ = redex-row _ _ of-apply (pre .0) in
+    row-high _ _ row₁)
     (λ c.
     let pre = c .before .before .pre in
-    let row₁ = redex-row _ _ of-apply (pre .0) in row-high _ _ row₁)
+    let row₁ = redex-row _ _ of-apply (pre .0) in
+    row-high _ _ row₁)
     (λ c. search needs)
     (λ c κs.
     let pre = c .before .before .before .pre in
     let args = c .before .before .before .args in
-    let row₁ = redex-row _ _ of-apply (pre .0)
-    in (row-starts _ _ row₁ (omega arith), omega (arith, from-length (args .t .now) (2), pre .1)))
+    let row₁ = redex-row _ _ of-apply (pre .0) in
+    (row-starts _ _ row₁ (omega arith), omega (arith, from-length (args .t .now) 2, pre .1)))
     (λ c.
     let pre = c .before .before .before .before .before .pre in
-    let row₁ = redex-row _ _ of-apply (pre .0)
-    in let row₂ = row-next _ _ row₁ (omega arith) _ (counts-sized (c .before .count-uses .ensures))
-    in omega (arith, row-high _ _ row₂, pre .1))
+    let row₁ = redex-row _ _ of-apply (pre .0) in
+    let row₂ = row-next _ _ row₁ (omega arith) _ (counts-sized (c .before .count-uses .ensures)) in
+    omega (arith, row-high _ _ row₂, pre .1))
     (λ c.
     let pre = c .before .before .before .before .before .pre in
-    let row₁ = redex-row _ _ of-apply (pre .0)
-    in let row₂ = row-next _ _ row₁ (omega arith) _ (counts-sized (c .before .count-uses .ensures))
-    in omega (arith, row-high _ _ row₂, pre .1))
+    let row₁ = redex-row _ _ of-apply (pre .0) in
+    let row₂ = row-next _ _ row₁ (omega arith) _ (counts-sized (c .before .count-uses .ensures)) in
+    omega (arith, row-high _ _ row₂, pre .1))
     (λ c.
     let pre = c .before .before .before .before .before .pre in
-    let row₁ = redex-row _ _ of-apply (pre .0)
-    in let row₂ = row-next _ _ row₁ (omega arith) _ (counts-sized (c .before .count-uses .ensures)) in row-high _ _ row₂)
+    let row₁ = redex-row _ _ of-apply (pre .0) in
+    let row₂ = row-next _ _ row₁ (omega arith) _ (counts-sized (c .before .count-uses .ensures)) in
+    row-high _ _ row₂)
     (λ c.
     let pre = c .before .before .before .before .before .pre in
-    let row₁ = redex-row _ _ of-apply (pre .0)
-    in let row₂ = row-next _ _ row₁ (omega arith) _ (counts-sized (c .before .count-uses .ensures)) in row-high _ _ row₂)
+    let row₁ = redex-row _ _ of-apply (pre .0) in
+    let row₂ = row-next _ _ row₁ (omega arith) _ (counts-sized (c .before .count-uses .ensures)) in
+    row-high _ _ row₂)
     (λ c. search needs)
     (λ c κs.
     let pre = c .before .before .before .before .before .before .pre in
     let count-uses = c .before .before .count-uses in
     let args = c .before .before .before .before .before .before .args in
-    let row₁ = redex-row _ _ of-apply (pre .0) in let row₂ = row-next _ _ row₁ (omega arith) _ (counts-sized (count-uses .ensures))
-    in (row-starts _ _ row₂ (omega arith), omega (arith, from-length (args .t .now) (2 + count-uses .result .end), pre .1)))
+    let row₁ = redex-row _ _ of-apply (pre .0) in
+    let row₂ = row-next _ _ row₁ (omega arith) _ (counts-sized (count-uses .ensures)) in
+    (row-starts _ _ row₂ (omega arith), omega (arith, from-length (args .t .now) (2 + count-uses .result .end), pre .1)))
     (λ c.
     let pre = c .before .before .before .before .before .before .before .pre in
     let count-uses = c .before .before .before .count-uses in
-    let row₁ = redex-row _ _ of-apply (pre .0) in let row₂ = row-next _ _ row₁ (omega arith) _ (counts-sized (count-uses .ensures))
-    in let row₃ = row-next _ _ row₂ (omega arith) _ (c .part-size .ensures) in omega (arith, row-high _ _ row₃, pre .1))
+    let row₁ = redex-row _ _ of-apply (pre .0) in
+    let row₂ = row-next _ _ row₁ (omega arith) _ (counts-sized (count-uses .ensures)) in
+    let row₃ = row-next _ _ row₂ (omega arith) _ (c .part-size .ensures) in
+    omega (arith, row-high _ _ row₃, pre .1))
     (λ c κs.
     let pre = c .before .before .before .before .before .before .before .pre in
     let count-uses = c .before .before .before .count-uses in
-    let row₁ = redex-row _ _ of-apply (pre .0) in let row₂ = row-next _ _ row₁ (omega arith) _ (counts-sized (count-uses .ensures))
-    in let row₃ = row-next _ _ row₂ (omega arith) _ (c .part-size .ensures)
-    in (count-uses .ensures .few, omega (arith, row-high _ _ row₂, pre .1), omega (arith, row-high _ _ row₃, pre .1)))
+    let row₁ = redex-row _ _ of-apply (pre .0) in
+    let row₂ = row-next _ _ row₁ (omega arith) _ (counts-sized (count-uses .ensures)) in
+    let row₃ = row-next _ _ row₂ (omega arith) _ (c .part-size .ensures) in
+    (count-uses .ensures .few, omega (arith, row-high _ _ row₂, pre .1), omega (arith, row-high _ _ row₃, pre .1)))
     (λ c.
     let count-uses = c .before .before .before .before .count-uses in
     apply-measures _ _ _ _ _ (count-uses .ensures) (c .before .part-size .ensures) (c .substituted .ensures)))

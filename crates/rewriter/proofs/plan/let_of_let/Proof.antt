@@ -18,65 +18,83 @@ let-of-let-spec =
     (tie.spec
     (λ c.
     let pre = c .before .before .pre in
-    let row₁ = redex-row _ _ of-let (pre .0) in row-high _ _ row₁)
+    let row₁ = redex-row _ _ of-let (pre .0) in
+    row-high _ _ row₁)
     (λ c.
     let pre = c .before .before .pre in
-    let row₁ = redex-row _ _ of-let (pre .0) in row-high _ _ row₁)
+    let row₁ = redex-row _ _ of-let (pre .0) in
+    row-high _ _ row₁)
     (λ c. search needs)
     (λ c κs.
     let pre = c .before .before .before .pre in
     let args = c .before .before .before .args in
-    let row₁ = redex-row _ _ of-let (pre .0) in (row-starts _ _ row₁ (omega arith), omega (arith, from-length (args .t .now) (2), pre .1)))
+    let row₁ = redex-row _ _ of-let (pre .0) in
+    (row-starts _ _ row₁ (omega arith), omega (arith, from-length (args .t .now) 2, pre .1)))
     (λ c.
     let pre = c .before .before .before .before .pre in
-    let row₁ = redex-row _ _ of-let (pre .0) in let row₂ = row-next _ _ row₁ (omega arith) _ (c .part-size .ensures)
-    in omega (arith, row-high _ _ row₂, pre .1))
+    let row₁ = redex-row _ _ of-let (pre .0) in
+    let row₂ = row-next _ _ row₁ (omega arith) _ (c .part-size .ensures) in
+    omega (arith, row-high _ _ row₂, pre .1))
     (λ c.
     let pre = c .before .before .before .before .pre in
-    let row₁ = redex-row _ _ of-let (pre .0) in let row₂ = row-next _ _ row₁ (omega arith) _ (c .part-size .ensures)
-    in omega (arith, row-high _ _ row₂, pre .1))
+    let row₁ = redex-row _ _ of-let (pre .0) in
+    let row₂ = row-next _ _ row₁ (omega arith) _ (c .part-size .ensures) in
+    omega (arith, row-high _ _ row₂, pre .1))
     (λ c.
     let pre = c .before .before .before .before .pre in
-    let row₁ = redex-row _ _ of-let (pre .0) in let row₂ = row-next _ _ row₁ (omega arith) _ (c .part-size .ensures) in row-high _ _ row₂)
+    let row₁ = redex-row _ _ of-let (pre .0) in
+    let row₂ = row-next _ _ row₁ (omega arith) _ (c .part-size .ensures) in
+    row-high _ _ row₂)
     (λ c.
     let pre = c .before .before .before .before .pre in
-    let row₁ = redex-row _ _ of-let (pre .0) in let row₂ = row-next _ _ row₁ (omega arith) _ (c .part-size .ensures) in row-high _ _ row₂)
+    let row₁ = redex-row _ _ of-let (pre .0) in
+    let row₂ = row-next _ _ row₁ (omega arith) _ (c .part-size .ensures) in
+    row-high _ _ row₂)
     (λ c. search needs)
     (λ c κs.
     let pre = c .before .before .before .before .before .pre in
     let part-size = c .before .part-size in
     let args = c .before .before .before .before .before .args in
-    let row₁ = redex-row _ _ of-let (pre .0) in let row₂ = row-next _ _ row₁ (omega arith) _ (part-size .ensures)
-    in (row-starts _ _ row₂ (omega arith), omega (arith, from-length (args .t .now) (2 + part-size .result), pre .1)))
+    let row₁ = redex-row _ _ of-let (pre .0) in
+    let row₂ = row-next _ _ row₁ (omega arith) _ (part-size .ensures) in
+    (row-starts _ _ row₂ (omega arith), omega (arith, from-length (args .t .now) (2 + part-size .result), pre .1)))
     (λ c.
     let pre = c .before .before .before .before .before .before .pre in
     let part-size = c .before .before .part-size in
-    let row₁ = redex-row _ _ of-let (pre .0) in let row₂ = row-next _ _ row₁ (omega arith) _ (part-size .ensures)
-    in let row₃ = row-next _ _ row₂ (omega arith) _ (c .part-size2 .ensures) in omega (arith, row-high _ _ row₃, pre .1))
+    let row₁ = redex-row _ _ of-let (pre .0) in
+    let row₂ = row-next _ _ row₁ (omega arith) _ (part-size .ensures) in
+    let row₃ = row-next _ _ row₂ (omega arith) _ (c .part-size2 .ensures) in
+    omega (arith, row-high _ _ row₃, pre .1))
     (λ c.
     let pre = c .before .before .before .before .before .before .pre in
     let part-size = c .before .before .part-size in
-    let row₁ = redex-row _ _ of-let (pre .0) in let row₂ = row-next _ _ row₁ (omega arith) _ (part-size .ensures)
-    in let row₃ = row-next _ _ row₂ (omega arith) _ (c .part-size2 .ensures) in omega (arith, row-high _ _ row₃, pre .1))
+    let row₁ = redex-row _ _ of-let (pre .0) in
+    let row₂ = row-next _ _ row₁ (omega arith) _ (part-size .ensures) in
+    let row₃ = row-next _ _ row₂ (omega arith) _ (c .part-size2 .ensures) in
+    omega (arith, row-high _ _ row₃, pre .1))
     (λ c.
     let pre = c .before .before .before .before .before .before .pre in
     let part-size = c .before .before .part-size in
-    let row₁ = redex-row _ _ of-let (pre .0) in let row₂ = row-next _ _ row₁ (omega arith) _ (part-size .ensures)
-    in let row₃ = row-next _ _ row₂ (omega arith) _ (c .part-size2 .ensures) in row-high _ _ row₃)
+    let row₁ = redex-row _ _ of-let (pre .0) in
+    let row₂ = row-next _ _ row₁ (omega arith) _ (part-size .ensures) in
+    let row₃ = row-next _ _ row₂ (omega arith) _ (c .part-size2 .ensures) in
+    row-high _ _ row₃)
     (λ c.
     let pre = c .before .before .before .before .before .before .pre in
     let part-size = c .before .before .part-size in
-    let row₁ = redex-row _ _ of-let (pre .0) in let row₂ = row-next _ _ row₁ (omega arith) _ (part-size .ensures)
-    in let row₃ = row-next _ _ row₂ (omega arith) _ (c .part-size2 .ensures) in row-high _ _ row₃)
+    let row₁ = redex-row _ _ of-let (pre .0) in
+    let row₂ = row-next _ _ row₁ (omega arith) _ (part-size .ensures) in
+    let row₃ = row-next _ _ row₂ (omega arith) _ (c .part-size2 .ensures) in
+    row-high _ _ row₃)
     (λ c. search needs)
     (λ c κs.
     let pre = c .before .before .before .before .before .before .before .pre in
     let part-size = c .before .before .before .part-size in
     let part-size2 = c .before .part-size2 in
     let args = c .before .before .before .before .before .before .before .args in
-    let row₁ = redex-row _ _ of-let (pre .0) in let row₂ = row-next _ _ row₁ (omega arith) _ (part-size .ensures)
-    in let row₃ = row-next _ _ row₂ (omega arith) _ (part-size2 .ensures)
-    in (
+    let row₁ = redex-row _ _ of-let (pre .0) in
+    let row₂ = row-next _ _ row₁ (omega arith) _ (part-size .ensures) in
+    let row₃ = row-next _ _ row₂ (omega arith) _ (part-size2 .ensures) in (
       row-starts _ _ row₃ (omega arith),
       omega
           (arith, from-length (args .t .now) (2 + part-size .result + part-size2 .result), pre .1),
@@ -85,9 +103,11 @@ let-of-let-spec =
     let pre = c .before .before .before .before .before .before .before .before .pre in
     let part-size = c .before .before .before .before .part-size in
     let part-size2 = c .before .before .part-size2 in
-    let row₁ = redex-row _ _ of-let (pre .0) in let row₂ = row-next _ _ row₁ (omega arith) _ (part-size .ensures)
-    in let row₃ = row-next _ _ row₂ (omega arith) _ (part-size2 .ensures)
-    in let row₄ = row-next _ _ row₃ (omega arith) _ (c .part-size3 .ensures) in omega (arith, row-high _ _ row₄, pre .1))
+    let row₁ = redex-row _ _ of-let (pre .0) in
+    let row₂ = row-next _ _ row₁ (omega arith) _ (part-size .ensures) in
+    let row₃ = row-next _ _ row₂ (omega arith) _ (part-size2 .ensures) in
+    let row₄ = row-next _ _ row₃ (omega arith) _ (c .part-size3 .ensures) in
+    omega (arith, row-high _ _ row₄, pre .1))
     (λ c.
     let part-size = c .before .before .before .before .part-size in
     let part-size2 = c .before .before .part-size2 in
