@@ -1,6 +1,6 @@
 -- Parts that stand at an index of words: the parts of the node at the front, those behind a part, and those of the first of them. Words are
 -- in prefix order, so the parts of a part come before what follows it.
-use Prim.Native.Nat.{ℕ, suc, _+_, _-_, _≤_, _<_}
+use Prim.Native.Nat.{ℕ, _+_, _-_, _≤_}
 use native.Mathlib.Omega.{arith}
 use mathlib.Core.Path.{_≡_, refl, sym, _∙_, ap}
 use mathlib.Core.List.{List, _∷_, _++_, append-assoc}
@@ -91,7 +91,8 @@ module _ (calls words : List ℕ) where
         }
       where
         size-joined : sizeAll (joined (node t .parts) ts) ≡ sizeAll (node t .parts) + sizeAll ts
-        size-joined = ap (λ (l : List ℕ). length l) (encode-joined (node t .parts) ts) ∙ length-append (encodeAll (node t .parts)) (encodeAll ts)
+        size-joined = ap (λ (l : List ℕ). length l) (encode-joined (node t .parts) ts)
+            ∙ length-append (encodeAll (node t .parts)) (encodeAll ts)
 
   -- some n parts stand from i on
   pub record Row (i n : ℕ) : Type 0 where

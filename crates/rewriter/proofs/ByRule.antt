@@ -1,7 +1,7 @@
 -- Each rule has its measure. Let value and drop share one: dropping an unused variable is substituting anything for it.
 use mathlib.Core.Path.{_≡_, sym, subst}
 use mathlib.Core.List.{List}
-use lib.Dec.{T, eqb→eq}
+use lib.Dec.{eqb→eq}
 use Prim.Native.Nat.{ℕ}
 use Rattle.syntax.specs.Term.{Term, bind}
 use Rattle.syntax.specs.Values.{uses}

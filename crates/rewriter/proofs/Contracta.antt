@@ -1,5 +1,5 @@
 -- Writing what a plan says: the stretches written one after the other are the words of the contractum, in order.
-use Prim.Native.Nat.{ℕ, suc, _+_, _-_, _≤_, _<_}
+use Prim.Native.Nat.{ℕ, _+_, _-_, _≤_, _<_}
 use native.Mathlib.Omega.{arith}
 use mathlib.Core.Path.{_≡_, refl, sym, _∙_, ap, subst}
 use mathlib.Core.List.{List, _++_}
@@ -10,7 +10,7 @@ use Rattle.syntax.specs.Encoding.{wordOf, encode, size}
 use Rattle.syntax.specs.Substitution.{weakenBody}
 use Rattle.syntax.specs.Under.{underBy}
 use Rattle.syntax.proofs.Sizes.{size-positive, size-bind, size-case, size-var}
-use Rattle.parts.specs.Fronts.{Holds, from}
+use Rattle.parts.specs.Fronts.{from}
 use Rattle.parts.specs.Writes.{RoomFor, Substitutes}
 use Rattle.parts.specs.declared.substitute.Moved.{Moved}
 use Rattle.parts.proofs.PartsAt.{held-inside, held-words, held-first}
@@ -71,7 +71,8 @@ module _ (calls words : List ℕ) where
   pub copying : (start n len : ℕ) (p : Planned calls words (Copy start) len) → n ≡ size (p .term) → Copying start n len
   copying start n len p e = laid-copy (p .laid) (p .room) e
 
-  copied : (old : List ℕ) {start n : ℕ} {x y : Term} {new : List ℕ} → Laid calls words (Copy start) x → Laid calls words (Copy start) y → n ≡ size x
+  copied : (old : List ℕ) {start n : ℕ} {x y : Term} {new : List ℕ} → Laid calls words (Copy start) x → Laid calls words (Copy start) y
+      → n ≡ size x
       → new ≡ sets old 0 (take n (drop start words)) → new ≡ sets old 0 (encode y)
   copied old {start = start} {n = n} (copies g) (copies h) e d =
       d ∙ ap (sets old 0) (held-words words start h n (e ∙ same-size g h))
@@ -128,7 +129,8 @@ module _ (calls words : List ℕ) where
     pub subject : 2 < length words
     pub room : 2 < len
     pub left : LetRoom calls words 3 right third len 2
-    pub other : (old new : List ℕ) (n : ℕ) → WritesLet calls words 3 right third old new 2 n → LetRoom calls words right third third len (2 + n)
+    pub other : (old new : List ℕ) (n : ℕ) → WritesLet calls words 3 right third old new 2 n
+        → LetRoom calls words right third third len (2 + n)
 
   laid-case : {right third len : ℕ} {y : Term} → Laid calls words (MoveCase right third) y → size y ≤ len → MovingCase right third len
   laid-case {len = len} (moves-case {z = v} {l = l} {r = r} {c = c} hz hl hr hc re te) s =

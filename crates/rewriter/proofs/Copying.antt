@@ -1,9 +1,9 @@
 -- Words copied one by one: those copied so far, and the next one behind them.
-use Prim.Native.Nat.{ℕ, suc, _+_, _<_, _≤_}
+use Prim.Native.Nat.{ℕ, _+_, _<_, _≤_}
 use native.Mathlib.Omega.{arith}
 use native.Mathlib.Numerals.{add-one}
 use mathlib.Core.Path.{_≡_, refl, sym, _∙_, ap, ap₂}
-use mathlib.Core.List.{List, [], _∷_, _++_}
+use mathlib.Core.List.{List, [], _∷_}
 use lib.ListN.{length, getD, set, take, drop, length-drop, length-set}
 use lib.Seq.{sets, take-suc, length-take-le, getD-drop}
 use Rattle.parts.proofs.Writing.{sets-append}

@@ -4,13 +4,13 @@ use native.Mathlib.Omega.{arith}
 use native.Mathlib.Numerals.{add-one}
 use mathlib.Core.Path.{_≡_, refl, sym, _∙_, ap, ap₂, subst}
 use mathlib.Core.Bool.{Bool, true, false}
-use mathlib.Core.List.{List, [], _∷_, _++_}
+use mathlib.Core.List.{List, _∷_, _++_}
 use lib.Dec.{eqb}
 use lib.ListN.{length, getD, set, length-set}
 use lib.Seq.{sets}
 use Rattle.syntax.specs.Words.{kindOf}
 use Rattle.syntax.specs.Kinds.{bindersAt}
-use Rattle.syntax.specs.Term.{Term, Terms, var, done, arg, node}
+use Rattle.syntax.specs.Term.{Term, Terms, node}
 use Rattle.syntax.specs.Encoding.{wordOf, encode, encodeAll, size}
 use Rattle.syntax.specs.Parts.{partCount}
 use Rattle.syntax.specs.Under.{raiseAt}
@@ -18,7 +18,7 @@ use Rattle.syntax.proofs.Nodes.{encode-node}
 use Rattle.syntax.proofs.Sizes.{size-positive, size-rename}
 use Rattle.parts.specs.Fronts.{Holds, Starts, from}
 use Rattle.parts.specs.Ends.{Sized}
-use Rattle.parts.specs.Writes.{Room, Renames, Placed}
+use Rattle.parts.specs.Writes.{Room, Renames}
 use Rattle.parts.specs.declared.substitute.Moved.{Moved}
 use Rattle.parts.proofs.Traversal.{front-of, first-word, Going, enter, enter-start, Does, upcoming, reached, onward, onward-start, leave}
 use Rattle.parts.proofs.Writing.{Writing, write-none, write-next, write-all, write-room}
@@ -42,7 +42,8 @@ module _ {calls src : List ℕ} {here : Bool} {len at cut : ℕ} (r : PartRoom c
   }
 
 module _ (calls src : List ℕ) (here : Bool) (old : List ℕ) (at cut n : ℕ) where
-  pub part-replaced : here ≡ true → Sized calls src n → InsertsPart calls src here old (set old at 0) at cut (record { read = n; wrote = 1 })
+  pub part-replaced : here ≡ true → Sized calls src n
+      → InsertsPart calls src here old (set old at 0) at cut (record { read = n; wrote = 1 })
   unfolding encode size node
   part-replaced e s = record {
     told = λ t rest h. rw e (record { written = record { read-is = s .told t rest h; new-is = refl }; wrote-is = refl });

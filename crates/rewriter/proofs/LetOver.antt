@@ -15,7 +15,7 @@ use Rattle.parts.specs.Fronts.{Holds, Starts, from}
 use Rattle.parts.specs.Writes.{Room, Renames}
 use Rattle.parts.proofs.PartsAt.{held-inside, held-words}
 use Rattle.parts.proofs.Writing.{write-word, write-next, write-last}
-use Rattle.rewriter.specs.Writers.{Wrote, LetParts, LetRoom, WritesLet}
+use Rattle.rewriter.specs.Writers.{LetRoom, WritesLet}
 
 -- a term at the front starts a slice
 abbrev pub held-starts : {calls words : List ℕ} {t : Term} {rest : List ℕ} → Holds calls words t rest → Starts calls words

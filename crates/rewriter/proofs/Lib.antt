@@ -7,3 +7,4 @@ pub mod Contracta
 pub mod NamedPart
 pub mod MeasuringInsertion
 pub mod ByRule
+pub mod Rewritten

@@ -2,16 +2,15 @@
 use Prim.Native.Nat.{ℕ, _+_, _-_, _*_, _≤_}
 use native.Mathlib.Omega.{arith}
 use native.Mathlib.Nat.{mul-le-mul}
-use mathlib.Core.Path.{_≡_, refl, sym, _∙_, ap₂}
+use mathlib.Core.Path.{_≡_, sym, _∙_, ap₂}
 use mathlib.Core.List.{List}
-use mathlib.Core.Option.{some}
-use Rattle.syntax.specs.Term.{Term, Terms, var, lam, app, bind, pair, fst, snd, inl, inr, case, done, arg, node}
+use Rattle.syntax.specs.Term.{Term, var, lam, bind, pair, inl, inr, case, done, arg, node}
 use Rattle.syntax.specs.Encoding.{size}
 use Rattle.syntax.specs.Substitution.{_⟦_⟧}
 use Rattle.syntax.specs.Values.{uses}
-use Rattle.syntax.proofs.Sizes.{size-var, size-lam, size-app, size-bind, size-pair, size-fst, size-snd, size-inl, size-inr, size-case, size-substitute}
+use Rattle.syntax.proofs.Sizes.{size-var, size-lam, size-app, size-bind, size-pair, size-fst, size-snd, size-inl, size-inr, size-case}
+use Rattle.syntax.proofs.Sizes.{size-substitute}
 use Rattle.reduction.specs.Rules.{allPure}
-use Rattle.reduction.specs.declared.Rule.{Rule}
 use Rattle.reduction.specs.declared.Rule.the-variants.{LetOfLet, LetOfCase, Apply, First, Second, LeftCase, RightCase}
 use Rattle.reduction.proofs.Fires.{Fires, f-let, f-case, f-apply, f-first, f-second, f-left, f-right}
 use Rattle.reduction.proofs.NextSize.{size-letOfLet, size-letOfCase}
@@ -20,10 +19,9 @@ use Rattle.parts.specs.Fronts.{Holds, from}
 use Rattle.parts.specs.Ends.{Sized}
 use Rattle.parts.specs.Counts.{Counts}
 use Rattle.parts.specs.declared.uses.Uses.{Uses}
-use Rattle.parts.proofs.PartsAt.{PartsAt, parts-of, parts-open, part-here, parts-past, counts-sized}
+use Rattle.parts.proofs.PartsAt.{PartsAt, parts-of, parts-open, part-here, parts-past}
 use Rattle.rewriter.specs.declared.plan.Plan.the-variants.{Substitute, Copy, MoveLet, MoveCase}
-use Rattle.rewriter.specs.declared.plan.Measured.{Measured}
-use Rattle.rewriter.specs.Plans.{Laid, substitutes, copies, moves-let, moves-case, MeasuredAs, Measures, MeasuresLet}
+use Rattle.rewriter.specs.Plans.{substitutes, copies, moves-let, moves-case, MeasuredAs, Measures, MeasuresLet}
 use Rattle.rewriter.proofs.Rows.{fired}
 
 pub product-small : (u n : ℕ) → u ≤ 8192 → n ≤ 8192 → u * n ≤ 67108864

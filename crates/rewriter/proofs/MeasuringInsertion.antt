@@ -3,38 +3,33 @@ use Prim.Native.Nat.{ℕ, _+_}
 use native.Mathlib.Omega.{arith}
 use mathlib.Core.Path.{_≡_, refl, sym, _∙_, ap, subst}
 use mathlib.Core.Bool.{Bool, true, false, _&&_}
-use mathlib.Core.List.{List, _++_}
-use mathlib.Core.Option.{Option, some}
+use mathlib.Core.List.{List}
+use mathlib.Core.Option.{some}
 use Rattle.syntax.specs.Maybe.{isSome}
-use Rattle.syntax.specs.Term.{Term, Terms, bind, done, arg, node}
-use Rattle.syntax.specs.Encoding.{encodeAll, size}
+use Rattle.syntax.specs.Term.{Term, Terms, done, arg, node}
+use Rattle.syntax.specs.Encoding.{size}
 use Rattle.syntax.specs.Shaped.{count}
 use Rattle.syntax.specs.Values.{isValue}
 use Rattle.syntax.proofs.Sizes.{sizeAll, size-done, size-arg}
 use Rattle.reduction.specs.Rules.{allPure, fire}
 use Rattle.reduction.specs.declared.Rule.the-variants.{LetInsertion}
 use Rattle.reduction.proofs.Fires.{Fires, f-insertion}
-use Rattle.reduction.proofs.Roots.{Insert}
 use Rattle.reduction.proofs.NextSize.{size-letInsertion}
 use Rattle.parts.specs.Joined.{joined}
-use Rattle.parts.specs.Fronts.{Holds, from}
+use Rattle.parts.specs.Fronts.{Holds}
 use Rattle.parts.specs.Ends.{Sized}
 use Rattle.parts.proofs.PartsAt.{PartsAt, parts-of, part-here, parts-past}
 use Rattle.reducer.specs.Operands.{allValues, FirstComputation, Finds}
 use Rattle.reducer.specs.declared.fits.Operand.{Operand}
+use Rattle.reducer.proofs.Testing.{apart}
 use Rattle.rewriter.specs.declared.plan.Plan.the-variants.{Insert as InsertPlan}
 use Rattle.rewriter.specs.Plans.{Laid, inserts, Inserted, MeasuredAs, Measures}
 use Rattle.rewriter.proofs.Rows.{fired}
 use Rattle.rewriter.proofs.NamedPart.{NamedPart, named-part}
 
--- a value is no computation
-apart : {X : Type 0} (b c : Bool) → b && c ≡ true → b ≡ false → X
-apart true c h e = let z : _≡_ {A = ℕ} 0 1 = cc in absurd (omega arith)
-apart false c h e = let z : _≡_ {A = ℕ} 0 1 = cc in absurd (omega arith)
-
-and-true : (b c : Bool) → b && c ≡ true → c ≡ true
-and-true true c h = h
-and-true false c h = let z : _≡_ {A = ℕ} 0 1 = cc in absurd (omega arith)
+both : (b c : Bool) → b && c ≡ true → (b ≡ true) × (c ≡ true)
+both true c h = (refl, h)
+both false c h = apart h refl
 
 -- the first computation of a list of terms, and what stands before it
 same-first : (fs gs : Terms) (p q : Term) (ts us : Terms) → joined fs (arg p ts) ≡ joined gs (arg q us)
@@ -42,13 +37,13 @@ same-first : (fs gs : Terms) (p q : Term) (ts us : Terms) → joined fs (arg p t
 unfolding joined allValues
 same-first done done p q ts us e f g pe qe = (refl, (cc))
 same-first done (arg t gs) p q ts us e f g pe qe =
-    let s : p ≡ t = cc in apart (isValue t) (allValues gs) g (ap isValue (sym s) ∙ pe)
+    let s : p ≡ t = cc in apart (both (isValue t) (allValues gs) g .0) (ap isValue (sym s) ∙ pe)
 same-first (arg t fs) done p q ts us e f g pe qe =
-    let s : t ≡ q = cc in apart (isValue t) (allValues fs) f (ap isValue s ∙ qe)
+    let s : t ≡ q = cc in apart (both (isValue t) (allValues fs) f .0) (ap isValue s ∙ qe)
 same-first (arg t fs) (arg u gs) p q ts us e f g pe qe =
     let s : t ≡ u = cc in
     let d : joined fs (arg p ts) ≡ joined gs (arg q us) = cc in
-    let r = same-first fs gs p q ts us d (and-true (isValue t) (allValues fs) f) (and-true (isValue u) (allValues gs) g) pe qe in
+    let r = same-first fs gs p q ts us d (both (isValue t) (allValues fs) f .1) (both (isValue u) (allValues gs) g .1) pe qe in
     let k : fs ≡ gs = r .0 in
     ((cc), r .1)
 

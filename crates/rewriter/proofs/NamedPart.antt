@@ -1,9 +1,9 @@
--- Let insertion binds the first computation among a node's parts, and the node moves under the new binder with the variable there. The parts
--- before it are values, so it is the only part that can be meant.
+-- Let insertion binds the first computation among a node's parts, and the node moves under the new binder with the variable for that part:
+-- each form of the rule says so of its own kind of node.
 use Prim.Native.Nat.{ℕ, suc, _+_, _<_}
 use native.Mathlib.Omega.{arith}
 use mathlib.Core.Path.{_≡_, refl, sym, _∙_, ap, ap₂}
-use mathlib.Core.Bool.{Bool, true, false, _&&_, not}
+use mathlib.Core.Bool.{Bool, true, false, not}
 use lib.Dec.{T, eqb}
 use borrow.Author.Tests.{eq-eqb, ne-eqb}
 use Rattle.syntax.specs.Kinds.{bindersAt}

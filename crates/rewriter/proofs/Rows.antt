@@ -3,7 +3,7 @@ use Prim.Native.Nat.{ℕ}
 use mathlib.Core.Path.{_≡_, refl, sym}
 use mathlib.Core.List.{List}
 use mathlib.Core.Option.{some}
-use Rattle.syntax.specs.Term.{Term, Terms, var, lam, app, bind, pair, fst, snd, inl, inr, case, done, arg, node}
+use Rattle.syntax.specs.Term.{Term, var, case, done, arg, node}
 use Rattle.syntax.specs.Shaped.{count}
 use Rattle.syntax.proofs.Options.{every-at}
 use Rattle.syntax.proofs.Sizes.{size-var}

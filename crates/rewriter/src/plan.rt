@@ -2,9 +2,13 @@
 ghost use mathlib.Core.Path.{_≡_};
 ghost use Prim.Native.Nat.{ℕ, _+_, _-_, _*_, _≤_};
 ghost use lib.ListN.{length};
+ghost use Rattle.parts.specs.Fronts.{Starts, from};
+ghost use Rattle.parts.specs.Ends.{Sized};
+ghost use Rattle.parts.specs.Counts.{Counts};
 ghost use Rattle.reduction.specs.declared.Rule.the-variants.{LetInsertion, LetOfLet, LetOfCase, Apply, First, Second, LeftCase, RightCase};
 ghost use Rattle.rewriter.specs.Plans.{StartsRedex, StartsLet, Measures, MeasuresLet};
 use parts::ends::part_size;
+use parts::uses::Uses;
 use parts::uses::count_uses;
 use reducer::fits::first_computation;
 use reduction::Rule;
@@ -35,14 +39,30 @@ fn substituted(end: usize, uses: usize, size: usize) -> usize
     uses * size + (end - uses)
 }
 
+// how many words the part that starts at an index has
+fn size_from(calls: &[u64], t: &[u64], at: usize) -> usize
+    requires { ⌜ Starts (now calls) (from (now t) at) × (at ≤ length (now t)) × (length (now t) ≤ 8192) ⌝ }
+    ensures { λ r. ⌜ Sized (now (calls .entry)) (from (now (t .entry)) at) r ⌝ }
+{
+    part_size(calls, &t[at..])
+}
+
+// where the part that starts at an index ends, counted from there, and how often it uses the variable that its node binds
+fn uses_from(calls: &[u64], t: &[u64], at: usize) -> Uses
+    requires { ⌜ Starts (now calls) (from (now t) at) × (at ≤ length (now t)) × (length (now t) ≤ 8192) ⌝ }
+    ensures { λ r. ⌜ Counts (now (calls .entry)) (from (now (t .entry)) at) 0 r ⌝ }
+{
+    count_uses(calls, &t[at..], 0)
+}
+
 // apply: the body stands at 2, the value behind it
 fn apply(calls: &[u64], t: &[u64]) -> Measured
     requires { ⌜ StartsRedex Apply (now calls) (now t) × (length (now t) ≤ 8192) ⌝ }
     ensures { λ r. ⌜ Measures Apply (now (calls .entry)) (now (t .entry)) r ⌝ }
 {
-    let body = count_uses(calls, &t[2..], 0);
+    let body = uses_from(calls, t, 2);
     let value = 2 + body.end;
-    let size = part_size(calls, &t[value..]);
+    let size = size_from(calls, t, value);
     Measured {
         plan: Plan::Substitute(2, value),
         read: value + size,
@@ -55,9 +75,9 @@ fn let_value(calls: &[u64], t: &[u64]) -> Measured
     requires { ⌜ StartsLet (now calls) (now t) × (length (now t) ≤ 8192) ⌝ }
     ensures { λ r. ⌜ MeasuresLet (now (calls .entry)) (now (t .entry)) r ⌝ }
 {
-    let size = part_size(calls, &t[1..]);
+    let size = size_from(calls, t, 1);
     let start = 1 + size;
-    let body = count_uses(calls, &t[start..], 0);
+    let body = uses_from(calls, t, start);
     Measured {
         plan: Plan::Substitute(start, 1),
         read: start + body.end,
@@ -70,11 +90,11 @@ fn left_case(calls: &[u64], t: &[u64]) -> Measured
     requires { ⌜ StartsRedex LeftCase (now calls) (now t) × (length (now t) ≤ 8192) ⌝ }
     ensures { λ r. ⌜ Measures LeftCase (now (calls .entry)) (now (t .entry)) r ⌝ }
 {
-    let size = part_size(calls, &t[2..]);
+    let size = size_from(calls, t, 2);
     let left = 2 + size;
-    let body = count_uses(calls, &t[left..], 0);
+    let body = uses_from(calls, t, left);
     let right = left + body.end;
-    let other = part_size(calls, &t[right..]);
+    let other = size_from(calls, t, right);
     Measured {
         plan: Plan::Substitute(left, 2),
         read: right + other,
@@ -87,11 +107,11 @@ fn right_case(calls: &[u64], t: &[u64]) -> Measured
     requires { ⌜ StartsRedex RightCase (now calls) (now t) × (length (now t) ≤ 8192) ⌝ }
     ensures { λ r. ⌜ Measures RightCase (now (calls .entry)) (now (t .entry)) r ⌝ }
 {
-    let size = part_size(calls, &t[2..]);
+    let size = size_from(calls, t, 2);
     let left = 2 + size;
-    let other = part_size(calls, &t[left..]);
+    let other = size_from(calls, t, left);
     let right = left + other;
-    let body = count_uses(calls, &t[right..], 0);
+    let body = uses_from(calls, t, right);
     Measured {
         plan: Plan::Substitute(right, 2),
         read: right + body.end,
@@ -104,9 +124,9 @@ fn first(calls: &[u64], t: &[u64]) -> Measured
     requires { ⌜ StartsRedex First (now calls) (now t) × (length (now t) ≤ 8192) ⌝ }
     ensures { λ r. ⌜ Measures First (now (calls .entry)) (now (t .entry)) r ⌝ }
 {
-    let left = part_size(calls, &t[2..]);
+    let left = size_from(calls, t, 2);
     let start = 2 + left;
-    let right = part_size(calls, &t[start..]);
+    let right = size_from(calls, t, start);
     Measured {
         plan: Plan::Copy(2),
         read: start + right,
@@ -119,9 +139,9 @@ fn second(calls: &[u64], t: &[u64]) -> Measured
     requires { ⌜ StartsRedex Second (now calls) (now t) × (length (now t) ≤ 8192) ⌝ }
     ensures { λ r. ⌜ Measures Second (now (calls .entry)) (now (t .entry)) r ⌝ }
 {
-    let left = part_size(calls, &t[2..]);
+    let left = size_from(calls, t, 2);
     let start = 2 + left;
-    let right = part_size(calls, &t[start..]);
+    let right = size_from(calls, t, start);
     Measured {
         plan: Plan::Copy(start),
         read: start + right,
@@ -134,9 +154,9 @@ fn let_of_let(calls: &[u64], t: &[u64]) -> Measured
     requires { ⌜ StartsRedex LetOfLet (now calls) (now t) × (length (now t) ≤ 8192) ⌝ }
     ensures { λ r. ⌜ Measures LetOfLet (now (calls .entry)) (now (t .entry)) r ⌝ }
 {
-    let second = 2 + part_size(calls, &t[2..]);
-    let third = second + part_size(calls, &t[second..]);
-    let end = third + part_size(calls, &t[third..]);
+    let second = 2 + size_from(calls, t, 2);
+    let third = second + size_from(calls, t, second);
+    let end = third + size_from(calls, t, third);
     Measured {
         plan: Plan::MoveLet(second, third),
         read: end,
@@ -149,9 +169,9 @@ fn let_of_case(calls: &[u64], t: &[u64]) -> Measured
     requires { ⌜ StartsRedex LetOfCase (now calls) (now t) × (length (now t) ≤ 8192) ⌝ }
     ensures { λ r. ⌜ Measures LetOfCase (now (calls .entry)) (now (t .entry)) r ⌝ }
 {
-    let right = 3 + part_size(calls, &t[3..]);
-    let third = right + part_size(calls, &t[right..]);
-    let body = part_size(calls, &t[third..]);
+    let right = 3 + size_from(calls, t, 3);
+    let third = right + size_from(calls, t, right);
+    let body = size_from(calls, t, third);
     let end = third + body;
     Measured {
         plan: Plan::MoveCase(right, third),
