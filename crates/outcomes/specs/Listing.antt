@@ -72,6 +72,14 @@ writtenTo buffer bytes = elim (leb (len bytes) (len buffer)) [
   | true ↦ record { length = len bytes; buffer = overwrite bytes buffer }
 ]
 
--- the outcome, from an answer, the buffer whose leading words are the normal form, and the buffer of bytes at entry
+-- how many words an answer lists
+abbrev pub wordsListed : Answer → ℕ
+wordsListed a = elim (a .refusal) [ zero ↦ a .length | suc n ↦ 0 ]
+
+-- The outcome, from an answer, the buffer whose leading words are the normal form, and the buffer of bytes at entry.
+-- Where the words are fewer than the answer says, nothing is written and the length is 0.
 unfoldable pub listingOutcome : Answer → List ℕ → List ℕ → Written
-listingOutcome a output buffer = writtenTo buffer (listingOf a (take (a .length) output))
+listingOutcome a output buffer = elim (leb (wordsListed a) (len output)) [
+  | false ↦ record { length = 0; buffer = buffer }
+  | true ↦ writtenTo buffer (listingOf a (take (a .length) output))
+]

@@ -4,3 +4,6 @@ pub mod Variables
 pub mod Counting
 pub mod Writing
 pub mod Renaming
+pub mod Substituting
+pub mod Sized
+pub mod PartsAt

@@ -19,8 +19,9 @@ use Rattle.syntax.proofs.Sizes.{size-rename}
 use Rattle.syntax.proofs.Under.{raiseAt-below, raiseAt-above, underBy-underBy}
 use Rattle.parts.specs.Fronts.{Holds, Starts, from}
 use Rattle.parts.specs.Writes.{Room, Written, Renames}
-use Rattle.parts.proofs.Traversal.{front-of, first-word, Going, enter, enter-start, Does, Next, upcoming, reached, onward, onward-start, leave}
-use Rattle.parts.proofs.Variables.{variable-at}
+use Rattle.parts.proofs.Traversal.{front-of, first-word, Going, enter, enter-start, Does, Next, upcoming, reached, onward}
+use Rattle.parts.proofs.Traversal.{onward-start, leave}
+use Rattle.parts.proofs.Variables.{variable-at, word-variable}
 use Rattle.parts.proofs.Writing.{Writing, write-none, write-next, write-all}
 
 -- under so many binders more
@@ -51,22 +52,15 @@ module _ (calls src old : List ℕ) (at cut by k : ℕ) (ke : k ≡ kindOf (getD
     };
   }
 
-  word-variable : (number : ℕ) → k ≡ 0 → number ≡ numberOf (getD src 0 0) → Starts calls src → getD src 0 0 ≡ pack 0 number 0
-  unfolding node
-  word-variable number z ne s =
-      let h = s .holds in
-      variable-at h (sym ke ∙ z) (λ x. getD src 0 0 ≡ wordOf x → getD src 0 0 ≡ pack 0 number 0)
-      (λ v e f. f ∙ ap (λ (i : ℕ). pack 0 i 0) (sym (ne ∙ e))) (first-word h)
-
   pub rename-below : (number : ℕ) → Room calls src (length old) at → k ≡ 0 → number ≡ numberOf (getD src 0 0) → number < cut
       → Renames calls src old (set old at (getD src 0 0)) at cut by 1
   rename-below number r z ne lt = renamed-variable (getD src 0 0) number z ne
-      (word-variable number z ne (r .start) ∙ ap (λ (i : ℕ). pack 0 i 0) (sym (raiseAt-below cut by number lt)))
+      (word-variable (r .start) (sym ke ∙ z) ne ∙ ap (λ (i : ℕ). pack 0 i 0) (sym (raiseAt-below cut by number lt)))
 
   pub rename-above : (number w : ℕ) → Room calls src (length old) at → k ≡ 0 → number ≡ numberOf (getD src 0 0) → cut ≤ number
       → w ≡ getD src 0 0 + by * 2 ^ 30 → Renames calls src old (set old at w) at cut by 1
   rename-above number w r z ne ge we = renamed-variable w number z ne
-      (we ∙ ap (λ (x : ℕ). x + by * 2 ^ 30) (word-variable number z ne (r .start)) ∙ raised
+      (we ∙ ap (λ (x : ℕ). x + by * 2 ^ 30) (word-variable (r .start) (sym ke ∙ z) ne) ∙ raised
       ∙ ap (λ (i : ℕ). pack 0 i 0) (sym (raiseAt-above cut by number ge)))
     where
       raised : pack 0 number 0 + by * 2 ^ 30 ≡ pack 0 (by + number) 0
@@ -77,7 +71,8 @@ module _ (calls src old : List ℕ) (at cut by k : ℕ) (ke : k ≡ kindOf (getD
       → Renaming calls src (set old at w) (set old at w) at cut by k n 1 0
   rename-enter n w r e = record {
     going = enter calls src Q n (r .start) e start;
-    room = subst (λ (s : Starts calls src). at + size (s .term) ≤ length (set old at w)) (sym (enter-start calls src Q n (r .start) e start))
+    room = subst (λ (s : Starts calls src). at + size (s .term) ≤ length (set old at w))
+        (sym (enter-start calls src Q n (r .start) e start))
         (omega (arith, r .room, length-set old at w));
     len = refl;
   }
@@ -109,7 +104,8 @@ module _ {calls src old new : List ℕ} {at cut by k n m j : ℕ} (g : Renaming 
         let u = upcoming calls src (g .going) lt in
         record { start = record { term = u .part; rest = _; holds = u .holds }; room = omega (arith, u .inside, g .room, g .len) }
 
-    module _ (b : ℕ) (be : b ≡ bindersAt k j) (new′ : List ℕ) (r : ℕ) (a : Renames calls (from src m) new new′ (at + m) (cut + b) by r) where
+    module _ (b : ℕ) (be : b ≡ bindersAt k j) (new′ : List ℕ) (r : ℕ)
+        (a : Renames calls (from src m) new new′ (at + m) (cut + b) by r) where
       renamed : Does calls src (Renamed old new at cut by k j (m - 1)) (Renamed old new′ at cut by k (j + 1) (m + r - 1)) m r
       unfolding traverseParts size encode
       renamed t rest h part later holds q =
@@ -135,6 +131,7 @@ module _ {calls src old new : List ℕ} {at cut by k n m j : ℕ} (g : Renaming 
           let R = Renamed old new′ at cut by k (j + 1) (m + r - 1) in
           record {
             going = onward calls src R r (g .going) lt renamed;
-            room = subst (λ (s : Starts calls src). at + size (s .term) ≤ length old) (sym (onward-start calls src R r (g .going) lt renamed)) (g .room);
+            room = subst (λ (s : Starts calls src). at + size (s .term) ≤ length old)
+                (sym (onward-start calls src R r (g .going) lt renamed)) (g .room);
             len = l ∙ g .len;
           }

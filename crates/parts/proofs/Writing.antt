@@ -36,14 +36,16 @@ pub write-next : {old new new′ : List ℕ} {at o : ℕ} {whole : List ℕ} (xs
     → p ≡ at + o → new′ ≡ sets new p xs → r ≡ length xs → Writing old new′ at (o + r) whole left
 write-next {old} {new} {new′} {at} {o} {whole} xs left p r w pe e re = record {
   done = w .done ++ xs;
-  written = e ∙ ap (λ (l : List ℕ). sets l p xs) (w .written) ∙ ap (λ (i : ℕ). sets (sets old at (w .done)) i xs) (pe ∙ ap (λ (i : ℕ). at + i) (w .reach))
+  written = e ∙ ap (λ (l : List ℕ). sets l p xs) (w .written)
+      ∙ ap (λ (i : ℕ). sets (sets old at (w .done)) i xs) (pe ∙ ap (λ (i : ℕ). at + i) (w .reach))
       ∙ sym (sets-append old at (w .done) xs);
   reach = omega (arith, w .reach, re, length-append (w .done) xs);
   same = w .same ∙ sym (append-assoc (w .done) xs left);
 }
 
 -- nothing is left
-pub write-all : {old new : List ℕ} {at o : ℕ} {whole : List ℕ} → Writing old new at o whole [] → (new ≡ sets old at whole) × (o ≡ length whole)
+pub write-all : {old new : List ℕ} {at o : ℕ} {whole : List ℕ} → Writing old new at o whole [] → (new ≡ sets old at whole)
+    × (o ≡ length whole)
 write-all {old} {at = at} {whole = whole} w =
     let e : whole ≡ w .done = w .same ∙ append-nil (w .done) in
     (w .written ∙ ap (sets old at) (sym e), w .reach ∙ ap (λ (l : List ℕ). length l) (sym e))

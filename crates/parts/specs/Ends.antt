@@ -1,9 +1,20 @@
--- The answer of the call that finds the end of a part.
-use Prim.Native.Nat.{ℕ}
+-- The answers of the calls that find the end of a part and its size.
+use Prim.Native.Nat.{ℕ, _≤_}
+use mathlib.Core.Path.{_≡_}
+use mathlib.Core.List.{List}
 use mathlib.Core.Option.{Option, some, none}
+use lib.ListN.{length}
+use Rattle.syntax.specs.Term.{Term}
+use Rattle.syntax.specs.Encoding.{size}
+use Rattle.parts.specs.Fronts.{Holds}
 use Rattle.parts.specs.declared.ends.End.{End}
 use Rattle.parts.specs.declared.ends.End.the-variants.{At, Short}
 
 abbrev pub endOf : Option ℕ → End
 endOf none = Short
 endOf (some n) = At n
+
+-- the term at the front has so many words
+pub record Sized (calls words : List ℕ) (n : ℕ) : Type 0 where
+  pub within : n ≤ length words
+  pub told : (t : Term) (rest : List ℕ) → Holds calls words t rest → n ≡ size t

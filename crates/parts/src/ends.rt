@@ -3,7 +3,8 @@ ghost use mathlib.Core.Path.{_≡_};
 ghost use Prim.Native.Nat.{ℕ, _≤_};
 ghost use lib.ListN.{length};
 ghost use Rattle.syntax.specs.Parts.{partEnd};
-ghost use Rattle.parts.specs.Ends.{endOf};
+ghost use Rattle.parts.specs.Ends.{endOf, Sized};
+ghost use Rattle.parts.specs.Fronts.{Starts};
 use crate::shape::part_count;
 
 pub enum End {
@@ -27,4 +28,16 @@ pub fn part_end(calls: &[u64], t: &[u64]) -> End
         i += 1;
     }
     End::At(i)
+}
+
+// how many words the part at the front has
+pub fn part_size(calls: &[u64], t: &[u64]) -> usize
+    requires { ⌜ Starts (now calls) (now t) × (length (now t) ≤ 8192) ⌝ }
+    ensures { λ r. ⌜ Sized (now (calls .entry)) (now (t .entry)) r ⌝ }
+{
+    let end = part_end(calls, t);
+    match end {
+        End::At(size) => size,
+        End::Short => 0,
+    }
 }

@@ -1,6 +1,13 @@
+pub mod Sizes
+pub mod Testing
+pub mod Inserting
+pub mod Finding
+pub mod Fitting
+pub mod Scanning
+pub mod Naming
 pub mod Marking
+pub mod UnusedParts
+pub mod SeenParts
 pub mod ByParts
 pub mod TestedParts
 pub mod NormalTests
-pub mod UnusedParts
-pub mod SeenParts

@@ -1,4 +1,8 @@
+pub mod ValueTest
+pub mod Operands
+pub mod Fits
+pub mod Searches
 pub mod Marks
-pub mod Roles
-pub mod Tests
 pub mod Scans
+pub mod Roles
+pub mod NormalTest

@@ -2,14 +2,14 @@
 ghost use mathlib.Core.Path.{_≡_};
 ghost use Prim.Native.Nat.{ℕ};
 ghost use lib.ListN.{length};
-ghost use Rattle.reduction.specs.FitByKinds.{valueKind};
 ghost use Rattle.reduction.specs.Rules.{allPure};
 ghost use Rattle.reduction.specs.Grammar.{inGrammar};
 ghost use Rattle.parts.specs.Fronts.{Starts};
 ghost use Rattle.reducer.specs.Marks.{Space};
 ghost use Rattle.reducer.specs.Roles.{firstRole, laterRole, roleOf, suits, operationKind, keepsVariable};
-ghost use Rattle.reducer.specs.Tests.{isNormalValue, Tests};
+ghost use Rattle.reducer.specs.NormalTest.{isNormalValue, Tests};
 use crate::marks::mark;
+use crate::value::value_kind;
 use parts::fields::kind;
 use parts::fields::number;
 use parts::shape::binders;
@@ -27,16 +27,6 @@ pub enum Role {
     Value,
     Operation,
     Normal,
-}
-
-// the kinds of values: variable, function, pair, left and right injection
-pub fn value_kind(k: u64) -> bool
-    ensures { λ r. ⌜ r ≡ valueKind k ⌝ }
-{
-    match k {
-        0 | 2 | 5 | 8 | 9 => true,
-        _ => false,
-    }
 }
 
 // the kinds of operations: call, application, first, second

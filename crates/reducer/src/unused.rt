@@ -7,7 +7,7 @@ ghost use Rattle.parts.specs.Fronts.{Starts};
 ghost use Rattle.reducer.specs.Marks.{Space};
 ghost use Rattle.reducer.specs.Scans.{placeOf, moved, orElse, dropsAt, valueBy, sawOf, endScan, Scans};
 use crate::marks::mark;
-use crate::normal::value_kind;
+use crate::value::value_kind;
 use parts::fields::kind;
 use parts::fields::number;
 use parts::shape::binders;

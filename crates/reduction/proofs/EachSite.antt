@@ -1,9 +1,9 @@
 -- What holds of each node of a term holds of each node of the subterm at each of its positions.
 use mathlib.Core.Path.{_≡_}
-use mathlib.Core.Option.{Option, some}
+use mathlib.Core.Option.{some}
 use Prim.Native.Nat.{ℕ}
 use lib.ListN.{getElem?}
-use Rattle.syntax.specs.Term.{Term, Terms, var, call, lam, app, bind, pair, fst, snd, inl, inr, case, done, arg, node}
+use Rattle.syntax.specs.Term.{Term, var, call, lam, app, bind, pair, fst, snd, inl, inr, case, node}
 use Rattle.syntax.specs.Positions.{Position, positions}
 use Rattle.syntax.proofs.Inherited.{Inherited, inherited}
 use Rattle.reduction.proofs.Search.{Each, EachAll}

@@ -4,6 +4,7 @@ pub mod Disjoint
 pub mod Bounded
 pub mod Unique
 pub mod Roots
+pub mod Fires
 pub mod Fits
 pub mod Search
 pub mod Lowered
@@ -11,3 +12,5 @@ pub mod StepUses
 pub mod NextSize
 pub mod Clear
 pub mod EachSite
+pub mod Places
+pub mod Below

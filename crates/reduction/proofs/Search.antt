@@ -35,7 +35,7 @@ unfoldable mutual
   EachAll done P = Unit
   EachAll (arg t ts) P = Each t P × EachAll ts P
 
-every-or : {X : Type 0} {P : X → Type 0} {x y : Option X} → Every P x → Every P y → Every P (x or y)
+pub every-or : {X : Type 0} {P : X → Type 0} {x y : Option X} → Every P x → Every P y → Every P (x or y)
 every-or every-none q = q
 every-or (every-some p) q = every-some p
 

@@ -1,7 +1,7 @@
 -- Where no redex of a phase stands: before an index.
 use mathlib.Core.Path.{_≡_}
 use mathlib.Core.Bool.{Bool}
-use mathlib.Core.Option.{Option, some, none}
+use mathlib.Core.Option.{some, none}
 use Prim.Native.Nat.{ℕ, _<_}
 use lib.ListN.{getElem?}
 use Rattle.syntax.specs.Term.{Term}

@@ -1,12 +1,12 @@
 -- What a term hands on to its parts holds of the subterm at each of its positions. So words can hold each subterm of a term that they can
 -- hold.
-use mathlib.Core.Path.{_≡_, refl, subst}
+use mathlib.Core.Path.{_≡_, subst}
 use mathlib.Core.List.{List, [], _∷_, _++_, map}
-use mathlib.Core.Option.{Option, some, none, Option·some-injective, Option·none-ne-some}
+use mathlib.Core.Option.{some, Option·some-injective, Option·none-ne-some}
 use Prim.Native.Nat.{ℕ, zero, suc}
 use lib.ListN.{getElem?}
 use Rattle.syntax.specs.Term.{Term, Terms, var, call, lam, app, bind, pair, fst, snd, inl, inr, case, done, arg, node}
-use Rattle.syntax.specs.Positions.{Position, root, within, bound, positions, positionsAll}
+use Rattle.syntax.specs.Positions.{Position, within, bound, positions, positionsAll}
 use Rattle.syntax.specs.Shaped.{Shaped, ShapedAll}
 
 -- a property of terms, and of lists of terms, that a term hands on to its parts

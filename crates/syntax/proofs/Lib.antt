@@ -18,3 +18,4 @@ pub mod Sublists
 pub mod Sites
 pub mod Nested
 pub mod Inherited
+pub mod Subterms

@@ -2,23 +2,23 @@
 -- with that term's words between them: a node puts fixed words before and behind each of its parts.
 use mathlib.Core.Path.{_≡_, refl, sym, _∙_, ap, subst}
 use mathlib.Core.List.{List, [], _∷_, _++_, map, append-assoc, append-nil}
-use mathlib.Core.Option.{Option, some, none, Option·some-injective, Option·none-ne-some}
+use mathlib.Core.Option.{some, Option·some-injective, Option·none-ne-some}
 use Prim.Native.Nat.{ℕ, zero, suc, _+_, _≤_, _<_}
 use native.Mathlib.Omega.{arith}
 use lib.ListN.{length, drop, getElem?, length-append, length-map}
 use lib.Seq.{drop-at}
-use Rattle.syntax.specs.Term.{Term, Terms, var, call, lam, app, bind, pair, fst, snd, inl, inr, case, done, arg, node}
+use Rattle.syntax.specs.Term.{Term, Terms, var, call, lam, app, bind, pair, fst, snd, inl, inr, case, done, arg}
 use Rattle.syntax.specs.Encoding.{wordOf, encode, encodeAll, size}
 use Rattle.syntax.specs.Positions.{Position, root, within, bound, positions, positionsAll}
 use Rattle.syntax.proofs.Positions.{length-positions}
 
 -- p stands at index i of the words ws of a whole: so many words come before its subterm
-pub record Place {X : Type 0} (words : X → List ℕ) (ws : List ℕ) (i : ℕ) (p : Position X) : Type 0 where
-  pub before : List ℕ
-  pub after : List ℕ
-  pub index : length before ≡ i
-  pub whole : ws ≡ before ++ (encode (p .subterm) ++ after)
-  pub plugged : (u : Term) → words (p .plug u) ≡ before ++ (encode u ++ after)
+record Place {X : Type 0} (words : X → List ℕ) (ws : List ℕ) (i : ℕ) (p : Position X) : Type 0 where
+  before : List ℕ
+  after : List ℕ
+  index : length before ≡ i
+  whole : ws ≡ before ++ (encode (p .subterm) ++ after)
+  plugged : (u : Term) → words (p .plug u) ≡ before ++ (encode u ++ after)
 
 -- these positions stand at the indices from i on
 data Row {X : Type 0} (words : X → List ℕ) (ws : List ℕ) : ℕ → List (Position X) → Type 0 where

@@ -3,10 +3,10 @@ use mathlib.Core.Path.{_≡_, subst}
 use mathlib.Core.List.{List, [], _∷_, _++_}
 use Prim.Native.Nat.{ℕ}
 use Rattle.syntax.specs.Tables.{arrow, product, sum, Signature}
-use Rattle.syntax.specs.Term.{Term, Terms, var, call, lam, app, bind, pair, fst, snd, inl, inr, case, done, arg}
+use Rattle.syntax.specs.Term.{Term, Terms, call, lam, app, bind, pair, fst, snd, inl, inr, case, done, arg}
 use Rattle.semantics.specs.Value.{Value, Values, closure, tuple, left, right, empty, also, Trace}
 use Rattle.semantics.specs.Run.{answered, lookup}
-use Rattle.theory.proofs.Ends.{ends-var, ends-lam, ends-app, ends-bind, ends-pair, ends-fst, ends-snd, ends-inl, ends-inr}
+use Rattle.theory.proofs.Ends.{ends-lam, ends-app, ends-bind, ends-pair, ends-fst, ends-snd, ends-inl, ends-inr}
 use Rattle.theory.proofs.Ends.{ends-case-left, ends-case-right, ends-done, ends-arg, ends-call, enters-closure}
 use Rattle.typing.proofs.Typing.{Of, Signed}
 use Rattle.theory.proofs.Relation.{Pairs, pairs, Sums, lefts, rights, all-none, all-more, Model, Rv, Runs, E, EAll, from-arrow}
@@ -22,18 +22,6 @@ module _ (M : Model) where
     pub vals : Rv M A v w
 
   module _ {ρ ρ′ : Values} where
-    pub e-var : {A n m : ℕ} → Bound A ρ n ρ′ m → E M A ρ (var n) ρ′ (var m)
-    e-var b = record {
-      v = b .v;
-      w = b .w;
-      c = [];
-      d = [];
-      p = ends-var (M .answer) (b .p);
-      q = ends-var (M .answer) (b .q);
-      calls = M .none;
-      vals = b .vals;
-    }
-
     pub e-lam : {F A B : ℕ} {b b′ : Term} → Of (M .tables) arrow F A B
         → ((v w : Value) → Rv M A v w → E M B (also v ρ) b (also w ρ′) b′) → E M F ρ (lam F b) ρ′ (lam F b′)
     e-lam {b = b} {b′ = b′} e h = record {

@@ -2,7 +2,7 @@
 use mathlib.Core.Path.{_≡_, refl, sym, ap, subst}
 use mathlib.Core.List.{List, [], _∷_, _++_}
 use lib.ListN.{length, take, drop}
-use Prim.Native.Nat.{ℕ, min, _≤_}
+use Prim.Native.Nat.{ℕ, _≤_}
 use native.Mathlib.Omega.{arith}
 use Rattle.syntax.specs.Tables.{Tables}
 use Rattle.syntax.specs.Encoding.{encode, size}
@@ -25,10 +25,7 @@ take-front (x ∷ xs) ys = ap {B = List ℕ} (λ zs. x ∷ zs) (take-front xs ys
 
 capacity-bounded : (b : Buffers) → capacityOf b ≤ maxCapacity
 unfolding capacityOf
-capacity-bounded b = least (min (length (b .output)) (min (length (b .scratch₁)) (length (b .scratch₂)))) maxCapacity
-  where
-    least : (m n : ℕ) → min m n ≤ n
-    least m n = omega arith
+capacity-bounded b = omega arith
 
 module _ (settings : Settings) (tables : Tables) (words : List ℕ) (before : Buffers) where
   -- the claim of a result, where its refusal is 0

@@ -39,10 +39,6 @@ pub record Fitting (tables : Tables) : Type 0 where
   pub inputs : length (tables .inputs) ≤ 256
   pub counts : (k w : ℕ) → getElem? (tables .calls) k ≡ some w → countOf w ≤ 3
 
-size-is : (t : Term) → size t ≡ length (encode t)
-unfolding size
-size-is t = refl
-
 module _ (tables : Tables) (fit : Fitting tables) (ok : ℕ → Type 0) where
   type-below : {k F A B : ℕ} → Of tables k F A B → F < 2 ^ 30
   type-below {k} {F} o =

@@ -2,15 +2,15 @@
 -- kind is a value's, and no rule looks further than at the first part of a node's first part.
 use mathlib.Core.Path.{_≡_, refl, sym, _∙_, ap}
 use mathlib.Core.Bool.{Bool, true, false, _&&_, not}
-use mathlib.Core.List.{List, [], _∷_, _++_, append-assoc}
+use mathlib.Core.List.{List, [], _++_, append-assoc}
 use mathlib.Core.Option.{Option, some, none, Option·map}
 use lib.Dec.{T}
 use lib.ListN.{getD}
-use Prim.Native.Nat.{ℕ, _^_, _<_}
+use Prim.Native.Nat.{ℕ}
 use native.Mathlib.Omega.{arith}
 use Rattle.syntax.specs.Maybe.{given}
-use Rattle.syntax.specs.Words.{pack, kindOf}
-use Rattle.syntax.specs.Term.{Term, Terms, var, call, lam, app, bind, pair, fst, snd, inl, inr, case, node, partsOf, asVar, asLam, asApp}
+use Rattle.syntax.specs.Words.{kindOf}
+use Rattle.syntax.specs.Term.{Term, var, call, lam, app, bind, pair, fst, snd, inl, inr, case, node, partsOf, asVar, asLam, asApp}
 use Rattle.syntax.specs.Term.{asBind, asPair, asFst, asSnd, asInl, asInr, asCase}
 use Rattle.syntax.specs.Encoding.{wordOf, encode}
 use Rattle.syntax.specs.Shaped.{Shaped}
@@ -20,7 +20,7 @@ use Rattle.syntax.proofs.Options.{both-true}
 use Rattle.reduction.specs.Rules.{letOfLet, letOfCase, apply, first, second, leftCase, rightCase, letValue, fire, rules}
 use Rattle.reduction.specs.declared.Phase.the-variants.{Reduction}
 use Rattle.reduction.specs.declared.Rule.{Rule}
-use Rattle.reduction.specs.declared.Rule.the-variants.{LetOfLet, LetOfCase, Apply, First, Second, LeftCase, RightCase, LetValue}
+use Rattle.reduction.specs.declared.Rule.the-variants.{LetOfLet, Apply, First, Second, LeftCase, RightCase, LetValue}
 use Rattle.reduction.specs.Redex.{Contraction, contract}
 use Rattle.reduction.specs.FitByKinds.{valueKind, letByKinds, ruleByKinds}
 use Rattle.reduction.proofs.Search.{Each}
@@ -61,7 +61,7 @@ root-each P (inr A a) e = e .0
 root-each P (case s l r) e = e .0
 
 -- the kind of a node's first part, and of that part's first part, d where no rule looks for one
-abbrev kind₁ : Term → ℕ → ℕ
+abbrev pub kind₁ : Term → ℕ → ℕ
 kind₁ (var n) d = d
 kind₁ (call k ts) d = d
 kind₁ (lam A b) d = d
@@ -74,7 +74,7 @@ kind₁ (inl A a) d = d
 kind₁ (inr A a) d = d
 kind₁ (case s l r) d = node s .kind
 
-abbrev kind₂ : Term → ℕ → ℕ
+abbrev pub kind₂ : Term → ℕ → ℕ
 kind₂ (var n) d = d
 kind₂ (call k ts) d = d
 kind₂ (lam A b) d = d
@@ -95,7 +95,7 @@ fits true c r u e = ap (λ (x : Bool). given x r) e
 fits false c r u e = ap (λ (x : Bool). given x r) e
 
 module _ (pure : Term → Bool) where
-  by-kinds : (t : Term) (d₁ d₂ : ℕ) → Each t Ops
+  pub by-kinds : (t : Term) (d₁ d₂ : ℕ) → Each t Ops
       → Option·map (λ (x : Contraction). x .rule) (contract pure (rules Reduction) t) ≡ ruleByKinds (node t .kind) (kind₁ t d₁) (kind₂ t d₂)
   unfolding contract rules fire letOfLet letOfCase apply first second leftCase rightCase letValue node partsOf asVar asLam asApp asBind
       asPair asFst asSnd asInl asInr asCase isValue isComputation Each ruleByKinds letByKinds valueKind

@@ -12,6 +12,8 @@ pub mod Fundamental
 pub mod Grammar
 pub mod GrammarNormal
 pub mod GrammarTest
+pub mod NextInsertion
+pub mod NextReduction
 pub mod Operands
 pub mod OperandsKept
 pub mod PendingSteps
@@ -21,6 +23,7 @@ pub mod Relation
 pub mod RuledOut
 pub mod SameRuns
 pub mod SoundCall
+pub mod ScanReduction
 pub mod SoundInsert
 pub mod SoundReduce
 pub mod SoundStep

@@ -1,5 +1,5 @@
 -- After phase 1 each operand is a value, and only then: let insertion fits a node exactly if one of its operands is a computation.
-use mathlib.Core.Path.{_≡_, refl, sym, _∙_, ap}
+use mathlib.Core.Path.{_≡_, refl}
 use mathlib.Core.Bool.{Bool, true, false}
 use mathlib.Core.Option.{Option, some, none, Option·some-ne-none}
 use lib.Dec.{T}
@@ -128,7 +128,7 @@ mutual
   each-mapAll P Q f (arg t ts) e = (each-map P Q f t (e .0), each-mapAll P Q f ts (e .1))
 
 module _ (pure : Term → Bool) where
-  only-rule : (t : Term) → Misses pure Insertion t → letInsertion t ≡ none
+  pub only-rule : (t : Term) → Misses pure Insertion t → letInsertion t ≡ none
   unfolding contract rules fire
   only-rule t e = go (letInsertion t) e
     where
@@ -142,7 +142,7 @@ module _ (pure : Term → Bool) where
       go none d = refl
       go (some u) d = absurd (Option·some-ne-none _ d)
 
-  rule-only : (t : Term) → letInsertion t ≡ none → Misses pure Insertion t
+  pub rule-only : (t : Term) → letInsertion t ≡ none → Misses pure Insertion t
   unfolding contract rules fire
   rule-only t e = go (letInsertion t) e
     where

@@ -91,7 +91,7 @@ root-ops (r-left {v = v} {l = l} h) e = put-kept l v h (e .1 .1) (e .2)
 root-ops (r-right {v = v} {r = r} h) e = put-kept r v h (e .1 .1) (e .3)
 root-ops (r-value {v = v} {b = b} h) e = put-kept b v h (e .1) (e .2)
 
-root-value : {t t′ : Term} → Reduce t t′ → T (isValue t) → ⊥
+pub root-value : {t t′ : Term} → Reduce t t′ → T (isValue t) → ⊥
 unfolding isValue
 root-value (r-let _) h = h
 root-value r-case h = h

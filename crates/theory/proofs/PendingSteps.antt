@@ -126,7 +126,7 @@ root-value (i-inl {a = a} h) = not-value (isValue a) h
 root-value (i-inr {a = a} h) = not-value (isValue a) h
 root-value (i-case h) = refl
 
-value-step : {t t′ : Term} → Step Insert t t′ → isValue t ≡ isValue t′
+pub value-step : {t t′ : Term} → Step Insert t t′ → isValue t ≡ isValue t′
 unfolding isValue
 value-step (s-root r) = root-value r
 value-step (s-call s) = refl

@@ -40,9 +40,3 @@ pub infer-step : (tables : Tables) (pure : Term → Bool) (phase : Phase) (Γ : 
     → infer tables t Γ ≡ some A → step pure phase t ≡ some s → infer tables (s .next) Γ ≡ some A
 infer-step tables pure phase Γ A t s h e = typed-infer tables (λ k. Unit)
     (step-typed tables (λ k. Unit) pure phase t s e (typing-of tables (λ k. Unit) t Γ A h (λ k i. tt)))
-
--- and of all steps of a phase
-pub infer-steps : (tables : Tables) (pure : Term → Bool) (phase : Phase) (Γ : Context) (A : ℕ) {t u : Term} {ss : List Stepped}
-    → infer tables t Γ ≡ some A → Steps pure phase t ss u → infer tables u Γ ≡ some A
-infer-steps tables pure phase Γ A {t} h q = typed-infer tables (λ k. Unit)
-    (steps-typed tables (λ k. Unit) pure phase q (typing-of tables (λ k. Unit) t Γ A h (λ k i. tt)))

@@ -1,0 +1,16 @@
+pub mod Every
+pub mod Lookups
+pub mod Variables
+pub mod ScopedNode
+pub mod Scoping
+pub mod TypeParts
+pub mod PartTypes
+pub mod Clauses
+pub mod InferCall
+pub mod InferNode
+pub mod Inferring
+pub mod Turns
+pub mod Screens
+pub mod Decoded
+pub mod TermPlaces
+pub mod Verdicts

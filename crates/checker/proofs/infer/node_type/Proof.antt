@@ -1,0 +1,138 @@
+-- The kind decides what the node is about, the components decide the rest.
+use mathlib.Core.Path.{_≡_, refl, _∙_, ap, ap₂}
+use mathlib.Core.Bool.{Bool, cond}
+use mathlib.Core.List.{List, [], _∷_}
+use mathlib.Core.Option.{Option, some, none}
+use Prim.Native.Nat.{ℕ}
+use lib.ListN.{getD}
+use native.Mathlib.Omega.{arith}
+use borrow.Author.Needs.{needs}
+use borrow.Author.Tests.{eq-eqb, ne-eqb}
+use Rattle.syntax.specs.Words.{kindOf, numberOf, typeOf}
+use Rattle.syntax.specs.Maybe.{_>>=_}
+use Rattle.syntax.specs.Tables.{components}
+use Rattle.syntax.specs.Tables.{over}
+use Rattle.checker.specs.Nodes.{componentsOf, formOf, subjectOf, judge, callType, nodeType}
+use Rattle.checker.specs.Answers.{inferredOf}
+use Rattle.checker.specs.declared.infer.Components.{Components}
+use Rattle.checker.specs.declared.infer.Components.the-variants.{Of, Missing}
+use Rattle.checker.specs.declared.infer.Inferred.{Inferred}
+use Rattle.checker.specs.declared.infer.Inferred.the-variants.{Typed, Untyped}
+use Rattle.checker.proofs.infer.node_type.Statement.{statement}
+use Rattle.checker.proofs.infer.node_type.Tie as tie
+
+module _ (types calls : List ℕ) (w : ℕ) (F : List ℕ) (n k : ℕ) (e : k ≡ kindOf w) where
+  abbrev Answer : Inferred → Type 0
+  Answer r = r ≡ inferredOf (nodeType (over types calls []) (kindOf w) (numberOf w) (typeOf w) F) n
+
+  of-kind : (r : Inferred) → r ≡ inferredOf (nodeType (over types calls []) k (numberOf w) (typeOf w) F) n → Answer r
+  of-kind r h = rw e at h
+
+  of-call : (m : ℕ) (r : Inferred) → k ≡ 1 → m ≡ numberOf w → r ≡ inferredOf (callType (over [] calls []) m F) n → Answer r
+  unfolding nodeType callType
+  of-call m r t p h = of-kind r (rw p at h ∙ simp (eq-eqb k 1 t))
+
+  of-let : (k ≡ 1 → ⊥) → k ≡ 4 → Answer (Typed (getD F 1 0) n)
+  unfolding nodeType
+  of-let h t = of-kind _ (simp (ne-eqb k 1 h, eq-eqb k 4 t))
+
+  -- a node that is about a type: A the node's type field, s the type it is about, f its kind
+  record About (A s f : ℕ) : Type 0 where
+    no-call : k ≡ 1 → ⊥
+    no-let : k ≡ 4 → ⊥
+    type : A ≡ typeOf w
+    form : f ≡ formOf k
+    subject : s ≡ subjectOf k A (getD F 0 0)
+
+  module _ {A s f : ℕ} (a : About A s f) (p : Components) (pe : p ≡ componentsOf (components (over types [] []) f s)) where
+    -- the node's type, from the components of that type
+    abbrev by : Option (ℕ × ℕ) → Inferred
+    by o = inferredOf (o >>= λ (X, Y). judge k (typeOf w) F X Y) n
+
+    by-type : by (components (over types calls []) f s) ≡ inferredOf (nodeType (over types calls []) k (numberOf w) (typeOf w) F) n
+    unfolding nodeType
+    by-type =
+        ap₂ {C = Inferred} (λ (x y : ℕ). by (components (over types calls []) x y)) (a .form)
+        (a .subject ∙ ap (λ (y : ℕ). subjectOf k y (getD F 0 0)) (a .type))
+        ∙ simp (ne-eqb k 1 (a .no-call), ne-eqb k 4 (a .no-let))
+
+    found : (x y : ℕ) (r : Inferred) → p ≡ Of x y → r ≡ inferredOf (judge k A F x y) n → Answer r
+    found x y r t h = of-kind r
+        (h ∙ ap (λ (v : ℕ). inferredOf (judge k v F x y) n) (a .type) ∙ go (components (over types calls []) f s) pe ∙ by-type)
+      where
+        go : (o : Option (ℕ × ℕ)) → p ≡ componentsOf o → inferredOf (judge k (typeOf w) F x y) n ≡ by o
+        go none q = let z : _≡_ {A = ℕ} 0 1 = cc in absurd (omega arith)
+        go (some (x′, y′)) q =
+            let d : x ≡ x′ = cc in
+            let g : y ≡ y′ = cc in
+            ap₂ {C = Inferred} (λ (u v : ℕ). inferredOf (judge k (typeOf w) F u v) n) d g
+
+    missing : p ≡ Missing → Answer Untyped
+    missing t = of-kind _ (go (components (over types calls []) f s) pe ∙ by-type)
+      where
+        go : (o : Option (ℕ × ℕ)) → p ≡ componentsOf o → Untyped ≡ by o
+        go none q = refl
+        go (some (x′, y′)) q = let z : _≡_ {A = ℕ} 0 1 = cc in absurd (omega arith)
+
+-- the function's arguments
+abbrev Entry : Type 0
+Entry = tie.After-shared-slice-known2
+
+abbrev types : Entry → List ℕ
+types s = s .before .before .args .types .now
+
+abbrev calls : Entry → List ℕ
+calls s = s .before .before .args .calls .now
+
+abbrev word : Entry → ℕ
+word s = s .before .before .args .w
+
+abbrev found-types : Entry → List ℕ
+found-types s = let a = s .before .before .args in a .a ∷ a .b ∷ a .c ∷ []
+
+-- what the node is about
+about : (c : tie.After-form) → let n = c .before .before .before .before .before .before in
+    About (types (n .before)) (calls (n .before)) (word (n .before)) (found-types (n .before)) (n .before .before .before .args .words)
+    (n .kind .result) (n .kind .ensures)
+    (c .before .before .before .ty .result) (c .before .pick .result) (c .form .result)
+about c =
+    let ty = c .before .before .before in
+    let d = ty .before in
+    let a = d .before .before .before .before .before .args in
+    record {
+      no-call = d .before .if1 .left;
+      no-let = d .if2 .left;
+      type = ty .ty .ensures;
+      form = c .form .ensures;
+      subject = c .before .pick .ensures ∙ ap (λ (v : Bool). cond v (ty .ty .result) (a .a)) (c .before .before .shape-of .ensures .ty);
+    }
+
+pub node-type-spec : {M : Type 1} → statement M
+node-type-spec =
+    tie.close
+    (tie.spec
+    (λ c κs. search needs)
+    (λ c κs. search needs)
+    (λ c κs. search needs)
+    (λ c.
+    let k = c .before .before .before in
+    of-call (types (k .before)) _ (word (k .before)) _ _ _ (k .kind .ensures) _ _ (c .before .before .if1 .taken)
+    (c .before .number .ensures) (c .call-type .ensures))
+    (λ c.
+    let k = c .before .before in
+    let s = k .before in
+    of-let (types s) (calls s) (word s) (found-types s) _ _ (k .kind .ensures) (c .before .if1 .left) (c .if2 .taken))
+    (λ c κs. search needs)
+    (λ c κs. search needs)
+    (λ c κs. search needs)
+    (λ c κs. search needs)
+    (λ c κs. search needs)
+    (λ c. search needs)
+    (λ c κs. search needs)
+    (λ c. search needs)
+    (λ c.
+    let q = c .before .before .before .before in
+    found _ _ _ _ _ _ _ (about (q .before)) _ (q .parts-of-type .ensures) _ _ _ (c .before .before .p .given .1) (c .judge .ensures))
+    (λ c.
+    let q = c .before .before in
+    missing _ _ _ _ _ _ _ (about (q .before)) _ (q .parts-of-type .ensures) (c .enum-told .given .1)))

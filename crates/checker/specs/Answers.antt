@@ -1,0 +1,40 @@
+-- What the functions of the type check answer, from what the definitions say.
+use Prim.Native.Nat.{ℕ, zero, suc}
+use mathlib.Core.Path.{_≡_}
+use mathlib.Core.Bool.{Bool, false, cond}
+use mathlib.Core.List.{List, _∷_}
+use mathlib.Core.Option.{Option, some, none}
+use lib.Dec.{eqb}
+use lib.ListN.{getD}
+use Rattle.syntax.specs.Tables.{Tables}
+use Rattle.syntax.specs.Term.{Term}
+use Rattle.syntax.specs.Encoding.{size}
+use Rattle.parts.specs.Fronts.{Holds}
+use Rattle.typing.specs.Infer.{Context, infer}
+use Rattle.typing.specs.TermChecks.{scopedAt}
+use Rattle.checker.specs.declared.infer.Inferred.{Inferred}
+use Rattle.checker.specs.declared.infer.Inferred.the-variants.{Typed, Untyped}
+
+-- 7: whether the first part is all of the words
+abbrev pub wholeOf : Option ℕ → ℕ → Bool
+wholeOf none n = false
+wholeOf (some m) n = eqb m n
+
+-- the variables in scope: so many binders from the top of a stack down, then the inputs
+unfoldable pub scope : List ℕ → List ℕ → ℕ → Context
+scope inputs stack zero = inputs
+scope inputs stack (suc depth) = getD stack depth 0 ∷ scope inputs stack depth
+
+-- 9: a type, with a number of words
+abbrev pub inferredOf : Option ℕ → ℕ → Inferred
+inferredOf none n = Untyped
+inferredOf (some A) n = Typed A n
+
+-- for whatever term the words begin with: its type in a context, with its number of words
+abbrev pub Infers : Tables → Context → List ℕ → Inferred → Type 0
+Infers tables Γ words r =
+    (t : Term) (rest : List ℕ) → Holds (tables .calls) words t rest → r ≡ inferredOf (infer tables t Γ) (size t)
+
+-- for whatever term the words begin with: its number of words if its variables are in scope, and else 0
+abbrev pub Scopes : List ℕ → ℕ → List ℕ → ℕ → Type 0
+Scopes calls m words r = (t : Term) (rest : List ℕ) → Holds calls words t rest → r ≡ cond (scopedAt m t) (size t) 0

@@ -1,0 +1,60 @@
+-- Typing of one node from the types of its parts, as the code does it; law: `infer-node`.
+use Prim.Native.Nat.{ℕ}
+use mathlib.Core.Bool.{cond, _&&_}
+use mathlib.Core.List.{List}
+use mathlib.Core.Option.{Option, some, none}
+use lib.Dec.{leb, eqb}
+use lib.ListN.{getD, take}
+use Rattle.syntax.specs.Maybe.{_>>=_, given}
+use Rattle.syntax.specs.Words.{leftOf, rightOf}
+use Rattle.syntax.specs.Tables.{Tables, arrow, product, sum, components, signature, arity}
+use Rattle.syntax.specs.Kinds.{usesType}
+use Rattle.typing.specs.Infer.{equal}
+use Rattle.checker.specs.declared.infer.Components.{Components}
+use Rattle.checker.specs.declared.infer.Components.the-variants.{Of, Missing}
+
+-- the two parts of a type, as the code answers them
+abbrev pub componentsOf : Option (ℕ × ℕ) → Components
+componentsOf none = Missing
+componentsOf (some (X, Y)) = Of X Y
+
+-- the type of the variable that a node binds in its part j: a function's argument, a let's bound part, the halves of a sum.
+-- A is the node's type field, F the type of its first part.
+unfoldable pub binderType : List ℕ → ℕ → ℕ → ℕ → ℕ → ℕ
+binderType types k A j F =
+    cond (eqb k 2) (leftOf (getD types A 0))
+    (cond (eqb k 4) F
+    (cond (leb j 1) (leftOf (getD types F 0)) (rightOf (getD types F 0))))
+
+-- the kind of type that a node is about: function, product or sum
+abbrev pub formOf : ℕ → ℕ
+formOf k = cond (leb k 3) arrow (cond (leb k 7) product sum)
+
+-- the type that it is about: its own, or its first part's
+abbrev pub subjectOf : ℕ → ℕ → ℕ → ℕ
+subjectOf k A F = cond (usesType k) A F
+
+-- a node's type, from the components X and Y of the type that it is about and its parts' types F
+unfoldable pub judge : ℕ → ℕ → List ℕ → ℕ → ℕ → Option ℕ
+judge k A F X Y =
+    cond (eqb k 2) (given (eqb (getD F 0 0) Y) A)
+    (cond (eqb k 3) (given (eqb (getD F 1 0) X) Y)
+    (cond (eqb k 5) (given (eqb (getD F 0 0) X && eqb (getD F 1 0) Y) A)
+    (cond (eqb k 6) (some X)
+    (cond (eqb k 7) (some Y)
+    (cond (eqb k 8) (given (eqb (getD F 0 0) X) A)
+    (cond (eqb k 9) (given (eqb (getD F 0 0) Y) A)
+    (given (eqb (getD F 2 0) (getD F 1 0)) (getD F 1 0))))))))
+
+-- a call's type: its arguments have the listed types
+unfoldable pub callType : Tables → ℕ → List ℕ → Option ℕ
+callType tables n F = do
+  s ← signature tables n
+  given (equal (take (arity (tables .calls) n) F) (s .arguments)) (s .result)
+
+-- a node's type, variables apart
+unfoldable pub nodeType : Tables → ℕ → ℕ → ℕ → List ℕ → Option ℕ
+nodeType tables k n A F =
+    cond (eqb k 1) (callType tables n F)
+    (cond (eqb k 4) (some (getD F 1 0))
+    (components tables (formOf k) (subjectOf k A (getD F 0 0)) >>= λ (X, Y). judge k A F X Y))

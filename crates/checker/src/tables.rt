@@ -1,0 +1,147 @@
+// The tests on the tables: refusals 1 to 5.
+ghost use mathlib.Core.Path.{_≡_};
+ghost use mathlib.Core.Bool.{not};
+ghost use mathlib.Core.List.{[]};
+ghost use lib.Dec.{eqb};
+ghost use Rattle.syntax.specs.Tables.{over};
+ghost use Rattle.typing.specs.TableChecks.{every, lengthsFit, wellFormedType, wellFormedTypes, distinct as distinctOf, wellFormedCall};
+ghost use Rattle.typing.specs.TableChecks.{wellFormedCalls, wellFormedInputs};
+ghost use Rattle.typing.specs.TermChecks.{fieldFits};
+
+// 1: the lengths of the tables and of the term
+pub fn lengths_fit(limit: usize, types: &[u64], calls: &[u64], inputs: &[u64], term: &[u64]) -> bool
+    ensures { λ r. ⌜ r ≡ lengthsFit limit (over (now (types .entry)) (now (calls .entry)) (now (inputs .entry))) (now (term .entry)) ⌝ }
+{
+    if 1024 < types.len() {
+        return false;
+    }
+    if 1024 < calls.len() {
+        return false;
+    }
+    if 256 < inputs.len() {
+        return false;
+    }
+    if limit < term.len() {
+        return false;
+    }
+    1 <= term.len()
+}
+
+// 2: a type word at its index
+pub fn type_fits(i: usize, w: u64) -> bool
+    ensures { λ r. ⌜ r ≡ wellFormedType i w ⌝ }
+{
+    let k = parts::fields::kind(w);
+    let right = parts::fields::ty(w) as usize;
+    if k == 0 {
+        return right == 0;
+    }
+    if 3 < k {
+        return false;
+    }
+    let left = parts::fields::number(w) as usize;
+    if left < i {
+        return right < i;
+    }
+    false
+}
+
+pub fn types_fit(types: &[u64]) -> bool
+    ensures { λ r. ⌜ r ≡ wellFormedTypes 0 (now (types .entry)) ⌝ }
+{
+    let mut i: usize = 0;
+    while i < types.len() {
+        if !type_fits(i, types[i]) {
+            return false;
+        }
+        i += 1;
+    }
+    true
+}
+
+// 3: whether a word does not stand among others
+pub fn absent(words: &[u64], w: u64) -> bool
+    ensures { λ r. ⌜ r ≡ every (λ x. not (eqb w x)) (now (words .entry)) ⌝ }
+{
+    let mut i: usize = 0;
+    while i < words.len() {
+        if w == words[i] {
+            return false;
+        }
+        i += 1;
+    }
+    true
+}
+
+pub fn distinct(types: &[u64]) -> bool
+    ensures { λ r. ⌜ r ≡ distinctOf (now (types .entry)) ⌝ }
+{
+    let mut i: usize = 0;
+    while i < types.len() {
+        let w = types[i];
+        let next = i + 1;
+        if !absent(&types[next..], w) {
+            return false;
+        }
+        i = next;
+    }
+    true
+}
+
+// a field that is used is below its bound, one that is unused is zero
+pub fn field_fits(used: bool, bound: usize, x: u64) -> bool
+    ensures { λ r. ⌜ r ≡ fieldFits used bound x ⌝ }
+{
+    let n = x as usize;
+    if used {
+        return n < bound;
+    }
+    n == 0
+}
+
+// 4: a call word over so many types
+pub fn call_fits(types: usize, w: u64) -> bool
+    ensures { λ r. ⌜ r ≡ wellFormedCall types w ⌝ }
+{
+    let n = parts::fields::kind(w);
+    if 3 < n {
+        return false;
+    }
+    if types <= parts::fields::result(w) as usize {
+        return false;
+    }
+    if !field_fits(0 < n, types, parts::fields::argument(w, 0)) {
+        return false;
+    }
+    if !field_fits(1 < n, types, parts::fields::argument(w, 1)) {
+        return false;
+    }
+    field_fits(2 < n, types, parts::fields::argument(w, 2))
+}
+
+pub fn calls_fit(types: &[u64], calls: &[u64]) -> bool
+    ensures { λ r. ⌜ r ≡ wellFormedCalls (over (now (types .entry)) (now (calls .entry)) []) ⌝ }
+{
+    let mut i: usize = 0;
+    while i < calls.len() {
+        if !call_fits(types.len(), calls[i]) {
+            return false;
+        }
+        i += 1;
+    }
+    true
+}
+
+// 5: each input is a known type
+pub fn inputs_fit(types: &[u64], inputs: &[u64]) -> bool
+    ensures { λ r. ⌜ r ≡ wellFormedInputs (over (now (types .entry)) [] (now (inputs .entry))) ⌝ }
+{
+    let mut i: usize = 0;
+    while i < inputs.len() {
+        if types.len() <= inputs[i] as usize {
+            return false;
+        }
+        i += 1;
+    }
+    true
+}

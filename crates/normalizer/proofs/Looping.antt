@@ -1,0 +1,254 @@
+-- The loops' invariants: whatever the reduction stood for where a loop began, it stands for now.
+use Prim.Native.Nat.{ℕ, zero, suc, _+_, _-_, _≤_, _<_}
+use native.Mathlib.Omega.{arith}
+use mathlib.Core.Path.{_≡_, refl, sym, _∙_, ap, subst}
+use mathlib.Core.List.{List, [], _∷_}
+use mathlib.Core.Option.{some, Option·some-injective}
+use lib.ListN.{length, getD, set, replicate}
+use Rattle.syntax.specs.Tables.{Tables, over}
+use Rattle.syntax.specs.Term.{Term}
+use Rattle.syntax.specs.Encoding.{encode, size}
+use Rattle.syntax.specs.Decoding.{decode}
+use Rattle.syntax.proofs.Decoding.{decode-words}
+use Rattle.typing.specs.Infer.{infer}
+use Rattle.reduction.specs.Rules.{allPure}
+use Rattle.reduction.specs.Reduction.{Counts, index, raise, zeroCounts, Progress, stopped, reached, reduce}
+use Rattle.reduction.specs.declared.Rule.{Rule}
+use Rattle.reduction.specs.declared.Phase.{Phase}
+use Rattle.reduction.specs.declared.Phase.the-variants.{Insertion, Reduction, Dropping}
+use Rattle.reduction.proofs.Clear.{clear-zero}
+use Rattle.theory.proofs.Fields.{Fitting, fitting}
+use Rattle.normalizer.specs.Currents.{Front, Current}
+use Rattle.normalizer.specs.Turns.{Ready, Turned, spent, full, Turns, nextFrom}
+use Rattle.normalizer.specs.declared.turn.Turn.{Turn}
+use Rattle.normalizer.specs.declared.turn.Turn.the-variants.{Stop, Refused, Step as Stepped}
+use Rattle.normalizer.specs.Reductions.{Reducible, Comes, refusal, ended, Reduces}
+use Rattle.normalizer.specs.declared.reduce.Reduced.{Reduced}
+use Rattle.normalizer.proofs.Remaining.{reduce-begins}
+use Rattle.normalizer.proofs.Standing.{Standing, Ended, standing-ready, standing-stops, standing-refused, standing-steps}
+use Rattle.normalizer.proofs.Standing.{standing-inserted, standing-reduced, standing-ended}
+
+-- words are those of one term
+pub current-unique : {calls words : List ℕ} {len : ℕ} {t u : Term} → Current calls words len t → Current calls words len u → t ≡ u
+current-unique {calls} {t = t} {u = u} c d =
+    Option·some-injective t u (sym (decode-words calls t (c .shaped))
+    ∙ ap (decode calls) (sym (c .front .words-are) ∙ d .front .words-are) ∙ decode-words calls u (d .shaped))
+
+-- one count raised
+one-more : (cs : Counts) (k i : ℕ) → getD (set cs k (getD cs k 0 + 1)) i 0 ≤ getD cs i 0 + 1
+one-more [] k i = omega arith
+one-more (c ∷ cs) zero zero = omega arith
+one-more (c ∷ cs) zero (suc i) = omega arith
+one-more (c ∷ cs) (suc k) zero = omega arith
+one-more (c ∷ cs) (suc k) (suc i) = one-more cs k i
+
+module _ (calls : List ℕ) (capacity : ℕ) where
+  -- the reduction stands here, over some tables
+  pub record Stands (phase : Phase) (words : List ℕ) (len from left : ℕ) (counts : Counts) : Type 0 where
+    pub types : List ℕ
+    pub inputs : List ℕ
+    pub whole : Progress
+    pub fit : Fitting (over types calls inputs)
+    pub standing : Standing (over types calls inputs) capacity whole phase words len from left counts
+
+  -- whatever it stood for there, it stands for here
+  abbrev pub Carries : (phase₀ phase : Phase) (words₀ words : List ℕ) (len₀ len from₀ from left₀ left : ℕ) (counts₀ counts : Counts)
+      → Type 0
+  Carries phase₀ phase words₀ words len₀ len from₀ from left₀ left counts₀ counts =
+      (types inputs : List ℕ) (whole : Progress) → Fitting (over types calls inputs)
+      → Standing (over types calls inputs) capacity whole phase₀ words₀ len₀ from₀ left₀ counts₀
+      → Standing (over types calls inputs) capacity whole phase words len from left counts
+
+  -- the counts and what is left of the budget stay within 32 bits
+  abbrev pub Bounded : (left : ℕ) (counts : Counts) → Type 0
+  Bounded left counts = (i : ℕ) → getD counts i 0 + left ≤ 4294967295
+
+  -- the inner loop's invariant
+  pub record Inner (phase : Phase) (words₀ words : List ℕ) (len₀ len from₀ from left₀ left : ℕ) (counts₀ counts : Counts)
+      (second₀ second : List ℕ) (refused : ℕ) : Type 0 where
+    pub begun : Stands phase words₀ len₀ from₀ left₀ counts₀
+    pub carries : Carries phase phase words₀ words len₀ len from₀ from left₀ left counts₀ counts
+    pub bounded : Bounded left counts
+    pub limit : capacity ≤ 8192
+    pub room : capacity ≤ length words₀
+    pub scratch : capacity ≤ length second₀
+    pub same : length words ≡ length words₀
+    pub same-second : length second ≡ length second₀
+    pub none-yet : refused ≡ 0
+
+  module _ {phase : Phase} {words₀ words : List ℕ} {len₀ len from₀ from left₀ left : ℕ} {counts₀ counts : Counts}
+      {second₀ second : List ℕ} {refused : ℕ}
+      (v : Inner phase words₀ words len₀ len from₀ from left₀ left counts₀ counts second₀ second refused) where
+    now : Standing (over (v .begun .types) calls (v .begun .inputs)) capacity (v .begun .whole) phase words len from left counts
+    now = v .carries _ _ _ (v .begun .fit) (v .begun .standing)
+
+    pub inner-ready : Ready phase calls words len from capacity second
+    inner-ready = standing-ready (over (v .begun .types) calls (v .begun .inputs)) capacity (v .begun .whole) now second (v .limit)
+        (omega (arith, v .room, v .same)) (omega (arith, v .scratch, v .same-second))
+
+    module _ (after second′ : List ℕ) (a : length after ≡ length words) (b : length second′ ≡ length second) where
+      -- a turn that takes a step
+      pub record InnerStep (rule : Rule) (place n : ℕ) : Type 0 where
+        pub positive : 0 < left
+        pub below : (i : ℕ) → getD counts i 0 < 4294967295
+        pub next : Inner phase words₀ after len₀ n from₀ (nextFrom phase place) left₀ (left - 1) counts₀
+            (raise rule counts) second₀ second′ refused
+
+      pub inner-steps : {rule : Rule} {place n : ℕ} → Turns phase calls words len from left capacity after (Stepped rule place n)
+          → InnerStep rule place n
+      inner-steps {rule} {place} {n} x =
+          let h : 0 < left = standing-steps _ capacity _ now rule place n (v .begun .fit) (v .limit) x .0 in
+          record {
+            positive = h;
+            below = λ i. omega (arith, h, v .bounded i);
+            next = record {
+              begun = v .begun;
+              carries = λ types inputs whole fit s. standing-steps _ capacity _ (v .carries types inputs whole fit s) rule place n fit
+                  (v .limit) x .1;
+              bounded = λ i. omega (arith, h, v .bounded i, one-more counts (index rule) i);
+              limit = v .limit;
+              room = v .room;
+              scratch = v .scratch;
+              same = a ∙ v .same;
+              same-second = b ∙ v .same-second;
+              none-yet = v .none-yet;
+            };
+          }
+
+  -- the outer loop's invariant: where it begins, nothing is done
+  pub record Outer (phase : Phase) (words₀ words : List ℕ) (len₀ len budget left : ℕ) (counts : Counts) (second₀ second : List ℕ)
+      (refused : ℕ) : Type 0 where
+    pub begun : Stands Insertion words₀ len₀ 0 budget zeroCounts
+    pub carries : Carries Insertion phase words₀ words len₀ len 0 0 budget left zeroCounts counts
+    pub bounded : Bounded left counts
+    pub limit : capacity ≤ 8192
+    pub room : capacity ≤ length words₀
+    pub scratch : capacity ≤ length second₀
+    pub same : length words ≡ length words₀
+    pub same-second : length second ≡ length second₀
+    pub none-yet : refused ≡ 0
+
+  pub inner-begins : {phase : Phase} {words₀ words : List ℕ} {len₀ len budget left : ℕ} {counts : Counts} {second₀ second : List ℕ}
+      {refused : ℕ}
+      → Outer phase words₀ words len₀ len budget left counts second₀ second refused
+      → Inner phase words words len len 0 0 left left counts counts second second refused
+  inner-begins o = record {
+    begun = record {
+      types = o .begun .types;
+      inputs = o .begun .inputs;
+      whole = o .begun .whole;
+      fit = o .begun .fit;
+      standing = o .carries _ _ _ (o .begun .fit) (o .begun .standing);
+    };
+    carries = λ types inputs whole fit s. s;
+    bounded = o .bounded;
+    limit = o .limit;
+    room = omega (arith, o .room, o .same);
+    scratch = omega (arith, o .scratch, o .same-second);
+    same = refl;
+    same-second = refl;
+    none-yet = o .none-yet;
+  }
+
+  module _ {phase : Phase} {words₀ words₁ words : List ℕ} {len₀ len₁ len budget from left₁ left : ℕ} {counts₁ counts : Counts}
+      {second₀ second₁ second : List ℕ} {refused₁ refused : ℕ}
+      (o : Outer phase words₀ words₁ len₀ len₁ budget left₁ counts₁ second₀ second₁ refused₁)
+      (v : Inner phase words₁ words len₁ len 0 from left₁ left counts₁ counts second₁ second refused) where
+    -- the phase is over and another begins
+    pub outer-next : (after second′ : List ℕ) → length after ≡ length words → length second′ ≡ length second → (phase′ : Phase)
+        → ((types inputs : List ℕ) (whole : Progress) → Standing (over types calls inputs) capacity whole phase words len from left counts
+        → Standing (over types calls inputs) capacity whole phase′ after len 0 left counts)
+        → Outer phase′ words₀ after len₀ len budget left counts second₀ second′ refused
+    outer-next after second′ a b phase′ f = record {
+      begun = o .begun;
+      carries = λ types inputs whole fit s. f types inputs whole (v .carries types inputs whole fit (o .carries types inputs whole fit s));
+      bounded = v .bounded;
+      limit = o .limit;
+      room = o .room;
+      scratch = o .scratch;
+      same = a ∙ v .same ∙ o .same;
+      same-second = b ∙ v .same-second ∙ o .same-second;
+      none-yet = v .none-yet;
+    }
+
+    -- the reduction of whatever term was current at first stands here
+    pub outer-stands : (t : Term) → Current calls words₀ len₀ t
+        → Standing (over (o .begun .types) calls (o .begun .inputs)) capacity
+        (reduce allPure capacity (record { budget = budget }) t) phase words len from left counts
+    outer-stands t c =
+        let s = o .begun .standing in
+        let e : s .term ≡ t = current-unique (s .at .current) c in
+        let z = subst (λ (x : Term). size x ≤ capacity) e (omega (arith, s .small, s .at .current .front .length-is)) in
+        v .carries _ _ _ (o .begun .fit) (o .carries _ _ _ (o .begun .fit) (record {
+          term = t;
+          type = s .type;
+          at = record { current = c; inside = omega arith; clear = clear-zero allPure Insertion t; begun = tt };
+          typed = subst (λ (x : Term). infer (over (o .begun .types) calls (o .begun .inputs)) x (o .begun .inputs) ≡ some (s .type)) e
+              (s .typed);
+          small = s .small;
+          same = sym (reduce-begins allPure capacity budget t z);
+        }))
+
+    -- it is refused
+    pub outer-refused : (after : List ℕ) (n : ℕ) (r : Reduced) → Turns phase calls words len from left capacity after (Refused n)
+        → r .refusal ≡ n → r .counts ≡ counts
+        → Reduces calls words₀ len₀ budget capacity after r
+    outer-refused after n r x re ce = record {
+      told = λ t c.
+          let s = outer-stands t c in
+          let k = number (x .told (s .term) (s .at)) in
+          subst (Comes after r) (sym (standing-refused _ capacity _ s n x ∙ ap (λ (i : ℕ). stopped i counts) (k .1)))
+          (refusal (re ∙ k .1) ce);
+    }
+      where
+        number : {t : Term} {n : ℕ} {after : List ℕ} → Turned phase calls after len left capacity t (Refused n) → (m : ℕ) × (n ≡ suc m)
+        number (spent s e z) = (9, refl)
+        number (full s e h l) = (10, refl)
+
+  -- it has come through
+  pub outer-ended : {words₀ words₁ words after : List ℕ} {len₀ len₁ len budget from left₁ left : ℕ} {counts₁ counts : Counts}
+      {second₀ second₁ second : List ℕ} {refused₁ refused : ℕ}
+      (o : Outer Dropping words₀ words₁ len₀ len₁ budget left₁ counts₁ second₀ second₁ refused₁)
+      (v : Inner Dropping words₁ words len₁ len 0 from left₁ left counts₁ counts second₁ second refused)
+      → (r : Reduced) → Turns Dropping calls words len from left capacity after Stop → r .refusal ≡ refused → r .counts ≡ counts
+      → r .length ≡ len
+      → Reduces calls words₀ len₀ budget capacity after r
+  outer-ended {after = after} o v r x re ce le = record {
+    told = λ t c.
+        let w = standing-ended _ capacity _ (outer-stands o v t c) x in
+        subst (Comes after r) (sym (w .whole-is))
+        (ended (re ∙ v .none-yet) ce (subst (λ (n : ℕ). Front after n (w .term)) (sym le) (w .front)));
+  }
+
+  -- before the first turn
+  pub outer-begins : (words second : List ℕ) (len budget : ℕ) → budget ≤ 4294967295 → Reducible calls words len capacity second
+      → Outer Insertion words words len len budget budget zeroCounts second second 0
+  outer-begins words second len budget h x = record {
+    begun = record {
+      types = x .types;
+      inputs = x .inputs;
+      whole = reduce allPure capacity (record { budget = budget }) (x .term);
+      fit = fitting (x .limit) (over (x .types) calls (x .inputs)) (x .source) (x .lengths) (x .signatures);
+      standing = record {
+        term = x .term;
+        type = x .type;
+        at = record { current = x .current; inside = omega arith; clear = clear-zero allPure Insertion (x .term); begun = tt };
+        typed = x .typed;
+        small = x .small;
+        same = sym (reduce-begins allPure capacity budget (x .term) (omega (arith, x .small, x .current .front .length-is)));
+      };
+    };
+    carries = λ types inputs whole fit s. s;
+    bounded = λ i. omega (arith, h, zeros 10 i);
+    limit = x .at-most;
+    room = x .room;
+    scratch = x .scratch;
+    same = refl;
+    same-second = refl;
+    none-yet = refl;
+  }
+    where
+      zeros : (n i : ℕ) → _≡_ {A = ℕ} (getD (replicate n 0) i 0) 0
+      zeros zero i = refl
+      zeros (suc n) zero = refl
+      zeros (suc n) (suc i) = zeros n i

@@ -1,0 +1,91 @@
+-- Words pasted over a list, first to last and last to first: what is read has not been written over.
+use Prim.Native.Nat.{ℕ, zero, suc, _+_, _-_, _≤_, _<_}
+use native.Mathlib.Omega.{arith}
+use native.Mathlib.Nat.{add-suc, suc-add}
+use native.Mathlib.Numerals.{add-one}
+use mathlib.Core.Path.{_≡_, refl, sym, _∙_, ap, ap₂}
+use mathlib.Core.List.{List, [], _∷_, _++_, append-assoc, append-nil}
+use lib.ListN.{length, getD, drop, take, set, replicate, length-append, length-drop, length-set, length-replicate, take-append-drop}
+use lib.Seq.{paste, paste-zero, paste-suc, length-paste, take-paste, drop-paste, getD-drop, getD-take, getD-at, drop-cons, take-suc, set-at}
+use lib.Seq.{length-take-le, drop-drop}
+
+-- past what is pasted the words are the list's
+pub getD-paste-past : (l : List ℕ) (at : ℕ) (s : List ℕ) (n i : ℕ) → at + n ≤ length l → n ≤ length s → at + n ≤ i
+    → getD (paste l at s n) i 0 ≡ getD l i 0
+getD-paste-past l at s n i h m ge =
+    let e : at + n + (i - (at + n)) ≡ i = omega (arith, ge) in
+    ap (λ (j : ℕ). getD (paste l at s n) j 0) (sym e) ∙ sym (getD-drop (at + n) (paste l at s n) (i - (at + n)) 0)
+    ∙ ap (λ (x : List ℕ). getD x (i - (at + n)) 0) (drop-paste l at s n (omega (arith, h)) m) ∙ getD-drop (at + n) l (i - (at + n)) 0
+    ∙ ap (λ (j : ℕ). getD l j 0) e
+
+-- before it too
+getD-append-before : (xs ys : List ℕ) (i : ℕ) → i < length xs → getD (xs ++ ys) i 0 ≡ getD xs i 0
+getD-append-before [] ys i h = absurd (omega (arith, h))
+getD-append-before (x ∷ xs) ys zero h = refl
+getD-append-before (x ∷ xs) ys (suc i) h = getD-append-before xs ys i (omega (arith, h))
+
+pub getD-paste-before : (l : List ℕ) (at : ℕ) (s : List ℕ) (n i : ℕ) → at ≤ length l → i < at → getD (paste l at s n) i 0 ≡ getD l i 0
+getD-paste-before l at s n i h lt =
+    ap (λ (x : List ℕ). getD x i 0) (append-assoc (take at l) (take n s) (drop (at + n) l))
+    ∙ getD-append-before (take at l) (take n s ++ drop (at + n) l) i (omega (arith, lt, length-take-le at l h)) ∙ getD-take at l i 0 lt
+
+-- one word more at the end: the next of the source
+pub paste-next : (l : List ℕ) (at from i v : ℕ) → at + i < length l → from + i < length l → v ≡ getD l (from + i) 0
+    → set (paste l at (drop from l) i) (at + i) v ≡ paste l at (drop from l) (i + 1)
+paste-next l at from i v h g e =
+    ap (λ (x : ℕ). set (paste l at (drop from l) i) (at + i) x) (e ∙ sym (getD-drop from l i 0))
+    ∙ paste-suc l at (drop from l) i 0 h (omega (arith, g, length-drop from l)) ∙ ap (paste l at (drop from l)) (sym (add-one i))
+
+-- one word more at the front
+paste-before : (l : List ℕ) (at : ℕ) (s : List ℕ) (m v : ℕ) → at < length l → set (paste l (suc at) s m) at v ≡ paste l at (v ∷ s) (suc m)
+paste-before l at s m v h =
+    let R = drop (suc at + m) l in
+    let y = getD l at 0 in
+    ap (λ (x : List ℕ). set (x ++ take m s ++ R) at v) (take-suc l at 0 h)
+    ∙ ap (λ (x : List ℕ). set (x ++ R) at v) (append-assoc (take at l) (y ∷ []) (take m s))
+    ∙ ap (λ (x : List ℕ). set x at v) (append-assoc (take at l) (y ∷ take m s) R)
+    ∙ set-at (take at l) y (take m s ++ R) v at (length-take-le at l (omega (arith, h)))
+    ∙ sym (append-assoc (take at l) (v ∷ take m s) R)
+    ∙ ap (λ (k : ℕ). take at l ++ (v ∷ take m s) ++ drop k l) (suc-add at m ∙ sym (add-suc at m))
+
+-- the one before of the source
+pub paste-previous : (l : List ℕ) (to from i m v : ℕ) → to + i < length l → from + i < length l → v ≡ getD l (from + i) 0
+    → set (paste l (to + i + 1) (drop (from + i + 1) l) m) (to + i) v ≡ paste l (to + i) (drop (from + i) l) (suc m)
+paste-previous l to from i m v h g e =
+    ap₂ {C = List ℕ} (λ (a b : ℕ). set (paste l a (drop b l) m) (to + i) v) (add-one (to + i)) (add-one (from + i))
+    ∙ paste-before l (to + i) (drop (suc (from + i)) l) m v h
+    ∙ ap (λ (x : List ℕ). paste l (to + i) x (suc m))
+    (ap {B = List ℕ} (λ (x : ℕ). x ∷ drop (suc (from + i)) l) e ∙ sym (drop-cons l (from + i) 0 g))
+
+-- a copy of nothing, wherever it is from
+pub paste-none : (l : List ℕ) (at : ℕ) (s : List ℕ) → l ≡ paste l at s 0
+paste-none l at s = paste-zero l at s
+
+-- a list set to zeros from the front
+pub zeros-next : (l₀ l : List ℕ) (i : ℕ) → i < length l₀ → l ≡ replicate i 0 ++ drop i l₀ → set l i 0 ≡ replicate (i + 1) 0
+    ++ drop (i + 1) l₀
+zeros-next l₀ l i h e =
+    ap (λ (x : List ℕ). set x i 0) (e ∙ ap (λ (x : List ℕ). replicate i 0 ++ x) (drop-cons l₀ i 0 h))
+    ∙ set-at (replicate i 0) (getD l₀ i 0) (drop (suc i) l₀) 0 i (length-replicate i 0)
+    ∙ ap (λ (k : ℕ). replicate i 0 ++ (0 ∷ drop k l₀)) (sym (add-one i)) ∙ shift i (drop (i + 1) l₀)
+    ∙ ap (λ (k : ℕ). replicate k 0 ++ drop (i + 1) l₀) (sym (add-one i))
+  where
+    shift : (n : ℕ) (xs : List ℕ) → replicate n 0 ++ (0 ∷ xs) ≡ replicate (suc n) 0 ++ xs
+    shift zero xs = refl
+    shift (suc n) xs = ap {B = List ℕ} (λ ys. 0 ∷ ys) (shift n xs)
+
+pub zeros-all : (l₀ l : List ℕ) (i : ℕ) → length l₀ ≤ i → i ≤ length l₀ → l ≡ replicate i 0 ++ drop i l₀ → l ≡ replicate (length l₀) 0
+zeros-all l₀ l i ge le e =
+    let q : i ≡ length l₀ = omega (arith, ge, le) in
+    e ∙ ap (λ (k : ℕ). replicate k 0 ++ drop k l₀) q ∙ ap (λ (x : List ℕ). replicate (length l₀) 0 ++ x) (all-dropped l₀)
+    ∙ append-nil (replicate (length l₀) 0)
+  where
+    all-dropped : (l : List ℕ) → drop (length l) l ≡ []
+    all-dropped [] = refl
+    all-dropped (x ∷ xs) = all-dropped xs
+
+-- words pasted where they stand change nothing
+pub paste-same : (l : List ℕ) (at n : ℕ) → l ≡ paste l at (drop at l) n
+paste-same l at n = sym (append-assoc (take at l) (take n (drop at l)) (drop (at + n) l)
+    ∙ ap (λ (x : List ℕ). take at l ++ (take n (drop at l) ++ x)) (sym (drop-drop n at l))
+    ∙ ap (λ (x : List ℕ). take at l ++ x) (take-append-drop n (drop at l)) ∙ take-append-drop at l)

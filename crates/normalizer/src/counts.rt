@@ -1,0 +1,35 @@
+// The ten counts, one for each rule.
+ghost use mathlib.Core.Path.{_≡_};
+ghost use Prim.Native.Nat.{ℕ, _<_};
+ghost use lib.ListN.{getD};
+ghost use Rattle.reduction.specs.Reduction.{index, raise as raiseOf};
+use reduction::Rule;
+
+// the place of a rule's count
+pub fn index_of(rule: Rule) -> usize
+    ensures { λ r. ⌜ r ≡ index rule ⌝ }
+{
+    match rule {
+        Rule::LetInsertion => 0,
+        Rule::LetOfLet => 1,
+        Rule::LetOfCase => 2,
+        Rule::Apply => 3,
+        Rule::First => 4,
+        Rule::Second => 5,
+        Rule::LeftCase => 6,
+        Rule::RightCase => 7,
+        Rule::LetValue => 8,
+        Rule::Drop => 9,
+    }
+}
+
+// the counts with one more for a rule
+pub fn raise(counts: [u32; 10], rule: Rule) -> [u32; 10]
+    requires { ⌜ ((i : ℕ) → getD counts i 0 < 4294967295) ⌝ }
+    ensures { λ r. ⌜ r ≡ raiseOf rule counts ⌝ }
+{
+    let mut c = counts;
+    let i = index_of(rule);
+    c[i] = c[i] + 1;
+    c
+}

@@ -1,0 +1,22 @@
+-- What the value test says, for whatever term is at the front.
+use Prim.Native.Nat.{ℕ}
+use mathlib.Core.Path.{_≡_}
+use mathlib.Core.Bool.{true}
+use mathlib.Core.List.{List}
+use Rattle.syntax.specs.Term.{Term}
+use Rattle.syntax.specs.Encoding.{size}
+use Rattle.syntax.specs.Values.{isValue}
+use Rattle.parts.specs.Fronts.{Holds}
+use Rattle.reducer.specs.declared.value.Value.{Value}
+
+-- the term at the front has so many words
+pub record Sized (calls words : List ℕ) (n : ℕ) : Type 0 where
+  pub told : (t : Term) (rest : List ℕ) → Holds calls words t rest → n ≡ size t
+
+-- whether a term is a value, and its size if it is one
+pub record Tested (t : Term) (r : Value) : Type 0 where
+  pub value-is : r .value ≡ isValue t
+  pub end-is : r .value ≡ true → r .end ≡ size t
+
+pub record Tests (calls words : List ℕ) (r : Value) : Type 0 where
+  pub told : (t : Term) (rest : List ℕ) → Holds calls words t rest → Tested t r

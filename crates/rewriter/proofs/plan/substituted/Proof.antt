@@ -1,0 +1,13 @@
+-- No product of two numbers up to 8,192 wraps.
+use native.Mathlib.Omega.{arith}
+use Rattle.rewriter.proofs.Measuring.{product-small}
+use borrow.Author.Needs.{needs}
+use Rattle.rewriter.proofs.plan.substituted.Statement.{statement}
+use Rattle.rewriter.proofs.plan.substituted.Tie as tie
+use Rattle.rewriter.proofs.plan.substituted.Reads as reads
+use Rattle.rewriter.proofs.plan.substituted.Lts as lts
+
+pub substituted-spec : {M : Type 1} → statement M
+substituted-spec = tie.close
+    (tie.spec (λ c. search needs) (λ c. omega (arith, product-small (c .args .uses) (c .args .size) (omega arith) (omega arith)))
+    (λ c. omega (arith, product-small (c .args .uses) (c .args .size) (omega arith) (omega arith))) (λ c. search needs))

@@ -1,0 +1,131 @@
+//! The public calls on lent word slices: check, is_normal and normalize.
+
+use crate::checks::{examine, Refusal, LONGEST_TO_EXAMINE, LONGEST_TO_NORMALIZE};
+use crate::coding::encode;
+use crate::deep_stack::with_deep_stack;
+use crate::normal_form::no_rule_fits;
+use crate::reduction::{walk, Counts};
+
+/// The largest capacity (the paper's room).
+pub const LARGEST_CAPACITY: usize = 8192;
+
+/// The answer of `check`; refusal 0 is acceptance.
+#[derive(Clone, Copy, Debug, PartialEq, Eq)]
+pub struct CheckAnswer {
+    pub refusal: u32,
+    pub type_number: u32,
+}
+
+/// The answer of `is_normal`; refusal 0 is acceptance.
+#[derive(Clone, Copy, Debug, PartialEq, Eq)]
+pub struct NormalAnswer {
+    pub refusal: u32,
+    pub normal: bool,
+}
+
+/// The answer of `normalize`; refusal 0 is acceptance.
+#[derive(Clone, Copy, Debug, PartialEq, Eq)]
+pub struct Answer {
+    pub refusal: u32,
+    pub type_number: u32,
+    pub length: usize,
+    pub counts: Counts,
+}
+
+impl Answer {
+    /// A refusal after these steps.
+    pub fn refused(refusal: Refusal, counts: Counts) -> Answer {
+        Answer {
+            refusal: refusal.number(),
+            type_number: 0,
+            length: 0,
+            counts,
+        }
+    }
+}
+
+/// The type check.
+pub fn check(types: &[u64], calls: &[u64], inputs: &[u64], term: &[u64]) -> CheckAnswer {
+    with_deep_stack(
+        || match examine(types, calls, inputs, term, LONGEST_TO_EXAMINE) {
+            Ok(checked) => CheckAnswer {
+                refusal: 0,
+                type_number: checked.type_number,
+            },
+            Err(refusal) => CheckAnswer {
+                refusal: refusal.number(),
+                type_number: 0,
+            },
+        },
+    )
+}
+
+/// The test for normal forms (the paper's flat test).
+pub fn is_normal(types: &[u64], calls: &[u64], inputs: &[u64], term: &[u64]) -> NormalAnswer {
+    with_deep_stack(
+        || match examine(types, calls, inputs, term, LONGEST_TO_EXAMINE) {
+            Ok(checked) => NormalAnswer {
+                refusal: 0,
+                normal: no_rule_fits(&checked.term),
+            },
+            Err(refusal) => NormalAnswer {
+                refusal: refusal.number(),
+                normal: false,
+            },
+        },
+    )
+}
+
+/// Normalizes (the paper's flattens). The normal form fills the front of `output`, which is left
+/// unchanged on a refusal; the scratch buffers (the paper's work slices) are zero afterwards.
+#[allow(clippy::too_many_arguments)]
+pub fn normalize(
+    types: &[u64],
+    calls: &[u64],
+    inputs: &[u64],
+    term: &[u64],
+    budget: u32,
+    output: &mut [u64],
+    first_scratch: &mut [u64],
+    second_scratch: &mut [u64],
+) -> Answer {
+    let capacity = output
+        .len()
+        .min(first_scratch.len())
+        .min(second_scratch.len())
+        .min(LARGEST_CAPACITY);
+    let result =
+        with_deep_stack(|| normal_form_words(types, calls, inputs, term, budget, capacity));
+    first_scratch.fill(0);
+    second_scratch.fill(0);
+    match result {
+        Ok((answer, words)) => {
+            output[..words.len()].copy_from_slice(&words);
+            answer
+        }
+        Err(answer) => answer,
+    }
+}
+
+/// The answer with the normal form's words, or the refusing answer.
+fn normal_form_words(
+    types: &[u64],
+    calls: &[u64],
+    inputs: &[u64],
+    term: &[u64],
+    budget: u32,
+    capacity: usize,
+) -> Result<(Answer, Vec<u64>), Answer> {
+    let checked = examine(types, calls, inputs, term, LONGEST_TO_NORMALIZE)
+        .map_err(|refusal| Answer::refused(refusal, [0; 10]))?;
+    let (normal_form, counts) = walk(checked.term, budget, capacity)
+        .map_err(|stopped| Answer::refused(stopped.refusal, stopped.counts))?;
+    let words = encode(&normal_form);
+    let answer = Answer {
+        refusal: 0,
+        type_number: checked.type_number,
+        length: words.len(),
+        counts,
+    };
+    Ok((answer, words))
+}

@@ -1,0 +1,69 @@
+//! The throw-away repository: the copied crates, and the further one beside them.
+
+use super::copy::{copy_folder, make_empty_folder_outside};
+use super::crosscheck::write_crosscheck;
+use super::figures::{bundle_figures, case_figures, run_figures};
+use super::opened::opened_definitions;
+use super::{bundles, cases, runs};
+use crate::lines::bundles::bundle_line;
+use crate::lines::cases::case_line;
+use crate::lines::runs::run_line;
+use crate::random::Random;
+use std::fs;
+use std::io;
+use std::path::Path;
+
+/// The crates that hold the definitions.
+const CRATES: [&str; 5] = ["syntax", "typing", "reduction", "semantics", "outcomes"];
+
+/// Writes the throw-away repository; answers how many rows of which sort it holds.
+pub fn write_repository(
+    repository: &Path,
+    folder: &Path,
+    seed: u64,
+    count: usize,
+) -> io::Result<String> {
+    let cases = lines_of(case_line, seed, count);
+    let bundles = lines_of(bundle_line, seed, count.div_ceil(5));
+    let runs = lines_of(run_line, seed, count.div_ceil(4));
+
+    make_empty_folder_outside(folder, repository)?;
+    let crates = folder.join("crates");
+    for name in CRATES {
+        copy_folder(&repository.join("crates").join(name), &crates.join(name))?;
+    }
+    fs::write(
+        folder.join("crates.txt"),
+        listed_crates(&fs::read_to_string(repository.join("crates.txt"))?),
+    )?;
+    let opened = opened_definitions(&crates, &CRATES)?;
+    let tables = [
+        cases::table(&cases),
+        bundles::table(&bundles),
+        runs::table(&runs),
+    ];
+    write_crosscheck(&crates.join("crosscheck"), &opened, seed, &tables)?;
+
+    Ok([
+        case_figures(&cases),
+        bundle_figures(&bundles),
+        run_figures(&runs),
+    ]
+    .concat())
+}
+
+fn lines_of(line: fn(&mut Random) -> String, seed: u64, count: usize) -> Vec<String> {
+    let mut random = Random::new(seed);
+    (0..count).map(|_| line(&mut random)).collect()
+}
+
+/// The lines of crates.txt that list the copied crates, and one for the further crate.
+fn listed_crates(all: &str) -> String {
+    let is_copied = |line: &&str| {
+        CRATES
+            .iter()
+            .any(|&name| line.split(':').next() == Some(name))
+    };
+    let copied: Vec<&str> = all.lines().filter(is_copied).collect();
+    format!("{}\ncrosscheck: {}\n", copied.join("\n"), CRATES.join(" "))
+}

@@ -1,0 +1,97 @@
+//! The command: `reference SUBCOMMAND [ARGUMENTS]`, see `USAGE`.
+
+use reference::deep_stack::with_deep_stack;
+use reference::definitions::check::run_check;
+use reference::definitions::repository::write_repository;
+use reference::lines::bundles::bundle_line;
+use reference::lines::cases::case_line;
+use reference::lines::runs::run_line;
+use reference::listing::respond;
+use reference::random::Random;
+use std::env;
+use std::io::{self, BufWriter, Error, Read, Write};
+use std::path::Path;
+use std::process::ExitCode;
+
+const USAGE: &str = "usage: reference SUBCOMMAND
+  respond             a bundle on standard input, its listing on standard output
+  cases SEED COUNT    lines of small cases with their answers
+  bundles SEED COUNT  lines of small bundles with their listings
+  runs SEED COUNT     lines of small terms with a run of each
+  definitions REPOSITORY DIR SEED COUNT
+                      the definitions of REPOSITORY/crates checked against such lines by rt, in a
+                      repository written into DIR: COUNT cases, a fifth as many bundles, a quarter
+                      as many runs
+";
+
+/// A bundle is refused from this length on, so that no more is read.
+const MOST_BYTES_READ: u64 = 65_537;
+
+fn main() -> ExitCode {
+    let arguments: Vec<String> = env::args().skip(1).collect();
+    match with_deep_stack(|| dispatch(&arguments)) {
+        Ok(true) => ExitCode::SUCCESS,
+        Ok(false) => {
+            eprint!("{USAGE}");
+            ExitCode::from(2)
+        }
+        Err(error) => {
+            eprintln!("reference: {error}");
+            ExitCode::FAILURE
+        }
+    }
+}
+
+/// Does the subcommand; answers false if there is no such subcommand.
+fn dispatch(arguments: &[String]) -> io::Result<bool> {
+    let arguments: Vec<&str> = arguments.iter().map(String::as_str).collect();
+    match arguments[..] {
+        ["respond"] => respond_to_standard_input(),
+        ["cases", seed, count] => print_lines(seed, count, case_line),
+        ["bundles", seed, count] => print_lines(seed, count, bundle_line),
+        ["runs", seed, count] => print_lines(seed, count, run_line),
+        ["definitions", repository, folder, seed, count] => {
+            check_definitions(Path::new(repository), Path::new(folder), seed, count)
+        }
+        _ => Ok(false),
+    }
+}
+
+fn respond_to_standard_input() -> io::Result<bool> {
+    let mut bytes = Vec::new();
+    io::stdin().take(MOST_BYTES_READ).read_to_end(&mut bytes)?;
+    io::stdout().write_all(&respond(&bytes))?;
+    Ok(true)
+}
+
+fn print_lines(seed: &str, count: &str, line: fn(&mut Random) -> String) -> io::Result<bool> {
+    let (Ok(seed), Ok(count)) = (seed.parse(), count.parse::<u64>()) else {
+        return Ok(false);
+    };
+    let mut random = Random::new(seed);
+    let mut output = BufWriter::new(io::stdout().lock());
+    for _ in 0..count {
+        writeln!(output, "{}", line(&mut random))?;
+    }
+    output.flush()?;
+    Ok(true)
+}
+
+fn check_definitions(
+    repository: &Path,
+    folder: &Path,
+    seed: &str,
+    count: &str,
+) -> io::Result<bool> {
+    let (Ok(seed), Ok(count)) = (seed.parse(), count.parse()) else {
+        return Ok(false);
+    };
+    print!("{}", write_repository(repository, folder, seed, count)?);
+    io::stdout().flush()?;
+    let (report, is_proved) = run_check(folder)?;
+    print!("{report}");
+    if !is_proved {
+        return Err(Error::other("rt check has refused a table of rows"));
+    }
+    Ok(true)
+}

@@ -1,0 +1,162 @@
+//! Runs: call-by-value, left to right, with closures and a trace (the paper's list of calls).
+
+use crate::term::Term;
+use std::rc::Rc;
+
+/// What a term evaluates to. Base types hold natural numbers.
+#[derive(Clone, Debug, PartialEq)]
+pub enum Value<'t> {
+    Number(u64),
+    Pair(Rc<(Value<'t>, Value<'t>)>),
+    Left(Rc<Value<'t>>),
+    Right(Rc<Value<'t>>),
+    Closure(&'t Term, Environment<'t>),
+}
+
+/// The values in scope, the innermost binder's first, then the inputs'.
+#[derive(Clone, Debug, PartialEq)]
+pub struct Environment<'t>(Option<Rc<(Value<'t>, Environment<'t>)>>);
+
+impl<'t> Environment<'t> {
+    fn of_inputs(inputs: &[Value<'t>]) -> Environment<'t> {
+        let empty = Environment(None);
+        let innermost_last = inputs.iter().rev();
+        innermost_last.fold(empty, |scope, value| scope.with(value.clone()))
+    }
+
+    fn with(&self, value: Value<'t>) -> Environment<'t> {
+        Environment(Some(Rc::new((value, self.clone()))))
+    }
+
+    fn get(&self, number: u32) -> Option<Value<'t>> {
+        let mut scope = self;
+        for _ in 0..number {
+            scope = &scope.0.as_ref()?.1;
+        }
+        Some(scope.0.as_ref()?.0.clone())
+    }
+}
+
+/// The answering function: from a call's number and argument values alone.
+pub trait Answering {
+    fn answer<'t>(&self, call: u32, arguments: &[Value<'t>]) -> Value<'t>;
+}
+
+/// A call made, with its argument values.
+#[derive(Clone, Debug, PartialEq)]
+pub struct CallRecord<'t> {
+    pub call: u32,
+    pub arguments: Vec<Value<'t>>,
+}
+
+/// A run that ended.
+#[derive(Clone, Debug, PartialEq)]
+pub struct Run<'t> {
+    pub answer: Value<'t>,
+    pub trace: Vec<CallRecord<'t>>,
+}
+
+/// Why a run did not end: the guard for tests, or a term that is not well typed.
+#[derive(Clone, Copy, Debug, PartialEq, Eq)]
+pub enum Stuck {
+    OutOfFuel,
+    IllTyped,
+}
+
+const DEEPEST: usize = 200_000;
+
+/// Runs a term on input values; `fuel` bounds the number of nodes evaluated.
+pub fn run<'t>(
+    term: &'t Term,
+    inputs: &[Value<'t>],
+    answering: &impl Answering,
+    fuel: u64,
+) -> Result<Run<'t>, Stuck> {
+    let mut machine = Machine {
+        answering,
+        trace: Vec::new(),
+        fuel,
+        depth: 0,
+    };
+    let answer = machine.evaluate(term, &Environment::of_inputs(inputs))?;
+    Ok(Run {
+        answer,
+        trace: machine.trace,
+    })
+}
+
+struct Machine<'a, 't, A> {
+    answering: &'a A,
+    trace: Vec<CallRecord<'t>>,
+    fuel: u64,
+    depth: usize,
+}
+
+impl<'t, A: Answering> Machine<'_, 't, A> {
+    fn evaluate(&mut self, term: &'t Term, scope: &Environment<'t>) -> Result<Value<'t>, Stuck> {
+        if self.fuel == 0 || self.depth == DEEPEST {
+            return Err(Stuck::OutOfFuel);
+        }
+        self.fuel -= 1;
+        self.depth += 1;
+        let value = self.evaluate_node(term, scope)?;
+        self.depth -= 1;
+        Ok(value)
+    }
+
+    fn evaluate_node(
+        &mut self,
+        term: &'t Term,
+        scope: &Environment<'t>,
+    ) -> Result<Value<'t>, Stuck> {
+        match term {
+            Term::Variable(number) => scope.get(*number).ok_or(Stuck::IllTyped),
+            Term::Call(call, arguments) => {
+                let arguments: Result<Vec<Value>, Stuck> = arguments
+                    .iter()
+                    .map(|argument| self.evaluate(argument, scope))
+                    .collect();
+                let arguments = arguments?;
+                let answer = self.answering.answer(*call, &arguments);
+                self.trace.push(CallRecord {
+                    call: *call,
+                    arguments,
+                });
+                Ok(answer)
+            }
+            Term::Function(_, body) => Ok(Value::Closure(body, scope.clone())),
+            Term::Application(head, operand) => {
+                let head = self.evaluate(head, scope)?;
+                let operand = self.evaluate(operand, scope)?;
+                match head {
+                    Value::Closure(body, scope) => self.evaluate(body, &scope.with(operand)),
+                    _ => Err(Stuck::IllTyped),
+                }
+            }
+            Term::Let(bound, body) => {
+                let bound = self.evaluate(bound, scope)?;
+                self.evaluate(body, &scope.with(bound))
+            }
+            Term::Pair(_, left, right) => {
+                let left = self.evaluate(left, scope)?;
+                let right = self.evaluate(right, scope)?;
+                Ok(Value::Pair(Rc::new((left, right))))
+            }
+            Term::First(operand) => match self.evaluate(operand, scope)? {
+                Value::Pair(halves) => Ok(halves.0.clone()),
+                _ => Err(Stuck::IllTyped),
+            },
+            Term::Second(operand) => match self.evaluate(operand, scope)? {
+                Value::Pair(halves) => Ok(halves.1.clone()),
+                _ => Err(Stuck::IllTyped),
+            },
+            Term::Left(_, operand) => Ok(Value::Left(Rc::new(self.evaluate(operand, scope)?))),
+            Term::Right(_, operand) => Ok(Value::Right(Rc::new(self.evaluate(operand, scope)?))),
+            Term::Case(subject, left, right) => match self.evaluate(subject, scope)? {
+                Value::Left(value) => self.evaluate(left, &scope.with((*value).clone())),
+                Value::Right(value) => self.evaluate(right, &scope.with((*value).clone())),
+                _ => Err(Stuck::IllTyped),
+            },
+        }
+    }
+}

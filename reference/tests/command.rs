@@ -1,0 +1,91 @@
+//! The command: its subcommands and the formats of its lines.
+
+use std::collections::HashSet;
+use std::io::Write;
+use std::process::{Command, Output, Stdio};
+
+fn run_command(arguments: &[&str], input: &[u8]) -> Output {
+    let mut child = Command::new(env!("CARGO_BIN_EXE_reference"))
+        .args(arguments)
+        .stdin(Stdio::piped())
+        .stdout(Stdio::piped())
+        .stderr(Stdio::piped())
+        .spawn()
+        .expect("the command starts");
+    let mut stdin = child.stdin.take().expect("standard input is piped");
+    // The command may end before it has read everything.
+    let _ = stdin.write_all(input);
+    drop(stdin);
+    child.wait_with_output().expect("the command ends")
+}
+
+fn lines(arguments: &[&str]) -> Vec<String> {
+    let output = run_command(arguments, &[]);
+    assert!(output.status.success());
+    let text = String::from_utf8(output.stdout).expect("lines are text");
+    text.lines().map(str::to_owned).collect()
+}
+
+#[test]
+fn respond_answers_on_standard_output() {
+    let output = run_command(&["respond"], &[0; 8]);
+    assert!(output.status.success());
+    assert_eq!(output.stdout, b"no 1 0 0 0 0 0 0 0 0 0 0\n");
+    let output = run_command(&["respond"], &[0; 100_000]);
+    assert_eq!(output.stdout, b"no 12 0 0 0 0 0 0 0 0 0 0\n");
+}
+
+#[test]
+fn cases_cover_all_refusals() {
+    let lines = lines(&["cases", "1", "1000"]);
+    assert_eq!(lines.len(), 1000);
+    let mut refusals = HashSet::new();
+    for line in &lines {
+        let fields: Vec<&str> = line.split(';').collect();
+        assert_eq!(fields.len(), 17);
+        let length: usize = fields[10].parse().expect("a length");
+        assert_eq!(fields[11].split_whitespace().count(), 10);
+        assert_eq!(fields[12].split_whitespace().count(), length);
+        refusals.insert(fields[8].parse::<u32>().expect("a refusal number"));
+    }
+    assert_eq!(refusals, (0..12).collect());
+}
+
+#[test]
+fn bundles_are_accepted_and_refused() {
+    let lines = lines(&["bundles", "1", "500"]);
+    assert_eq!(lines.len(), 500);
+    let outputs: Vec<&str> = lines
+        .iter()
+        .filter_map(|line| line.split(';').nth(1))
+        .collect();
+    let starting = |start: &str| outputs.iter().filter(|o| o.starts_with(start)).count();
+    let (accepted, twelve) = (starting("6f6b20"), starting("6e6f20313220"));
+    assert!(accepted > 100 && twelve > 100);
+}
+
+#[test]
+fn runs_have_seven_fields() {
+    let lines = lines(&["runs", "1", "500"]);
+    assert_eq!(lines.len(), 500);
+    assert!(lines.iter().all(|line| line.split(';').count() == 7));
+    let with_calls = lines.iter().filter(|line| line.contains(':')).count();
+    assert!(with_calls > 200);
+    assert!(lines.iter().all(|line| !line.contains('f')));
+}
+
+#[test]
+fn anything_else_prints_the_usage() {
+    for arguments in [
+        &[][..],
+        &["nothing"],
+        &["cases", "1"],
+        &["cases", "x", "1"],
+        &["definitions", "repository", "folder", "x", "1"],
+    ] {
+        let output = run_command(arguments, &[]);
+        assert_eq!(output.status.code(), Some(2));
+        assert!(output.stdout.is_empty());
+        assert!(output.stderr.starts_with(b"usage: reference"));
+    }
+}

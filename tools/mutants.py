@@ -1,0 +1,89 @@
+#!/usr/bin/env python3
+"""Wrong definitions, each tried in a copy of the repository: the laws, the theory or the cases must refuse it.
+
+Prints a table: the mutant, the crate that refuses it, and the laws that fail there of themselves. A mutant must be refused by the crate
+named here, in files that it did not touch. Exit status 1 if one is not, or if its text is not found. Runs `rt check theory cases` for each.
+"""
+import pathlib, re, shutil, subprocess, sys, tempfile
+
+ROOT = pathlib.Path(__file__).resolve().parent.parent
+RULES, ROOTS, FITS = "reduction/specs/Rules", "reduction/proofs/Roots", "reduction/proofs/Fits"
+BOTH, DISJOINT, REDUCTION = RULES + " " + ROOTS, "reduction/proofs/Disjoint", "reduction/specs/Reduction"
+CHECKS, VALUES, RUN, NORMALIZE = "typing/specs/Refusals", "syntax/specs/Values", "semantics/specs/Run", "outcomes/specs/Normalize"
+CHECK_2, CHECK_3 = "  _ ← require 2 (wellFormedTypes 0 (tables .types))\n", "  _ ← require 3 (distinct (tables .types))\n"
+CHECK_8, CHECK_9 = "  _ ← require 8 (scoped tables t)\n", "  A ← provide 9 (infer tables t (tables .inputs))\n"
+CAPACITY = "min (min (length (b .output)) (min (length (b .scratch₁)) (length (b .scratch₂)))) maxCapacity"
+
+# Name, the crate that refuses, edits (files, old, new). Laws of `reduction` state the rules a second time, as families; where the theory is
+# to refuse a rule, the family and its law are made wrong in the same way, so that `reduction` is proved.
+MUTANTS = [
+    ("a rule that doubles a call: let value also for a call", "theory", [
+        (RULES, "_&&_}", "_&&_, _||_}"), (RULES, "given}", "given, isSome}"), (RULES, "case, asVar,", "case, asVar, asCall,"),
+        (RULES, "(v, b) ← asBind t\n  given (isValue v)", "(v, b) ← asBind t\n  given (isValue v || isSome (asCall v))"),
+        (ROOTS, "{Bool}", "{Bool, _||_}\nuse Rattle.syntax.specs.Maybe.{isSome}"), (ROOTS, "case, arg}", "case, arg, asCall}"),
+        (ROOTS, "r-value : {v b : Term} → T (isValue v)", "r-value : {v b : Term} → T (isValue v || isSome (asCall v))"),
+        (FITS, "_&&_, not}", "_&&_, _||_, not}\nuse Rattle.syntax.specs.Maybe.{isSome}"), (FITS, "done, arg}", "done, arg, asCall}"),
+        (FITS, "(isValue (x .0)) (x .1 ⟦", "(isValue (x .0) || isSome (asCall (x .0))) (x .1 ⟦"),
+        (DISJOINT, "partsOf, asVar,", "partsOf, asCall, asVar,"), (DISJOINT, "partsOf asVar", "partsOf asCall asVar")]),
+    ("drop of a let that is used once", "theory", [
+        (BOTH, "eqb}", "leb}"), (FITS, "eqb}", "leb}"),
+        (BOTH, "eqb (uses b 0) 0", "leb (uses b 0) 1"), (FITS, "eqb (uses (x .1) 0) 0", "leb (uses (x .1) 0) 1")]),
+    ("let of case into one branch only", "theory", [(BOTH, "(bind r (weakenBody c))", "r")]),
+    ("let of let without renumbering", "theory", [(BOTH, "b (weakenBody c)", "b c"), (FITS, "(weakenBody (x .1))", "(x .1)")]),
+    ("apply to a computation", "theory", [
+        (RULES, "given (isValue a) (b", "given true (b"), (ROOTS, "{Bool}", "{Bool, true}"),
+        (ROOTS, "{b v : Term} → T (isValue v)", "{b v : Term} → T true"), (FITS, "(isValue (x .1)) (b", "true (b")]),
+    ("left case takes the right branch", "theory", [(BOTH, "(l ⟦ v ⟧)", "(r ⟦ v ⟧)"), (FITS, "(x .1 ⟦ v ⟧)", "(x .2 ⟦ v ⟧)")]),
+    ("a claim that says nothing of redexes", "theory", [
+        ("semantics/specs/Claim", "normal ≡ true", "normal ≡ isNormal allPure normal"), ("theory/proofs/Claimed", "z .normal;", "refl;")]),
+    ("a run goes right to left", "theory", [(RUN, "h ← run ρ f\n    v ← run ρ a\n", "v ← run ρ a\n    h ← run ρ f\n")]),
+    ("calls put at the trace's front", "theory", [(RUN, "ended x (c ++ d)", "ended x (d ++ c)")]),
+    ("let of let also on a value", "reduction", [(RULES, "given (isComputation p) (bind", "given true (bind")]),
+    ("drop of a value", "reduction", [(RULES, "isComputation e && pure e", "pure e")]),
+    ("second operand named before the first", "reduction", [
+        (VALUES, "at f (λ x. app x a) ∷ at a (λ x. app f x) ∷ []", "at a (λ x. app f x) ∷ at f (λ x. app x a) ∷ []")]),
+    ("a case's branches counted as operands", "reduction", [
+        (VALUES, "at s (λ x. case x l r) ∷ []", "at s (λ x. case x l r) ∷ at l (λ x. case s x r) ∷ at r (λ x. case s l x) ∷ []")]),
+    ("11 before 10", "reduction", [(REDUCTION, "some s ↦ stopped 10 counts",
+        "some s ↦ elim (leb (size (s .next)) capacity) [ false ↦ stopped 11 counts | true ↦ stopped 10 counts ]")]),
+    ("the input's length not looked at", "reduction", [(REDUCTION, "elim (leb (size t) capacity)", "elim (leb 0 capacity)")]),
+    ("3 before 2", "typing", [(CHECKS, CHECK_2 + CHECK_3, CHECK_3 + CHECK_2)]),
+    ("9 before 8", "typing", [(CHECKS, CHECK_8 + CHECK_9, CHECK_9 + CHECK_8)]),
+    ("a type's part may be the entry itself", "typing", [("typing/specs/TableChecks", "ltb (leftOf w) i", "leb (leftOf w) i")]),
+    ("a case's branches of two types", "typing", [("typing/specs/Infer", "given (eqb C′ C) C", "some C")]),
+    ("upper-case hexadecimal", "cases", [("outcomes/specs/Listing", "(87 + d)", "(55 + d)")]),
+    ("scratch left as it was", "cases", [(NORMALIZE, "scratch₂ = cleared (b .scratch₂)", "scratch₂ = b .scratch₂")]),
+    ("capacity of the output alone", "cases", [(NORMALIZE, CAPACITY, "min (length (b .output)) maxCapacity")]),
+]
+
+def refusal(edits):
+    """The crate that refuses these edits and the laws that fail there, but for those that fail with a law they cite."""
+    edits = [(name, old, new) for names, old, new in edits for name in names.split()]
+    with tempfile.TemporaryDirectory() as folder:
+        copy = pathlib.Path(folder)
+        for part in filter(lambda x: (ROOT / x).exists(), ("crates", "target")):  # what target/ has proved is not proved again
+            shutil.copytree(ROOT / part, copy / part)
+        shutil.copy(ROOT / "crates.txt", copy)
+        for name, old, new in edits:
+            file = copy / "crates" / (name + ".antt")
+            text = file.read_text()
+            if old not in text:
+                return "text not found in " + name, ""
+            file.write_text(text.replace(old, new))
+        run = subprocess.run(["rt", "check", "theory", "cases"], cwd=copy, capture_output=True, text=True)
+    lines = re.findall(r"crates/((\w+)/\w+/(\w+))\.antt:\d+:\d+: (?:error: )?`([^`]*)`(.*)", run.stdout + run.stderr)
+    failed = [x for x in lines if "was not admitted" not in x[4] and "rejected" not in x[4]]
+    if run.returncode == 0 or not failed:
+        return "nothing", ""
+    path, crate, *_ = failed[0]
+    if path in [name for name, _, _ in edits]:
+        return "an edited file", path
+    return crate, ", ".join(list(dict.fromkeys("`%s` (%s)" % (law, file) for _, at, file, law, _ in failed if at == crate))[:5])
+
+wrong = 0
+print("| mutant | refused by | laws that fail, up to five |\n|---|---|---|")
+for name, expected, edits in MUTANTS:
+    crate, laws = refusal(edits)
+    wrong += crate != expected
+    print("| %s | %s | %s |" % (name, crate if crate == expected else "%s, EXPECTED %s" % (crate, expected), laws), flush=True)
+sys.exit(1 if wrong else 0)
