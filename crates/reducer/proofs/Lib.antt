@@ -11,3 +11,4 @@ pub mod SeenParts
 pub mod ByParts
 pub mod TestedParts
 pub mod NormalTests
+pub mod IsNormal
