@@ -17,7 +17,7 @@ use Rattle.reduction.specs.Grammar.{inGrammar}
 use Rattle.reducer.specs.Roles.{roleOf, suits, operationKind, keepsVariable}
 use Rattle.reducer.specs.declared.normal.Role.{Role}
 use Rattle.reducer.specs.declared.normal.Role.the-variants.{Variable, Value, Operation}
-use Rattle.reducer.specs.Tests.{isNormalValue}
+use Rattle.reducer.specs.NormalTest.{isNormalValue}
 
 -- whether every part passes the test of its place
 unfoldable pub allPass : (ℕ → Term → Bool) → ℕ → Terms → Bool

@@ -5,8 +5,9 @@ pub mod Fitting
 pub mod Scanning
 pub mod Naming
 pub mod Marking
+pub mod UnusedParts
+pub mod SeenParts
 pub mod ByParts
 pub mod TestedParts
 pub mod NormalTests
-pub mod UnusedParts
-pub mod SeenParts
+pub mod IsNormal

@@ -25,7 +25,7 @@ use Rattle.parts.proofs.Traversal.{front-of}
 use Rattle.parts.proofs.Variables.{variable-at}
 use Rattle.reducer.specs.Marks.{Marked, Space}
 use Rattle.reducer.specs.Roles.{roleOf, suits, keepsVariable}
-use Rattle.reducer.specs.Tests.{isNormalValue, Passed, Told, Tests, no}
+use Rattle.reducer.specs.NormalTest.{isNormalValue, Passed, Told, Tests, no}
 use Rattle.reducer.specs.declared.normal.Part.{Part}
 use Rattle.reducer.specs.declared.normal.Role.{Role}
 use Rattle.reducer.proofs.Marking.{Opened, open-none, own-mark, body-binds}

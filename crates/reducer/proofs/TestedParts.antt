@@ -14,7 +14,7 @@ use Rattle.syntax.specs.Parts.{partCount}
 use Rattle.parts.specs.Fronts.{Holds, Starts, from}
 use Rattle.parts.proofs.Traversal.{front-of, from-length, Going, enter, Does, Next, upcoming, next, reached, onward, leave}
 use Rattle.reducer.specs.Marks.{Marked, Space}
-use Rattle.reducer.specs.Tests.{Passed, Told, Tests, no}
+use Rattle.reducer.specs.NormalTest.{Passed, Told, Tests, no}
 use Rattle.reducer.specs.declared.normal.Part.{Part}
 use Rattle.reducer.proofs.Marking.{Opened, Marking, mark-enter, mark-next, mark-leave, Grown, grown-none, grown-next, space-next}
 use Rattle.reducer.proofs.ByParts.{allPass}

@@ -21,7 +21,8 @@ use Rattle.reduction.specs.Redex.{contract, step, foundOf, firstRedex}
 use Rattle.reduction.specs.FitByKinds.{valueKind}
 use Rattle.reduction.proofs.Structure.{Hit, _or_, inside, stepOf, hitOf, here, find, finds, find-var, finds-done, find-call, find-lam, find-app}
 use Rattle.reduction.proofs.Structure.{find-bind, find-pair, find-fst, find-snd, find-inl, find-inr, find-case, finds-arg, step-find}
-use Rattle.reducer.specs.Scans.{scanOf, moved, orElse, dropsAt, valueBy, sawOf, endScan}
+use Rattle.reducer.specs.Searches.{movedBy}
+use Rattle.reducer.specs.Scans.{scanOf, orElse, dropsAt, valueBy, sawOf, endScan}
 use Rattle.reducer.specs.declared.unused.Scan.{Scan}
 use Rattle.reducer.specs.declared.unused.Seen.{Seen}
 
@@ -43,7 +44,7 @@ found-or : {X : Type 0} (x y : Option (Hit X)) → hitFound (x or y) ≡ orElse 
 found-or none y = refl
 found-or (some h) y = refl
 
-found-inside : {X Y : Type 0} (n : ℕ) (C : X → Y) (o : Option (Hit X)) → hitFound (inside n C o) ≡ moved n (hitFound o)
+found-inside : {X Y : Type 0} (n : ℕ) (C : X → Y) (o : Option (Hit X)) → hitFound (inside n C o) ≡ movedBy n (hitFound o)
 found-inside n C none = refl
 found-inside n C (some h) = refl
 
@@ -59,8 +60,8 @@ unfolding firstRedex
 first-find t = ap foundOf (step-find allPure Dropping t) ∙ found-step (find allPure Dropping t)
 
 -- what is found in a part
-in-part : {Y : Type 0} (n : ℕ) (C : Term → Y) (t : Term) → hitFound (inside n C (find allPure Dropping t)) ≡ moved n (F t)
-in-part n C t = found-inside n C (find allPure Dropping t) ∙ ap (moved n) (sym (first-find t))
+in-part : {Y : Type 0} (n : ℕ) (C : Term → Y) (t : Term) → hitFound (inside n C (find allPure Dropping t)) ≡ movedBy n (F t)
+in-part n C t = found-inside n C (find allPure Dropping t) ∙ ap (movedBy n) (sym (first-find t))
 
 or-parts : {X : Type 0} (x y : Option (Hit X)) (f g : Found) → hitFound x ≡ f → hitFound y ≡ g → hitFound (x or y) ≡ orElse f g
 or-parts x y f g e d = found-or x y ∙ ap₂ orElse e d
@@ -73,11 +74,11 @@ or-assoc : (f g h : Found) → orElse (orElse f g) h ≡ orElse f (orElse g h)
 or-assoc (Redex r p) g h = refl
 or-assoc Nothing g h = refl
 
-moved-or : (n : ℕ) (f g : Found) → moved n (orElse f g) ≡ orElse (moved n f) (moved n g)
+moved-or : (n : ℕ) (f g : Found) → movedBy n (orElse f g) ≡ orElse (movedBy n f) (movedBy n g)
 moved-or n (Redex r p) g = refl
 moved-or n Nothing g = refl
 
-moved-moved : (n m : ℕ) (f : Found) → moved n (moved m f) ≡ moved (n + m) f
+moved-moved : (n m : ℕ) (f : Found) → movedBy n (movedBy m f) ≡ movedBy (n + m) f
 moved-moved n m (Redex r p) = ap (Redex r) (sym (add-assoc n m p))
 moved-moved n m Nothing = refl
 
@@ -99,38 +100,38 @@ let-here e b = go (isValue e) (eqb (uses b 0) 0) (rename b lower)
 
 -- what is found in two parts and in three
 in-two : {X : Type 0} (n m : ℕ) (C D : Term → X) (a b : Term)
-    → hitFound (inside n C (find allPure Dropping a) or inside m D (find allPure Dropping b)) ≡ orElse (moved n (F a)) (moved m (F b))
-in-two n m C D a b = or-parts (inside n C (find allPure Dropping a)) (inside m D (find allPure Dropping b)) (moved n (F a)) (moved m (F b))
+    → hitFound (inside n C (find allPure Dropping a) or inside m D (find allPure Dropping b)) ≡ orElse (movedBy n (F a)) (movedBy m (F b))
+in-two n m C D a b = or-parts (inside n C (find allPure Dropping a)) (inside m D (find allPure Dropping b)) (movedBy n (F a)) (movedBy m (F b))
     (in-part n C a) (in-part m D b)
 
 in-three : {X : Type 0} (n m l : ℕ) (C D E : Term → X) (a b c : Term)
     → hitFound (inside n C (find allPure Dropping a) or
     (inside m D (find allPure Dropping b) or inside l E (find allPure Dropping c)))
-    ≡ orElse (orElse (moved n (F a)) (moved m (F b))) (moved l (F c))
+    ≡ orElse (orElse (movedBy n (F a)) (movedBy m (F b))) (movedBy l (F c))
 in-three n m l C D E a b c =
-    or-parts (inside n C (find allPure Dropping a)) (inside m D (find allPure Dropping b) or inside l E (find allPure Dropping c)) (moved n (F a))
-    (orElse (moved m (F b)) (moved l (F c))) (in-part n C a) (in-two m l D E b c)
-    ∙ sym (or-assoc (moved n (F a)) (moved m (F b)) (moved l (F c)))
+    or-parts (inside n C (find allPure Dropping a)) (inside m D (find allPure Dropping b) or inside l E (find allPure Dropping c)) (movedBy n (F a))
+    (orElse (movedBy m (F b)) (movedBy l (F c))) (in-part n C a) (in-two m l D E b c)
+    ∙ sym (or-assoc (movedBy n (F a)) (movedBy m (F b)) (movedBy l (F c)))
 
 -- a call's arguments
 arguments-found : (j at : ℕ) (s : Seen) (ts : Terms) → s .drops ≡ false
-    → endScan 1 (seenAfter 1 j at s ts) 0 .found ≡ orElse (s .found) (moved at (hitFound (finds allPure Dropping ts)))
+    → endScan 1 (seenAfter 1 j at s ts) 0 .found ≡ orElse (s .found) (movedBy at (hitFound (finds allPure Dropping ts)))
 unfolding seenAfter sawOf endScan dropsAt scanOf
 arguments-found j at s done e =
     ap (λ (b : Bool). cond b (Redex Drop 0) (s .found)) e
-    ∙ sym (ap (λ (o : Option (Hit Terms)). orElse (s .found) (moved at (hitFound o))) (finds-done allPure Dropping) ∙ or-nothing (s .found))
+    ∙ sym (ap (λ (o : Option (Hit Terms)). orElse (s .found) (movedBy at (hitFound o))) (finds-done allPure Dropping) ∙ or-nothing (s .found))
 arguments-found j at s (arg t ts) e =
     arguments-found (suc j) (at + size t) (sawOf 1 j at s (scanOf t) (uses t 0)) ts refl
-    ∙ or-assoc (s .found) (moved at (F t)) (moved (at + size t) (hitFound (finds allPure Dropping ts)))
-    ∙ ap (orElse (s .found)) (sym (ap (λ (o : Option (Hit Terms)). moved at (hitFound o)) (finds-arg allPure Dropping t ts) ∙ split))
+    ∙ or-assoc (s .found) (movedBy at (F t)) (movedBy (at + size t) (hitFound (finds allPure Dropping ts)))
+    ∙ ap (orElse (s .found)) (sym (ap (λ (o : Option (Hit Terms)). movedBy at (hitFound o)) (finds-arg allPure Dropping t ts) ∙ split))
   where
-    split : moved at (hitFound (inside 0 (λ x. arg x ts) (find allPure Dropping t) or inside (size t) (λ x. arg t x) (finds allPure Dropping ts)))
-        ≡ orElse (moved at (F t)) (moved (at + size t) (hitFound (finds allPure Dropping ts)))
+    split : movedBy at (hitFound (inside 0 (λ x. arg x ts) (find allPure Dropping t) or inside (size t) (λ x. arg t x) (finds allPure Dropping ts)))
+        ≡ orElse (movedBy at (F t)) (movedBy (at + size t) (hitFound (finds allPure Dropping ts)))
     split =
-        ap (moved at) (or-parts (inside 0 (λ x. arg x ts) (find allPure Dropping t)) (inside (size t) (λ x. arg t x) (finds allPure Dropping ts))
-        (moved 0 (F t)) (moved (size t) (hitFound (finds allPure Dropping ts))) (in-part 0 (λ x. arg x ts) t) (found-inside (size t) (λ x. arg t x) (finds allPure Dropping ts)))
-        ∙ moved-or at (moved 0 (F t)) (moved (size t) (hitFound (finds allPure Dropping ts)))
-        ∙ ap₂ orElse (moved-moved at 0 (F t) ∙ ap (λ (i : ℕ). moved i (F t)) (add-zero at))
+        ap (movedBy at) (or-parts (inside 0 (λ x. arg x ts) (find allPure Dropping t)) (inside (size t) (λ x. arg t x) (finds allPure Dropping ts))
+        (movedBy 0 (F t)) (movedBy (size t) (hitFound (finds allPure Dropping ts))) (in-part 0 (λ x. arg x ts) t) (found-inside (size t) (λ x. arg t x) (finds allPure Dropping ts)))
+        ∙ moved-or at (movedBy 0 (F t)) (movedBy (size t) (hitFound (finds allPure Dropping ts)))
+        ∙ ap₂ orElse (moved-moved at 0 (F t) ∙ ap (λ (i : ℕ). movedBy i (F t)) (add-zero at))
         (moved-moved at (size t) (hitFound (finds allPure Dropping ts)))
 
 -- a let comes before its parts
@@ -154,7 +155,7 @@ found-node (app f a) z = first-find (app f a) ∙ ap (λ (o : Option (Hit Term))
 found-node (bind e b) z = first-find (bind e b) ∙ ap (λ (o : Option (Hit Term)). hitFound o) (find-bind allPure Dropping e b)
     ∙ let-first (dropsAt 4 1 (isValue e) (uses b 0))
     (inside 1 (λ x. bind x b) (find allPure Dropping e) or inside (1 + size e) (λ x. bind e x) (find allPure Dropping b))
-    (here allPure Dropping (bind e b)) (orElse (moved 1 (F e)) (moved (1 + size e) (F b))) (let-here e b)
+    (here allPure Dropping (bind e b)) (orElse (movedBy 1 (F e)) (movedBy (1 + size e) (F b))) (let-here e b)
     (in-two 1 (1 + size e) (λ x. bind x b) (λ x. bind e x) e b)
 found-node (pair A a b) z = first-find (pair A a b) ∙ ap (λ (o : Option (Hit Term)). hitFound o) (find-pair allPure Dropping A a b)
     ∙ in-two 1 (1 + size a) (λ x. pair A x b) (λ x. pair A a x) a b

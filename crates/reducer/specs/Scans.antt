@@ -16,6 +16,7 @@ use Rattle.reduction.specs.Redex.{firstRedex}
 use Rattle.reduction.specs.FitByKinds.{valueKind}
 use Rattle.parts.specs.Fronts.{Holds}
 use Rattle.reducer.specs.Marks.{Marked}
+use Rattle.reducer.specs.Searches.{movedBy}
 use Rattle.reducer.specs.declared.unused.Scan.{Scan}
 use Rattle.reducer.specs.declared.unused.Seen.{Seen}
 
@@ -35,11 +36,6 @@ abbrev pub placeOf : Found → ℕ
 placeOf (Redex rule place) = place
 placeOf Nothing = 0
 
--- what is found in a part that begins so many words further
-abbrev pub moved : ℕ → Found → Found
-moved at (Redex rule place) = Redex rule (at + place)
-moved at Nothing = Nothing
-
 -- the first of two that is there
 abbrev pub orElse : Found → Found → Found
 orElse (Redex rule place) later = Redex rule place
@@ -58,7 +54,7 @@ unfoldable pub sawOf : ℕ → ℕ → ℕ → Seen → Scan → ℕ → Seen
 sawOf k j at seen part uses = record {
   values = seen .values && part .value;
   drops = dropsAt k j (seen .values) uses;
-  found = orElse (seen .found) (moved at (part .found));
+  found = orElse (seen .found) (movedBy at (part .found));
 }
 
 -- the answer for a node whose parts are seen; a node comes before its parts

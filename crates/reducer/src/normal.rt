@@ -1,15 +1,16 @@
 // The test for a normal form (paper 01: the flat test) and the test for a normal value, each by way of the other.
 ghost use mathlib.Core.Path.{_≡_};
-ghost use Prim.Native.Nat.{ℕ};
+ghost use Prim.Native.Nat.{ℕ, _≤_};
 ghost use lib.ListN.{length};
-ghost use Rattle.reduction.specs.FitByKinds.{valueKind};
 ghost use Rattle.reduction.specs.Rules.{allPure};
 ghost use Rattle.reduction.specs.Grammar.{inGrammar};
 ghost use Rattle.parts.specs.Fronts.{Starts};
 ghost use Rattle.reducer.specs.Marks.{Space};
 ghost use Rattle.reducer.specs.Roles.{firstRole, laterRole, roleOf, suits, operationKind, keepsVariable};
-ghost use Rattle.reducer.specs.Tests.{isNormalValue, Tests};
+ghost use Rattle.reducer.specs.NormalTest.{isNormalValue, Tests, Decides};
 use crate::marks::mark;
+use crate::value::value_kind;
+use checker::check::OTHER_LIMIT;
 use parts::fields::kind;
 use parts::fields::number;
 use parts::shape::binders;
@@ -27,16 +28,6 @@ pub enum Role {
     Value,
     Operation,
     Normal,
-}
-
-// the kinds of values: variable, function, pair, left and right injection
-pub fn value_kind(k: u64) -> bool
-    ensures { λ r. ⌜ r ≡ valueKind k ⌝ }
-{
-    match k {
-        0 | 2 | 5 | 8 | 9 => true,
-        _ => false,
-    }
 }
 
 // the kinds of operations: call, application, first, second
@@ -172,4 +163,14 @@ pub fn normal_test(calls: &[u64], t: &[u64], used: &mut [u64], depth: usize) -> 
         j += 1;
     }
     Part { end: at, ok: true }
+}
+
+// whether the term at the front is in normal form
+pub fn is_normal_form(calls: &[u64], t: &[u64]) -> bool
+    requires { ⌜ Starts (now calls) (now t) × (length (now t) ≤ 8192) ⌝ }
+    ensures { λ r. ⌜ Decides (now (calls .entry)) (now (t .entry)) r ⌝ }
+{
+    let mut used: [u64; OTHER_LIMIT] = [0; OTHER_LIMIT];
+    let part = normal_test(calls, t, &mut used, 0);
+    part.ok
 }

@@ -5,9 +5,10 @@ ghost use Prim.Native.Nat.{ℕ, _+_, _≤_};
 ghost use lib.ListN.{length};
 ghost use Rattle.parts.specs.Fronts.{Starts};
 ghost use Rattle.reducer.specs.Marks.{Space};
-ghost use Rattle.reducer.specs.Scans.{placeOf, moved, orElse, dropsAt, valueBy, sawOf, endScan, Scans};
+ghost use Rattle.reducer.specs.Searches.{movedBy};
+ghost use Rattle.reducer.specs.Scans.{placeOf, orElse, dropsAt, valueBy, sawOf, endScan, Scans};
 use crate::marks::mark;
-use crate::normal::value_kind;
+use crate::value::value_kind;
 use parts::fields::kind;
 use parts::fields::number;
 use parts::shape::binders;
@@ -31,9 +32,9 @@ pub struct Seen {
 }
 
 // what is found in a part that begins `at` words further
-fn moved_by(found: Found, at: usize) -> Found
+pub fn moved_by(found: Found, at: usize) -> Found
     requires { ⌜ at + placeOf found ≤ 131072 ⌝ }
-    ensures { λ r. ⌜ r ≡ moved at found ⌝ }
+    ensures { λ r. ⌜ r ≡ movedBy at found ⌝ }
 {
     match found {
         Found::Redex(rule, place) => Found::Redex(rule, at + place),

@@ -9,7 +9,7 @@ use lib.ListN.{length, length-set}
 use Rattle.reduction.specs.Rules.{allPure}
 use Rattle.reduction.specs.Grammar.{inGrammar}
 use Rattle.parts.proofs.Traversal.{not-empty, from-length, part-starts}
-use Rattle.reducer.specs.Tests.{isNormalValue}
+use Rattle.reducer.specs.NormalTest.{isNormalValue}
 use Rattle.reducer.proofs.Marking.{open-set, space-less}
 use Rattle.reducer.proofs.ByParts.{partPasses}
 use Rattle.reducer.proofs.TestedParts.{Testing, test-leave, test-fails, test-space, test-reached, test-next}
@@ -33,7 +33,7 @@ use Rattle.reducer.proofs.marks.mark.Reads as mark-reads
 use Rattle.reducer.proofs.normal.admits.Reads as admits-reads
 use Rattle.reducer.proofs.normal.keeps.Reads as keeps-reads
 use Rattle.reducer.proofs.normal.role_of.Reads as role-of-reads
-use Rattle.reducer.proofs.normal.value_kind.Reads as value-kind-reads
+use Rattle.reducer.proofs.value.value_kind.Reads as value-kind-reads
 use Rattle.reducer.proofs.normal.+normal_test+value_test.{statement}
 use Rattle.reducer.proofs.normal.+normal_test+value_test.Tie.{close}
 

@@ -8,7 +8,7 @@ use Rattle.reducer.proofs.normal.admits.Tie as tie
 use Rattle.reducer.proofs.normal.admits.Reads as reads
 use Rattle.reducer.proofs.normal.admits.Lts as lts
 use Rattle.reducer.proofs.normal.operation_kind.Reads as operation-kind-reads
-use Rattle.reducer.proofs.normal.value_kind.Reads as value-kind-reads
+use Rattle.reducer.proofs.value.value_kind.Reads as value-kind-reads
 
 pub admits-spec : {M : Type 1} → statement M
 unfolding suits

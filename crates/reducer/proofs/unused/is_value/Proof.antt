@@ -9,7 +9,7 @@ use Rattle.reducer.proofs.unused.is_value.Statement.{statement}
 use Rattle.reducer.proofs.unused.is_value.Tie as tie
 use Rattle.reducer.proofs.unused.is_value.Reads as reads
 use Rattle.reducer.proofs.unused.is_value.Lts as lts
-use Rattle.reducer.proofs.normal.value_kind.Reads as value-kind-reads
+use Rattle.reducer.proofs.value.value_kind.Reads as value-kind-reads
 
 pub is-value-spec : {M : Type 1} → statement M
 unfolding valueBy

@@ -3,7 +3,8 @@ use Prim.Native.Nat.{ℕ, _+_}
 use native.Mathlib.Omega.{arith}
 use mathlib.Core.Path.{_≡_, refl, sym, _∙_, ap}
 use Rattle.reduction.specs.declared.Found.{Found}
-use Rattle.reducer.specs.Scans.{moved, placeOf}
+use Rattle.reducer.specs.Searches.{movedBy}
+use Rattle.reducer.specs.Scans.{placeOf}
 use borrow.Author.Needs.{needs}
 use Rattle.reducer.proofs.unused.moved_by.Statement.{statement}
 use Rattle.reducer.proofs.unused.moved_by.Tie as tie
@@ -15,4 +16,4 @@ moved-by-spec = tie.close (tie.spec (λ c. search needs) (λ c.
     let pre = c .before .before .before .pre in
     omega (arith, pre, ap placeOf (c .before .found .given .1))) (λ c. search needs) (λ c.
     let args = c .before .before .before .args in
-    sym (ap (moved (args .at)) (c .before .found .given .1))) (λ c. search needs))
+    sym (ap (movedBy (args .at)) (c .before .found .given .1))) (λ c. search needs))

@@ -5,7 +5,8 @@ use mathlib.Core.Bool.{Bool, _&&_}
 use Rattle.reduction.specs.declared.Found.{Found}
 use Rattle.reducer.specs.declared.unused.Scan.{Scan}
 use Rattle.reducer.specs.declared.unused.Seen.{Seen}
-use Rattle.reducer.specs.Scans.{dropsAt, moved, orElse, sawOf}
+use Rattle.reducer.specs.Searches.{movedBy}
+use Rattle.reducer.specs.Scans.{dropsAt, orElse, sawOf}
 use borrow.Author.Needs.{needs}
 use Rattle.reducer.proofs.unused.saw.Statement.{statement}
 use Rattle.reducer.proofs.unused.saw.Tie as tie
@@ -17,7 +18,7 @@ use Rattle.reducer.proofs.unused.moved_by.Reads as moved-by-reads
 use Rattle.reducer.proofs.unused.or_else.Reads as or-else-reads
 
 saw-is : (k j at : ℕ) (s : Seen) (p : Scan) (u : ℕ) {v d : Bool} {m f : Found} → v ≡ (s .values && p .value)
-    → d ≡ dropsAt k j (s .values) u → m ≡ moved at (p .found) → f ≡ orElse (s .found) m
+    → d ≡ dropsAt k j (s .values) u → m ≡ movedBy at (p .found) → f ≡ orElse (s .found) m
     → _≡_ {A = Seen} (record { values = v; drops = d; found = f }) (sawOf k j at s p u)
 unfolding sawOf
 saw-is k j at s p u ve de me fe = rw (ve, de, fe, me)

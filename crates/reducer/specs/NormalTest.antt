@@ -6,7 +6,7 @@ use Prim.Native.Nat.{ℕ}
 use Rattle.syntax.specs.Term.{Term}
 use Rattle.syntax.specs.Encoding.{size}
 use Rattle.reduction.specs.Rules.{allPure}
-use Rattle.reduction.specs.Grammar.{class, isAValue}
+use Rattle.reduction.specs.Grammar.{class, isAValue, inGrammar}
 use Rattle.parts.specs.Fronts.{Holds}
 use Rattle.reducer.specs.Marks.{Marked}
 use Rattle.reducer.specs.declared.normal.Part.{Part}
@@ -26,6 +26,10 @@ pub record Told (test : Term → Bool) (t : Term) (depth : ℕ) (old new : List 
 
 pub record Tests (test : Term → Bool) (calls words : List ℕ) (depth : ℕ) (old new : List ℕ) (r : Part) : Type 0 where
   pub told : (t : Term) (rest : List ℕ) → Holds calls words t rest → Told test t depth old new r
+
+-- yes exactly if the term at the front is in normal form
+pub record Decides (calls words : List ℕ) (r : Bool) : Type 0 where
+  pub told : (t : Term) (rest : List ℕ) → Holds calls words t rest → r ≡ inGrammar allPure t
 
 -- the answer of a test that the part did not pass
 abbrev pub no : Part
