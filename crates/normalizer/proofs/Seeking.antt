@@ -40,7 +40,7 @@ module _ {phase : Phase} {calls words : List ℕ} {i : ℕ} (ready : (t : Term) 
   continues s = record { term = s .term; index = i; onward = onward (s .term) (s .at) }
 
   -- a place that is found is a place of the term
-  pub found-small : {marks : List ℕ} (r : Found) → Searchable phase calls words i marks → FindsFirst phase calls (from words i) r → i + placeOf r ≤ 65536
+  pub found-small : {marks : List ℕ} (r : Found) → Searchable phase calls words i marks → FindsFirst phase calls (from words i) r → i + placeOf r ≤ 131072
   unfolding size
   found-small (Redex rule place) s f =
       let t = s .term in

@@ -5,7 +5,7 @@ use mathlib.Core.Path.{_≡_, refl, sym, _∙_, ap, subst}
 use mathlib.Core.Bool.{Bool}
 use mathlib.Core.List.{List, [], _∷_}
 use mathlib.Core.Option.{Option, some, none, Option·some-injective, Option·none-ne-some}
-use lib.ListN.{length, getElem?}
+use lib.ListN.{length, take, getElem?, length-take}
 use Rattle.syntax.specs.Term.{Term}
 use Rattle.syntax.specs.Encoding.{size}
 use Rattle.syntax.specs.Positions.{Position, positions}
@@ -18,6 +18,7 @@ use Rattle.reduction.specs.declared.Found.the-variants.{Redex, Nothing}
 use Rattle.reduction.proofs.Clear.{FirstAt, step-at}
 use Rattle.reduction.proofs.SearchAnswer.{StepAt, redex-step, nothing-none}
 use Rattle.normalizer.specs.Currents.{Front, Current}
+use Rattle.normalizer.specs.Finds.{SearchAt, Searchable, Finds}
 use Rattle.normalizer.specs.Rewrites.{RedexAt, Rewritable, RewrittenTo, full, next, Rewrites}
 use Rattle.normalizer.specs.Turns.{At, Ready, Turned, stops, spent, full as too-long, goes, Turns}
 use Rattle.normalizer.specs.declared.rewrite.Rewritten.{Rewritten}
@@ -119,3 +120,24 @@ module _ {phase : Phase} {calls before : List ℕ} {len from : ℕ} where
         go : (t : Term) (s : StepAt allPure phase t rule place) {n : ℕ} → RewrittenTo capacity after (s .taken .next) (Next n)
             → Turned phase calls after len left capacity t (Stepped (s .taken .rule) (s .taken .place) n)
         go t s (next n l g) = goes (s .taken) n (s .is) h l (g .length-is) g
+
+  -- the search of the current term
+  search-at : {t : Term} → At phase calls before len from t → SearchAt phase calls (take len before) from t
+  search-at a = record { shaped = a .current .shaped; is = a .current .front .words-are; clear = a .clear; begun = a .begun }
+
+  pub turn-searchable : {capacity : ℕ} {second : List ℕ} → Ready phase calls before len from capacity second
+      → Searchable phase calls (take len before) from (take capacity second)
+  turn-searchable {capacity} {second} r =
+      let l = length-take len before in
+      let m = length-take capacity second in
+      record {
+        term = r .term;
+        at = search-at (r .at);
+        inside = omega (arith, l, r .at .inside, r .small, r .room);
+        small = omega (arith, l, r .small, r .limit);
+        deep = omega (arith, l, m, r .small, r .room, r .scratch);
+        marks-small = omega (arith, m, r .limit);
+      }
+
+  pub turn-finds : {r : Found} → Finds phase calls (take len before) from r → (t : Term) → At phase calls before len from t → r ≡ firstRedex allPure phase t
+  turn-finds f t a = f .told t (search-at a)
