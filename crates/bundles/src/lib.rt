@@ -1,0 +1,3 @@
+// Bundles and listings: the bytes that the program reads, and those that it writes.
+
+pub mod read; // read.rt: the public call `read_bundle`
