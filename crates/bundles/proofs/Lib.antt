@@ -1,2 +1,5 @@
 pub mod Bytes
 pub mod Readable
+pub mod Digits
+pub mod Decimal
+pub mod Putting

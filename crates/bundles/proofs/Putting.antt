@@ -1,0 +1,38 @@
+-- Numbers and what ends them, written one after the other.
+use Prim.Native.Nat.{ℕ, zero, suc, _+_, _*_, _≤_, _<_}
+use native.Mathlib.Omega.{arith}
+use mathlib.Core.Path.{_≡_, refl, sym, _∙_, ap}
+use mathlib.Core.List.{List, [], _∷_, _++_, append-nil}
+use lib.ListN.{length, set, length-append}
+use lib.Seq.{sets}
+use Rattle.parts.proofs.Writing.{sets-append}
+use Rattle.outcomes.specs.Listing.{decimal, hexadecimal, newline}
+use Rattle.bundles.specs.Digits.{lastDigits}
+use Rattle.bundles.specs.Puts.{Puts}
+use Rattle.bundles.proofs.Digits.{hexadecimal-is, length-lastDigits}
+use Rattle.bundles.proofs.Decimal.{decimal-is}
+
+-- a byte behind a stretch
+set-behind : (old new xs : List ℕ) (at i b : ℕ) → new ≡ sets old at xs → i ≡ at + length xs → set new i b ≡ sets old at (xs ++ b ∷ [])
+set-behind old new xs at i b e p = ap (λ (l : List ℕ). set l i b) e ∙ rw (p) (sym (sets-append old at xs (b ∷ [])))
+
+pub field-put : (old new : List ℕ) (n end at count : ℕ) → count ≡ length (decimal n) → new ≡ sets old at (lastDigits 10 count n [])
+    → Puts (decimal n ++ end ∷ []) old (set new (at + count) end) at (count + 1)
+field-put old new n end at count c e = record {
+  new-is =
+      set-behind old new (decimal n) at (at + count) end
+      (e ∙ ap (λ (k : ℕ). sets old at (lastDigits 10 k n [])) c ∙ ap (sets old at) (sym (decimal-is n)))
+      (ap (λ (k : ℕ). at + k) c);
+  size-is = omega (arith, length-append (decimal n) (end ∷ []));
+}
+
+pub length-hexadecimal : (w : ℕ) → length (hexadecimal 16 w) ≡ 16
+unfolding hexadecimal
+length-hexadecimal w = refl
+
+pub word-put : (old new : List ℕ) (w at : ℕ) → new ≡ sets old at (lastDigits 16 16 w [])
+    → set new (at + 16) newline ≡ sets old at (hexadecimal 16 w ++ newline ∷ [])
+word-put old new w at e =
+    set-behind old new (hexadecimal 16 w) at (at + 16) newline
+    (e ∙ ap (sets old at) (sym (hexadecimal-is 16 w []) ∙ append-nil (hexadecimal 16 w)))
+    (ap (λ (k : ℕ). at + k) (sym (length-hexadecimal w)))
