@@ -3,3 +3,6 @@ pub mod Readable
 pub mod Digits
 pub mod Decimal
 pub mod Putting
+pub mod Fields
+pub mod Counts
+pub mod Lines

@@ -3,7 +3,7 @@ use Prim.Native.Nat.{ℕ, zero, suc, _+_, _*_, _≤_, _<_}
 use native.Mathlib.Omega.{arith}
 use mathlib.Core.Path.{_≡_, refl, sym, _∙_, ap}
 use mathlib.Core.List.{List, [], _∷_, _++_, append-nil}
-use lib.ListN.{length, set, length-append}
+use lib.ListN.{length, getD, set, length-append}
 use lib.Seq.{sets}
 use Rattle.parts.proofs.Writing.{sets-append}
 use Rattle.outcomes.specs.Listing.{decimal, hexadecimal, newline}
@@ -26,6 +26,10 @@ field-put old new n end at count c e = record {
   size-is = omega (arith, length-append (decimal n) (end ∷ []));
 }
 
+pub field-size : (n end : ℕ) {old new : List ℕ} {at size : ℕ} → Puts (decimal n ++ end ∷ []) old new at size
+    → size ≡ length (decimal n) + 1
+field-size n end p = p .size-is ∙ length-append (decimal n) (end ∷ [])
+
 pub length-hexadecimal : (w : ℕ) → length (hexadecimal 16 w) ≡ 16
 unfolding hexadecimal
 length-hexadecimal w = refl
@@ -36,3 +40,12 @@ word-put old new w at e =
     set-behind old new (hexadecimal 16 w) at (at + 16) newline
     (e ∙ ap (sets old at) (sym (hexadecimal-is 16 w []) ∙ append-nil (hexadecimal 16 w)))
     (ap (λ (k : ℕ). at + k) (sym (length-hexadecimal w)))
+
+-- three bytes at the front
+pub three-put : (old start : List ℕ) → length start ≡ 3
+    → set (set (set old 0 (getD start 0 0)) 1 (getD start 1 0)) 2 (getD start 2 0) ≡ sets old 0 start
+three-put old [] h = absurd (omega arith)
+three-put old (a ∷ []) h = absurd (omega arith)
+three-put old (a ∷ b ∷ []) h = absurd (omega arith)
+three-put old (a ∷ b ∷ c ∷ []) h = refl
+three-put old (a ∷ b ∷ c ∷ d ∷ rest) h = absurd (omega arith)

@@ -2,3 +2,4 @@
 
 pub mod read; // read.rt: the public call `read_bundle`
 pub mod numerals; // numerals.rt: decimal and hexadecimal numbers as text
+pub mod listing; // listing.rt: the public call `listing`
