@@ -6,3 +6,4 @@ pub mod Putting
 pub mod Fields
 pub mod Counts
 pub mod Lines
+pub mod Listed

@@ -6,7 +6,7 @@ use mathlib.Core.List.{List, [], _∷_, _++_, append-nil}
 use lib.ListN.{length, getD, set, length-append}
 use lib.Seq.{sets}
 use Rattle.parts.proofs.Writing.{sets-append}
-use Rattle.outcomes.specs.Listing.{decimal, hexadecimal, newline}
+use Rattle.outcomes.specs.Listing.{decimal, hexadecimal, fields, newline}
 use Rattle.bundles.specs.Digits.{lastDigits}
 use Rattle.bundles.specs.Puts.{Puts}
 use Rattle.bundles.proofs.Digits.{hexadecimal-is, length-lastDigits}
@@ -29,6 +29,10 @@ field-put old new n end at count c e = record {
 pub field-size : (n end : ℕ) {old new : List ℕ} {at size : ℕ} → Puts (decimal n ++ end ∷ []) old new at size
     → size ≡ length (decimal n) + 1
 field-size n end p = p .size-is ∙ length-append (decimal n) (end ∷ [])
+
+pub line-size : (ns : List ℕ) {old new : List ℕ} {at size : ℕ} → Puts (fields ns ++ newline ∷ []) old new at size
+    → size ≡ length (fields ns) + 1
+line-size ns p = p .size-is ∙ length-append (fields ns) (newline ∷ [])
 
 pub length-hexadecimal : (w : ℕ) → length (hexadecimal 16 w) ≡ 16
 unfolding hexadecimal

@@ -4,8 +4,9 @@ ghost use mathlib.Core.List.{[], _∷_, _++_};
 ghost use Prim.Native.Nat.{ℕ, _+_, _*_, _≤_, _<_};
 ghost use lib.ListN.{length as len, take};
 ghost use lib.Seq.{sets};
-ghost use Rattle.outcomes.specs.Listing.{okay, nope, newline, fields, lines, writtenTo, listingOutcome};
+ghost use Rattle.outcomes.specs.Listing.{newline, fields, lines, writtenTo, listingOutcome};
 ghost use Rattle.bundles.specs.Puts.{Puts};
+ghost use Rattle.bundles.specs.FirstLine.{refusedLine, acceptedLine};
 use crate::numerals::digit_count;
 use crate::numerals::put_field;
 use crate::numerals::put_word;
@@ -68,7 +69,7 @@ fn put_start(start: &[u8], text: &mut [u8])
 
 // a refused term: its number and the counts
 fn list_refused(refusal: u32, counts: [u32; 10], text: &mut [u8]) -> usize
-    ensures { λ r. ⌜ record { length = r; buffer = now (text .exit) } ≡ writtenTo (now (text .entry)) (nope ++ (fields (refusal ∷ counts) ++ newline ∷ [])) ⌝ }
+    ensures { λ r. ⌜ record { length = r; buffer = now (text .exit) } ≡ writtenTo (now (text .entry)) (refusedLine refusal counts) ⌝ }
 {
     let number = wide(refusal);
     let size = 3 + (digit_count(number) + 1) + counts_size(counts);
@@ -80,25 +81,40 @@ fn list_refused(refusal: u32, counts: [u32; 10], text: &mut [u8]) -> usize
     next + put_counts(counts, text, next)
 }
 
-// an accepted term: its type, length and counts, and the words of its normal form
-fn list_accepted(ty: u64, length: usize, counts: [u32; 10], words: &[u64], text: &mut [u8]) -> usize
-    requires { ⌜ length ≤ len (now words) ⌝ }
-    ensures { λ r. ⌜ record { length = r; buffer = now (text .exit) } ≡ writtenTo (now (text .entry)) (okay ++ (fields (ty ∷ length ∷ counts) ++ newline ∷ lines (take length (now (words .entry))))) ⌝ }
+// how many bytes the first line of an accepted term takes
+fn line_size(ty: u64, length: u64, counts: [u32; 10]) -> usize
+    ensures { λ r. ⌜ (r ≡ len (acceptedLine ty length counts)) × (r ≤ 255) ⌝ }
 {
-    let number = length as u64;
-    let first = 3 + (digit_count(ty) + 1) + (digit_count(number) + 1) + counts_size(counts);
-    if text.len() < first {
-        return 0;
-    }
-    if (text.len() - first) / 17 < length {
-        return 0;
-    }
+    3 + (digit_count(ty) + 1) + (digit_count(length) + 1) + counts_size(counts)
+}
+
+// writes it: type, length and counts
+fn put_line(ty: u64, length: u64, counts: [u32; 10], text: &mut [u8])
+    requires { ⌜ len (acceptedLine ty length counts) ≤ len (now text) ⌝ }
+    ensures { λ r. ⌜ now (text .exit) ≡ sets (now (text .entry)) 0 (acceptedLine ty length counts) ⌝ }
+{
     put_start(b"ok ", text);
     let second = 3 + put_field(ty, b' ', text, 3);
-    let third = second + put_field(number, b' ', text, second);
-    let fourth = third + put_counts(counts, text, third);
-    put_lines(words, length, text, fourth);
-    fourth + 17 * length
+    let third = second + put_field(length, b' ', text, second);
+    put_counts(counts, text, third);
+}
+
+// an accepted term: its first line, and the words of its normal form
+fn list_accepted(ty: u64, length: usize, counts: [u32; 10], words: &[u64], text: &mut [u8]) -> usize
+    requires { ⌜ length ≤ len (now words) ⌝ }
+    ensures { λ r. ⌜ record { length = r; buffer = now (text .exit) } ≡ writtenTo (now (text .entry)) (acceptedLine ty length counts ++ lines (take length (now (words .entry)))) ⌝ }
+{
+    let number = length as u64;
+    let size = line_size(ty, number, counts);
+    if text.len() < size {
+        return 0;
+    }
+    if (text.len() - size) / 17 < length {
+        return 0;
+    }
+    put_line(ty, number, counts, text);
+    put_lines(words, length, text, size);
+    size + 17 * length
 }
 
 // the listing at the front of the text, and its length; 0 and the text unchanged
