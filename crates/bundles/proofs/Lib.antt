@@ -7,3 +7,4 @@ pub mod Fields
 pub mod Counts
 pub mod Lines
 pub mod Listed
+pub mod ListingOutcome
