@@ -1,7 +1,7 @@
 -- The counts written one after the other: what is written and the fields from the next one on make up the line.
 use Prim.Native.Nat.{ℕ, _+_, _≤_, _<_}
 use native.Mathlib.Omega.{arith}
-use mathlib.Core.Path.{_≡_, refl, sym, _∙_, ap, subst}
+use mathlib.Core.Path.{_≡_, refl, _∙_, ap, subst}
 use mathlib.Core.List.{List, [], _∷_, _++_}
 use lib.ListN.{length, getD, drop, length-append}
 use lib.Seq.{sets, length-sets}
@@ -24,7 +24,8 @@ pub fields-none : (ns old : List ℕ) (at : ℕ) → 0 < length ns → at + (len
 fields-none ns old at p h = record { within = p; room = h; writing = write-none old at (line ns); len = refl }
 
 -- where the loop ends
-pub fields-end : {ns old new : List ℕ} {at size i : ℕ} (j : ℕ) → Fielding ns old new at size i → i ≤ j → j ≤ i → Fielding ns old new at size j
+pub fields-end : {ns old new : List ℕ} {at size i : ℕ} (j : ℕ) → Fielding ns old new at size i → i ≤ j → j ≤ i
+    → Fielding ns old new at size j
 fields-end {ns} {old} {new} {at} {size} {i} j s l g =
     let e : i ≡ j = omega arith in
     subst (λ (k : ℕ). Fielding ns old new at size k) e s

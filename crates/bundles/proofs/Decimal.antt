@@ -3,12 +3,11 @@ use Prim.Native.Nat.{ℕ, zero, suc, _+_, _-_, _*_, _/_, _%_, _^_, _≤_, _<_}
 use native.Mathlib.Omega.{arith}
 use native.Mathlib.Nat.{pow-suc}
 use native.Mathlib.Numerals.{add-one}
-use mathlib.Core.Path.{_≡_, refl, sym, _∙_, ap}
-use mathlib.Core.List.{List, [], _∷_, _++_}
+use mathlib.Core.Path.{_≡_, refl, ap}
+use mathlib.Core.List.{List, [], _∷_}
 use lib.ListN.{length}
 use Rattle.outcomes.specs.Listing.{digit, decimalThen, decimal}
 use Rattle.bundles.specs.Digits.{lastDigits}
-use Rattle.bundles.proofs.Digits.{length-lastDigits}
 
 -- the last digit, and those before it
 then-last : (f n : ℕ) (rest : List ℕ) → n / 10 ≡ 0 → decimalThen (suc f) n rest ≡ digit (n % 10) ∷ rest
@@ -36,10 +35,10 @@ length-then zero n rest = omega arith
 length-then (suc f) n rest = length-step f n (n / 10) rest refl (length-then f (n / 10))
 
 -- one digit, and one digit more
-width-last : (f n : ℕ) → n ≤ 9 → width (suc f) n ≡ 1
+pub width-last : (f n : ℕ) → n ≤ 9 → width (suc f) n ≡ 1
 width-last f n h = let e : n / 10 ≡ 0 = omega arith in rw (then-last f n [] e)
 
-width-more : (f n : ℕ) → 9 < n → width (suc f) n ≡ width f (n / 10) + 1
+pub width-more : (f n : ℕ) → 9 < n → width (suc f) n ≡ width f (n / 10) + 1
 width-more f n h =
     let e : n / 10 ≡ suc (n / 10 - 1) = omega arith in
     rw (then-more f n (n / 10 - 1) [] e) (length-then f (n / 10) (digit (n % 10) ∷ []))

@@ -1,19 +1,14 @@
 -- Digits written from the last to the first: those still to come are the digits of what is left of the number.
-use Prim.Native.Nat.{ℕ, zero, suc, _+_, _-_, _*_, _/_, _%_, _^_, _≤_, _<_}
+use Prim.Native.Nat.{ℕ, zero, suc, _+_, _-_, _/_, _%_, _^_, _≤_, _<_}
 use native.Mathlib.Omega.{arith}
 use native.Mathlib.Nat.{pow-succ', div-div-eq-div-mul}
-use mathlib.Core.Path.{_≡_, refl, sym, _∙_, ap}
+use mathlib.Core.Path.{_≡_, refl, _∙_, ap}
 use mathlib.Core.Logic.{_≢_}
 use mathlib.Core.List.{List, [], _∷_, _++_}
 use lib.ListN.{length, set, length-set}
 use lib.Seq.{sets, set-comm}
 use Rattle.outcomes.specs.Listing.{digit, hexadecimal}
 use Rattle.bundles.specs.Digits.{lastDigits}
-
-pub length-lastDigits : (base k n : ℕ) (rest : List ℕ) → length (lastDigits base k n rest) ≡ k + length rest
-unfolding lastDigits
-length-lastDigits base zero n rest = omega arith
-length-lastDigits base (suc k) n rest = length-lastDigits base k (n / base) (digit (n % base) ∷ rest) ∙ omega arith
 
 -- an element before a stretch
 set-before : (l : List ℕ) (i k a : ℕ) (vs : List ℕ) → i < k → set (sets l k vs) i a ≡ sets (set l i a) k vs

@@ -1,8 +1,8 @@
 -- The fields of a line: how many bytes they take, and the fields from one on.
-use Prim.Native.Nat.{ℕ, zero, suc, _+_, _*_, _≤_, _<_}
+use Prim.Native.Nat.{ℕ, suc, _+_, _*_, _≤_, _<_}
 use native.Mathlib.Omega.{arith}
 use native.Mathlib.Numerals.{add-one}
-use mathlib.Core.Path.{_≡_, refl, sym, _∙_, ap}
+use mathlib.Core.Path.{_≡_, refl, sym}
 use mathlib.Core.List.{List, [], _∷_, _++_, append-assoc, append-nil}
 use lib.ListN.{length, getD, drop, length-append, length-drop, drop-of-length-le}
 use lib.Seq.{drop-cons}
@@ -15,11 +15,11 @@ fields-cons n [] h = absurd (omega arith)
 fields-cons n (m ∷ ns) h = refl
 
 -- each number with the byte that ends it
-pub sizeOf : List ℕ → ℕ
+unfoldable pub sizeOf : List ℕ → ℕ
 sizeOf [] = 0
 sizeOf (n ∷ ns) = length (decimal n) + 1 + sizeOf ns
 
-pub size-cons : (n : ℕ) (ns : List ℕ) → sizeOf (n ∷ ns) ≡ length (decimal n) + 1 + sizeOf ns
+size-cons : (n : ℕ) (ns : List ℕ) → sizeOf (n ∷ ns) ≡ length (decimal n) + 1 + sizeOf ns
 unfolding sizeOf
 size-cons n ns = refl
 
@@ -29,7 +29,7 @@ size-fields n [] = omega arith
 size-fields n (m ∷ ns) =
     omega (arith, length-append (decimal n) (space ∷ fields (m ∷ ns)), size-fields m ns)
 
-fields-size : (ns : List ℕ) → 0 < length ns → length (fields ns) + 1 ≡ sizeOf ns
+pub fields-size : (ns : List ℕ) → 0 < length ns → length (fields ns) + 1 ≡ sizeOf ns
 fields-size [] h = absurd (omega arith)
 fields-size (n ∷ ns) h = size-fields n ns
 

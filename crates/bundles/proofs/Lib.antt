@@ -8,3 +8,4 @@ pub mod Counts
 pub mod Lines
 pub mod Listed
 pub mod ListingOutcome
+pub mod ListingBound

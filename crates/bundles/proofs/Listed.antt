@@ -1,5 +1,5 @@
 -- The whole listing: its length as a sum, and its parts written one after the other.
-use Prim.Native.Nat.{ℕ, zero, suc, _+_, _*_, _≤_, _<_}
+use Prim.Native.Nat.{ℕ, _+_, _*_, _≤_, _<_}
 use native.Mathlib.Omega.{arith}
 use native.Mathlib.Nat.{zero-add}
 use mathlib.Core.Path.{_≡_, refl, sym, _∙_, ap}
@@ -10,8 +10,7 @@ use borrow.Author.Tests.{le-leb, lt-leb}
 use Rattle.parts.proofs.Writing.{sets-append}
 use Rattle.outcomes.specs.Text.{ascii}
 use Rattle.outcomes.specs.Buffers.{overwrite}
-use Rattle.outcomes.specs.declared.Answer.{Answer}
-use Rattle.outcomes.specs.Listing.{okay, nope, space, newline, decimal, fields, lines, listingOf, Written, writtenTo, listingOutcome}
+use Rattle.outcomes.specs.Listing.{okay, nope, space, newline, decimal, fields, lines, Written, writtenTo}
 use Rattle.bundles.specs.FirstLine.{refusedLine, acceptedLine}
 use Rattle.bundles.specs.Puts.{Puts}
 use Rattle.bundles.proofs.Fields.{fields-cons}

@@ -2,12 +2,12 @@
 use Prim.Native.Nat.{ℕ, zero, suc, _≤_, _<_}
 use native.Mathlib.Omega.{arith}
 use mathlib.Core.Path.{_≡_, refl, sym, _∙_, ap}
-use mathlib.Core.List.{List, [], _∷_, _++_, append-assoc}
+use mathlib.Core.List.{List, _++_, append-assoc}
 use lib.ListN.{length, take}
 use borrow.Author.Tests.{le-leb, lt-leb}
 use Rattle.outcomes.specs.Text.{ascii}
 use Rattle.outcomes.specs.declared.Answer.{Answer}
-use Rattle.outcomes.specs.Listing.{okay, nope, newline, fields, lines, listingOf, Written, writtenTo, wordsListed, listingOutcome}
+use Rattle.outcomes.specs.Listing.{lines, listingOf, Written, writtenTo, wordsListed, listingOutcome}
 use Rattle.bundles.specs.FirstLine.{refusedLine, acceptedLine}
 
 module _ (a : Answer) where

@@ -1,5 +1,5 @@
 -- Numbers and what ends them, written one after the other.
-use Prim.Native.Nat.{ℕ, zero, suc, _+_, _*_, _≤_, _<_}
+use Prim.Native.Nat.{ℕ, _+_}
 use native.Mathlib.Omega.{arith}
 use mathlib.Core.Path.{_≡_, refl, sym, _∙_, ap}
 use mathlib.Core.List.{List, [], _∷_, _++_, append-nil}
@@ -9,7 +9,7 @@ use Rattle.parts.proofs.Writing.{sets-append}
 use Rattle.outcomes.specs.Listing.{decimal, hexadecimal, fields, newline}
 use Rattle.bundles.specs.Digits.{lastDigits}
 use Rattle.bundles.specs.Puts.{Puts}
-use Rattle.bundles.proofs.Digits.{hexadecimal-is, length-lastDigits}
+use Rattle.bundles.proofs.Digits.{hexadecimal-is}
 use Rattle.bundles.proofs.Decimal.{decimal-is}
 
 -- a byte behind a stretch

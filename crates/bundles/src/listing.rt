@@ -1,7 +1,7 @@
 // The listing of an answer: `ok ` or `no `, the fields of the first line, and the words of the normal form, one a line.
 ghost use mathlib.Core.Path.{_≡_};
 ghost use mathlib.Core.List.{[], _∷_, _++_};
-ghost use Prim.Native.Nat.{ℕ, _+_, _*_, _≤_, _<_};
+ghost use Prim.Native.Nat.{_+_, _*_, _≤_, _<_};
 ghost use lib.ListN.{length as len, take};
 ghost use lib.Seq.{sets};
 ghost use Rattle.outcomes.specs.Listing.{newline, fields, lines, writtenTo, listingOutcome};
@@ -102,7 +102,8 @@ fn put_line(ty: u64, length: u64, counts: [u32; 10], text: &mut [u8])
 // an accepted term: its first line, and the words of its normal form
 fn list_accepted(ty: u64, length: usize, counts: [u32; 10], words: &[u64], text: &mut [u8]) -> usize
     requires { ⌜ length ≤ len (now words) ⌝ }
-    ensures { λ r. ⌜ record { length = r; buffer = now (text .exit) } ≡ writtenTo (now (text .entry)) (acceptedLine ty length counts ++ lines (take length (now (words .entry)))) ⌝ }
+    ensures { λ r. ⌜ record { length = r; buffer = now (text .exit) }
+        ≡ writtenTo (now (text .entry)) (acceptedLine ty length counts ++ lines (take length (now (words .entry)))) ⌝ }
 {
     let number = length as u64;
     let size = line_size(ty, number, counts);

@@ -1,9 +1,9 @@
 // The bundle reader: words most significant byte first, a header of four lengths, then the tables.
 ghost use mathlib.Core.Path.{_≡_};
-ghost use Prim.Native.Nat.{ℕ, _+_, _*_, _≤_, _<_};
+ghost use Prim.Native.Nat.{_+_, _*_, _≤_, _<_};
 ghost use lib.ListN.{length, getD, take, drop};
 ghost use Rattle.outcomes.specs.Buffers.{overwrite};
-ghost use Rattle.outcomes.specs.ReadBundle.{fromBytes, wordsOf, lengthsOf, total, unreadable, Reading, readBundleOutcome};
+ghost use Rattle.outcomes.specs.ReadBundle.{fromBytes, wordsOf, lengthsOf, total, unreadable, readBundleOutcome};
 use outcomes::Lengths;
 
 fn wide(b: u8) -> u64

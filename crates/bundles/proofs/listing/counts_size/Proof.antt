@@ -7,10 +7,6 @@ use lib.ListN.{length}
 use Rattle.bundles.proofs.Fields.{Sizing, size-none, size-more, size-all}
 use Rattle.bundles.proofs.listing.counts_size.Statement.{statement}
 use Rattle.bundles.proofs.listing.counts_size.Tie as tie
-use Rattle.bundles.proofs.listing.counts_size.Reads as reads
-use Rattle.bundles.proofs.listing.counts_size.Lts as lts
-use Rattle.bundles.proofs.listing.wide.Reads as wide-reads
-use Rattle.bundles.proofs.numerals.digit_count.Reads as digit-count-reads
 
 abbrev Inv-loop : tie.InvT-loop
 Inv-loop counts size₀ i₀ size i = (length counts ≡ 10) × Sizing counts size i
@@ -24,7 +20,7 @@ counts-size-spec =
     (tie.spec
     Inv-loop
     μ-loop
-    (λ c. search needs)
+    (λ c. (search needs, size-none _))
     (λ c. search needs)
     (λ c. search needs)
     (λ c κs. search needs)

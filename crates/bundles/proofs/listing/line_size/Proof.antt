@@ -4,10 +4,6 @@ use Rattle.bundles.proofs.Listed.{accepted-size}
 use borrow.Author.Needs.{needs}
 use Rattle.bundles.proofs.listing.line_size.Statement.{statement}
 use Rattle.bundles.proofs.listing.line_size.Tie as tie
-use Rattle.bundles.proofs.listing.line_size.Reads as reads
-use Rattle.bundles.proofs.listing.line_size.Lts as lts
-use Rattle.bundles.proofs.listing.counts_size.Reads as counts-size-reads
-use Rattle.bundles.proofs.numerals.digit_count.Reads as digit-count-reads
 
 pub line-size-spec : {M : Type 1} → statement M
 line-size-spec =

@@ -4,11 +4,6 @@ use Rattle.bundles.proofs.Listed.{words-short, words-put}
 use borrow.Author.Needs.{needs}
 use Rattle.bundles.proofs.listing.list_accepted.Statement.{statement}
 use Rattle.bundles.proofs.listing.list_accepted.Tie as tie
-use Rattle.bundles.proofs.listing.list_accepted.Reads as reads
-use Rattle.bundles.proofs.listing.list_accepted.Lts as lts
-use Rattle.bundles.proofs.listing.line_size.Reads as line-size-reads
-use Rattle.bundles.proofs.listing.put_line.Reads as put-line-reads
-use Rattle.bundles.proofs.listing.put_lines.Reads as put-lines-reads
 
 pub list-accepted-spec : {M : Type 1} → statement M
 list-accepted-spec =

@@ -7,14 +7,6 @@ use Rattle.bundles.proofs.Listed.{refused-short, refused-put}
 use borrow.Author.Needs.{needs}
 use Rattle.bundles.proofs.listing.list_refused.Statement.{statement}
 use Rattle.bundles.proofs.listing.list_refused.Tie as tie
-use Rattle.bundles.proofs.listing.list_refused.Reads as reads
-use Rattle.bundles.proofs.listing.list_refused.Lts as lts
-use Rattle.bundles.proofs.listing.counts_size.Reads as counts-size-reads
-use Rattle.bundles.proofs.listing.put_counts.Reads as put-counts-reads
-use Rattle.bundles.proofs.listing.put_start.Reads as put-start-reads
-use Rattle.bundles.proofs.listing.wide.Reads as wide-reads
-use Rattle.bundles.proofs.numerals.digit_count.Reads as digit-count-reads
-use Rattle.bundles.proofs.numerals.put_field.Reads as put-field-reads
 
 pub list-refused-spec : {M : Type 1} → statement M
 unfolding ascii

@@ -3,10 +3,6 @@ use Rattle.bundles.proofs.ListingOutcome.{outcome-refused, outcome-acce
 use borrow.Author.Needs.{needs}
 use Rattle.bundles.proofs.listing.listing.Statement.{statement}
 use Rattle.bundles.proofs.listing.listing.Tie as tie
-use Rattle.bundles.proofs.listing.listing.Reads as reads
-use Rattle.bundles.proofs.listing.listing.Lts as lts
-use Rattle.bundles.proofs.listing.list_accepted.Reads as list-accepted-reads
-use Rattle.bundles.proofs.listing.list_refused.Reads as list-refused-reads
 
 pub listing-spec : {M : Type 1} → statement M
 listing-spec =

@@ -8,10 +8,6 @@ use Rattle.bundles.proofs.Putting.{field-size}
 use Rattle.bundles.proofs.Counts.{Fielding, fields-none, fields-end, next-room, next-put, last-room, last-put}
 use Rattle.bundles.proofs.listing.put_counts.Statement.{statement}
 use Rattle.bundles.proofs.listing.put_counts.Tie as tie
-use Rattle.bundles.proofs.listing.put_counts.Reads as reads
-use Rattle.bundles.proofs.listing.put_counts.Lts as lts
-use Rattle.bundles.proofs.listing.wide.Reads as wide-reads
-use Rattle.bundles.proofs.numerals.put_field.Reads as put-field-reads
 
 abbrev Inv-loop : tie.InvT-loop
 Inv-loop text₀ at counts size₀ i₀ text size i = (length counts ≡ 10) × (i ≤ 9) × Fielding counts text₀ text at size i

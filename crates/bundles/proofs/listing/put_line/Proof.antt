@@ -7,11 +7,6 @@ use Rattle.bundles.proofs.Listed.{length-accepted, accepted-put}
 use borrow.Author.Needs.{needs}
 use Rattle.bundles.proofs.listing.put_line.Statement.{statement}
 use Rattle.bundles.proofs.listing.put_line.Tie as tie
-use Rattle.bundles.proofs.listing.put_line.Reads as reads
-use Rattle.bundles.proofs.listing.put_line.Lts as lts
-use Rattle.bundles.proofs.listing.put_counts.Reads as put-counts-reads
-use Rattle.bundles.proofs.listing.put_start.Reads as put-start-reads
-use Rattle.bundles.proofs.numerals.put_field.Reads as put-field-reads
 
 pub put-line-spec : {M : Type 1} → statement M
 unfolding ascii

@@ -1,13 +1,9 @@
 -- After i turns the first i words are written, seventeen bytes each.
 use borrow.Author.Needs.{needs}
 use Prim.Native.Nat.{_-_}
-use native.Mathlib.Omega.{arith}
 use Rattle.bundles.proofs.Lines.{Lining, lines-none, lines-more, lines-all}
 use Rattle.bundles.proofs.listing.put_lines.Statement.{statement}
 use Rattle.bundles.proofs.listing.put_lines.Tie as tie
-use Rattle.bundles.proofs.listing.put_lines.Reads as reads
-use Rattle.bundles.proofs.listing.put_lines.Lts as lts
-use Rattle.bundles.proofs.numerals.put_word.Reads as put-word-reads
 
 abbrev Inv-loop : tie.InvT-loop
 Inv-loop words n text₀ at i₀ text i = Lining words text₀ text at i n

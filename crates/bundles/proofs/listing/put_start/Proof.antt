@@ -1,13 +1,10 @@
 -- Three bytes, one after the other.
 use native.Mathlib.Omega.{arith}
-use mathlib.Core.Path.{_≡_}
-use lib.ListN.{length, length-set}
+use lib.ListN.{length-set}
 use Rattle.bundles.proofs.Putting.{three-put}
 use borrow.Author.Needs.{needs}
 use Rattle.bundles.proofs.listing.put_start.Statement.{statement}
 use Rattle.bundles.proofs.listing.put_start.Tie as tie
-use Rattle.bundles.proofs.listing.put_start.Reads as reads
-use Rattle.bundles.proofs.listing.put_start.Lts as lts
 
 pub put-start-spec : {M : Type 1} → statement M
 put-start-spec =

@@ -4,8 +4,6 @@ use borrow.Author.Tests.{le-leb, lt-leb}
 use borrow.Author.Needs.{needs}
 use Rattle.bundles.proofs.numerals.digit.Statement.{statement}
 use Rattle.bundles.proofs.numerals.digit.Tie as tie
-use Rattle.bundles.proofs.numerals.digit.Reads as reads
-use Rattle.bundles.proofs.numerals.digit.Lts as lts
 
 pub digit-spec : {M : Type 1} → statement M
 digit-spec =

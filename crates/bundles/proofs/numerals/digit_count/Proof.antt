@@ -1,12 +1,9 @@
 -- What is left after a division has one digit less.
 use borrow.Author.Needs.{needs}
 use Prim.Native.Nat.{_-_}
-use native.Mathlib.Omega.{arith}
 use Rattle.bundles.proofs.Decimal.{Counting, count-start, count-more, count-all}
 use Rattle.bundles.proofs.numerals.digit_count.Statement.{statement}
 use Rattle.bundles.proofs.numerals.digit_count.Tie as tie
-use Rattle.bundles.proofs.numerals.digit_count.Reads as reads
-use Rattle.bundles.proofs.numerals.digit_count.Lts as lts
 
 abbrev Inv-loop : tie.InvT-loop
 Inv-loop n left₀ count₀ left count = Counting n count left

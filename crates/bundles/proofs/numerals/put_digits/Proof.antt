@@ -6,9 +6,6 @@ use native.Mathlib.Nat.{mod-lt}
 use Rattle.bundles.proofs.Digits.{Digiting, digits-none, digits-more, digits-all}
 use Rattle.bundles.proofs.numerals.put_digits.Statement.{statement}
 use Rattle.bundles.proofs.numerals.put_digits.Tie as tie
-use Rattle.bundles.proofs.numerals.put_digits.Reads as reads
-use Rattle.bundles.proofs.numerals.put_digits.Lts as lts
-use Rattle.bundles.proofs.numerals.digit.Reads as digit-reads
 
 abbrev Inv-loop : tie.InvT-loop
 Inv-loop n base count text₀ at left₀ i₀ text left i = Digiting base n count text₀ text at i left

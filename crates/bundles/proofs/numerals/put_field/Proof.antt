@@ -3,10 +3,6 @@ use Rattle.bundles.proofs.Putting.{field-put}
 use borrow.Author.Needs.{needs}
 use Rattle.bundles.proofs.numerals.put_field.Statement.{statement}
 use Rattle.bundles.proofs.numerals.put_field.Tie as tie
-use Rattle.bundles.proofs.numerals.put_field.Reads as reads
-use Rattle.bundles.proofs.numerals.put_field.Lts as lts
-use Rattle.bundles.proofs.numerals.digit_count.Reads as digit-count-reads
-use Rattle.bundles.proofs.numerals.put_digits.Reads as put-digits-reads
 
 pub put-field-spec : {M : Type 1} → statement M
 put-field-spec =

@@ -4,9 +4,6 @@ use Prim.Native.Nat.{_-_}
 use Rattle.bundles.proofs.Bytes.{Copying, copy-none, copy-word, copy-all}
 use Rattle.bundles.proofs.read.copy_words.Statement.{statement}
 use Rattle.bundles.proofs.read.copy_words.Tie as tie
-use Rattle.bundles.proofs.read.copy_words.Reads as reads
-use Rattle.bundles.proofs.read.copy_words.Lts as lts
-use Rattle.bundles.proofs.read.word_at.Reads as word-at-reads
 
 abbrev Inv-loop : tie.InvT-loop
 Inv-loop bytes words₀ n i₀ words i = Copying bytes words₀ words i n

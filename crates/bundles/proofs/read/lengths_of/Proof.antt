@@ -4,8 +4,6 @@ use native.Mathlib.Omega.{arith}
 use Rattle.outcomes.specs.ReadBundle.{lengthsOf}
 use Rattle.bundles.proofs.read.lengths_of.Statement.{statement}
 use Rattle.bundles.proofs.read.lengths_of.Tie as tie
-use Rattle.bundles.proofs.read.lengths_of.Reads as reads
-use Rattle.bundles.proofs.read.lengths_of.Lts as lts
 
 pub lengths-of-spec : {M : Type 1} → statement M
 unfolding lengthsOf

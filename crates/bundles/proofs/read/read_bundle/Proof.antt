@@ -6,12 +6,6 @@ use Rattle.bundles.proofs.Readable.{too-long, too-short, low-bits, wron
 use borrow.Author.Needs.{needs}
 use Rattle.bundles.proofs.read.read_bundle.Statement.{statement}
 use Rattle.bundles.proofs.read.read_bundle.Tie as tie
-use Rattle.bundles.proofs.read.read_bundle.Reads as reads
-use Rattle.bundles.proofs.read.read_bundle.Lts as lts
-use Rattle.bundles.proofs.read.copy_words.Reads as copy-words-reads
-use Rattle.bundles.proofs.read.lengths_of.Reads as lengths-of-reads
-use Rattle.bundles.proofs.read.refused.Reads as refused-reads
-use Rattle.bundles.proofs.read.word_at.Reads as word-at-reads
 
 pub read-bundle-spec : {M : Type 1} → statement M
 read-bundle-spec =

@@ -3,9 +3,6 @@ use Rattle.bundles.proofs.Bytes.{word-of-pairs}
 use borrow.Author.Needs.{needs}
 use Rattle.bundles.proofs.read.word_at.Statement.{statement}
 use Rattle.bundles.proofs.read.word_at.Tie as tie
-use Rattle.bundles.proofs.read.word_at.Reads as reads
-use Rattle.bundles.proofs.read.word_at.Lts as lts
-use Rattle.bundles.proofs.read.pair_at.Reads as pair-at-reads
 
 pub word-at-spec : {M : Type 1} → statement M
 word-at-spec =
