@@ -14,23 +14,23 @@ use Rattle.bundles.proofs.Fields.{fields-at, fields-last}
 abbrev line : List ℕ → List ℕ
 line ns = fields ns ++ newline ∷ []
 
-pub record Fielding (ns old new : List ℕ) (at size i : ℕ) : Type 0 where
+pub record FieldsPut (ns old new : List ℕ) (at size i : ℕ) : Type 0 where
   pub within : i < length ns
   pub room : at + (length (fields ns) + 1) ≤ length old
   pub writing : Writing old new at size (line ns) (line (drop i ns))
   pub len : length new ≡ length old
 
-pub fields-none : (ns old : List ℕ) (at : ℕ) → 0 < length ns → at + (length (fields ns) + 1) ≤ length old → Fielding ns old old at 0 0
+pub fields-none : (ns old : List ℕ) (at : ℕ) → 0 < length ns → at + (length (fields ns) + 1) ≤ length old → FieldsPut ns old old at 0 0
 fields-none ns old at p h = record { within = p; room = h; writing = write-none old at (line ns); len = refl }
 
 -- where the loop ends
-pub fields-end : {ns old new : List ℕ} {at size i : ℕ} (j : ℕ) → Fielding ns old new at size i → i ≤ j → j ≤ i
-    → Fielding ns old new at size j
+pub fields-end : {ns old new : List ℕ} {at size i : ℕ} (j : ℕ) → FieldsPut ns old new at size i → i ≤ j → j ≤ i
+    → FieldsPut ns old new at size j
 fields-end {ns} {old} {new} {at} {size} {i} j s l g =
     let e : i ≡ j = omega arith in
-    subst (λ (k : ℕ). Fielding ns old new at size k) e s
+    subst (λ (k : ℕ). FieldsPut ns old new at size k) e s
 
-module _ {ns old new : List ℕ} {at size i : ℕ} (s : Fielding ns old new at size i) (n : ℕ) (e : n ≡ getD ns i 0) where
+module _ {ns old new : List ℕ} {at size i : ℕ} (s : FieldsPut ns old new at size i) (n : ℕ) (e : n ≡ getD ns i 0) where
   -- a number that is not the last
   next : i + 1 < length ns → Writing old new at size (line ns) ((decimal n ++ space ∷ []) ++ line (drop (i + 1) ns))
   next h = rw e (rw (fields-at ns i h) at (s .writing))
@@ -47,7 +47,7 @@ module _ {ns old new : List ℕ} {at size i : ℕ} (s : Fielding ns old new at s
       )
 
   pub next-put : (new′ : List ℕ) (r : ℕ) → i + 1 < length ns → Puts (decimal n ++ space ∷ []) new new′ (at + size) r
-      → Fielding ns old new′ at (size + r) (i + 1)
+      → FieldsPut ns old new′ at (size + r) (i + 1)
   next-put new′ r h p = record {
     within = h;
     room = s .room;

@@ -18,7 +18,7 @@ set-before l i k a (v ∷ vs) h =
     set-before (set l k v) i (suc k) a vs (omega arith) ∙ ap (λ (m : List ℕ). sets m (suc k) vs) (set-comm l k i v a n)
 
 -- the digits from i on are written, and `left` is what is left of the number
-pub record Digiting (base n count : ℕ) (old new : List ℕ) (at i left : ℕ) : Type 0 where
+pub record DigitsPut (base n count : ℕ) (old new : List ℕ) (at i left : ℕ) : Type 0 where
   pub low : at ≤ i
   pub done : List ℕ
   pub reach : i + length done ≡ at + count
@@ -26,13 +26,13 @@ pub record Digiting (base n count : ℕ) (old new : List ℕ) (at i left : ℕ) 
   pub same : lastDigits base (i - at) left done ≡ lastDigits base count n []
   pub len : length new ≡ length old
 
-pub digits-none : (base n count : ℕ) (old : List ℕ) (at : ℕ) → Digiting base n count old old at (at + count) n
+pub digits-none : (base n count : ℕ) (old : List ℕ) (at : ℕ) → DigitsPut base n count old old at (at + count) n
 digits-none base n count old at =
     let e : at + count - at ≡ count = omega arith in
     record { low = omega arith; done = []; reach = omega arith; new-is = refl; same = rw e; len = refl }
 
-pub digits-more : {base n count : ℕ} {old new : List ℕ} {at i left : ℕ} (d : ℕ) → Digiting base n count old new at i left → at < i
-    → d ≡ digit (left % base) → Digiting base n count old (set new (i - 1) d) at (i - 1) (left / base)
+pub digits-more : {base n count : ℕ} {old new : List ℕ} {at i left : ℕ} (d : ℕ) → DigitsPut base n count old new at i left → at < i
+    → d ≡ digit (left % base) → DigitsPut base n count old (set new (i - 1) d) at (i - 1) (left / base)
 unfolding lastDigits
 digits-more {base} {n} {count} {old} {new} {at} {i} {left} d s l e =
     let j : ℕ = i - 1 in
@@ -50,7 +50,7 @@ digits-more {base} {n} {count} {old} {new} {at} {i} {left} d s l e =
       len = length-set new j d ∙ s .len;
     }
 
-pub digits-all : {base n count : ℕ} {old new : List ℕ} {at i left : ℕ} → Digiting base n count old new at i left → i ≤ at
+pub digits-all : {base n count : ℕ} {old new : List ℕ} {at i left : ℕ} → DigitsPut base n count old new at i left → i ≤ at
     → new ≡ sets old at (lastDigits base count n [])
 unfolding lastDigits
 digits-all {base} {n} {count} {old} {new} {at} {i} {left} s l =

@@ -22,19 +22,19 @@ lines-append (v ∷ ws) w = ap (λ (l : List ℕ). hexadecimal 16 v ++ newline �
     ∙ sym (append-assoc (hexadecimal 16 v) (newline ∷ lines ws) (hexadecimal 16 w ++ newline ∷ []))
 
 -- the loop of `put_lines`
-pub record Lining (words old new : List ℕ) (at i n : ℕ) : Type 0 where
+pub record LinesPut (words old new : List ℕ) (at i n : ℕ) : Type 0 where
   pub within : i ≤ n
   pub enough : n ≤ length words
   pub room : at + 17 * n ≤ length old
   pub new-is : new ≡ sets old at (lines (take i words))
   pub len : length new ≡ length old
 
-pub lines-none : (words old : List ℕ) (at n : ℕ) → n ≤ length words → at + 17 * n ≤ length old → Lining words old old at 0 n
+pub lines-none : (words old : List ℕ) (at n : ℕ) → n ≤ length words → at + 17 * n ≤ length old → LinesPut words old old at 0 n
 unfolding lines
 lines-none words old at n h r = record { within = omega arith; enough = h; room = r; new-is = refl; len = refl }
 
-pub lines-more : {words old new : List ℕ} {at i n : ℕ} (new′ : List ℕ) → Lining words old new at i n → i < n
-    → new′ ≡ sets new (at + 17 * i) (hexadecimal 16 (getD words i 0) ++ newline ∷ []) → Lining words old new′ at (i + 1) n
+pub lines-more : {words old new : List ℕ} {at i n : ℕ} (new′ : List ℕ) → LinesPut words old new at i n → i < n
+    → new′ ≡ sets new (at + 17 * i) (hexadecimal 16 (getD words i 0) ++ newline ∷ []) → LinesPut words old new′ at (i + 1) n
 lines-more {words} {old} {new} {at} {i} {n} new′ s h e =
     let l : i < length words = omega (arith, s .enough) in
     let w : List ℕ = hexadecimal 16 (getD words i 0) ++ newline ∷ [] in
@@ -51,7 +51,7 @@ lines-more {words} {old} {new} {at} {i} {n} new′ s h e =
       len = ap (λ (m : List ℕ). length m) e ∙ length-sets new (at + 17 * i) w ∙ s .len;
     }
 
-pub lines-all : {words old new : List ℕ} {at i n : ℕ} → Lining words old new at i n → n ≤ i → new ≡ sets old at (lines (take n words))
+pub lines-all : {words old new : List ℕ} {at i n : ℕ} → LinesPut words old new at i n → n ≤ i → new ≡ sets old at (lines (take n words))
 lines-all {words} {old} {at = at} {i} {n} s h =
     let e : i ≡ n = omega (arith, s .within) in
     s .new-is ∙ ap (λ (j : ℕ). sets old at (lines (take j words))) e

@@ -5,12 +5,12 @@ use native.Mathlib.Omega.{arith}
 use mathlib.Core.Path.{_≡_}
 use lib.ListN.{length}
 use Rattle.bundles.proofs.Putting.{field-size}
-use Rattle.bundles.proofs.Counts.{Fielding, fields-none, fields-end, next-room, next-put, last-room, last-put}
+use Rattle.bundles.proofs.Counts.{FieldsPut, fields-none, fields-end, next-room, next-put, last-room, last-put}
 use Rattle.bundles.proofs.listing.put_counts.Statement.{statement}
 use Rattle.bundles.proofs.listing.put_counts.Tie as tie
 
 abbrev Inv-loop : tie.InvT-loop
-Inv-loop text₀ at counts size₀ i₀ text size i = (length counts ≡ 10) × (i ≤ 9) × Fielding counts text₀ text at size i
+Inv-loop text₀ at counts size₀ i₀ text size i = (length counts ≡ 10) × (i ≤ 9) × FieldsPut counts text₀ text at size i
 
 abbrev μ-loop : tie.MeasureT-loop
 μ-loop text₀ at counts size₀ i₀ text size i = 9 - i

@@ -1,12 +1,12 @@
 -- After i turns the first i words are written, seventeen bytes each.
 use borrow.Author.Needs.{needs}
 use Prim.Native.Nat.{_-_}
-use Rattle.bundles.proofs.Lines.{Lining, lines-none, lines-more, lines-all}
+use Rattle.bundles.proofs.Lines.{LinesPut, lines-none, lines-more, lines-all}
 use Rattle.bundles.proofs.listing.put_lines.Statement.{statement}
 use Rattle.bundles.proofs.listing.put_lines.Tie as tie
 
 abbrev Inv-loop : tie.InvT-loop
-Inv-loop words n text₀ at i₀ text i = Lining words text₀ text at i n
+Inv-loop words n text₀ at i₀ text i = LinesPut words text₀ text at i n
 
 abbrev μ-loop : tie.MeasureT-loop
 μ-loop words n text₀ at i₀ text i = n - i

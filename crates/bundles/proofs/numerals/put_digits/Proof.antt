@@ -3,12 +3,12 @@ use borrow.Author.Needs.{needs}
 use Prim.Native.Nat.{_-_}
 use native.Mathlib.Omega.{arith}
 use native.Mathlib.Nat.{mod-lt}
-use Rattle.bundles.proofs.Digits.{Digiting, digits-none, digits-more, digits-all}
+use Rattle.bundles.proofs.Digits.{DigitsPut, digits-none, digits-more, digits-all}
 use Rattle.bundles.proofs.numerals.put_digits.Statement.{statement}
 use Rattle.bundles.proofs.numerals.put_digits.Tie as tie
 
 abbrev Inv-loop : tie.InvT-loop
-Inv-loop n base count text₀ at left₀ i₀ text left i = Digiting base n count text₀ text at i left
+Inv-loop n base count text₀ at left₀ i₀ text left i = DigitsPut base n count text₀ text at i left
 
 abbrev μ-loop : tie.MeasureT-loop
 μ-loop n base count text₀ at left₀ i₀ text left i = i
