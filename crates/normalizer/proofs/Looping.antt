@@ -86,11 +86,19 @@ module _ (calls : List ℕ) (capacity : ℕ) where
     inner-ready = standing-ready (over (v .begun .types) calls (v .begun .inputs)) capacity (v .begun .whole) now second (v .limit)
         (omega (arith, v .room, v .same)) (omega (arith, v .scratch, v .same-second))
 
+    -- a step is taken only while there is budget, so no count overflows
+    pub inner-positive : {after : List ℕ} {r : Turn} {rule : Rule} {place n : ℕ} → Turns phase calls words len from left capacity after r
+        → r ≡ Stepped rule place n → 0 < left
+    inner-positive {after} {r} {rule} {place} {n} x e =
+        standing-steps _ capacity _ now rule place n (v .begun .fit) (v .limit)
+        (subst (λ (t : Turn). Turns phase calls words len from left capacity after t) e x) .0
+
+    pub inner-below : 0 < left → (i : ℕ) → getD counts i 0 < 4294967295
+    inner-below h i = omega (arith, h, v .bounded i)
+
     module _ (after second′ : List ℕ) (a : length after ≡ length words) (b : length second′ ≡ length second) where
       -- a turn that takes a step
       pub record InnerStep (rule : Rule) (place n : ℕ) : Type 0 where
-        pub positive : 0 < left
-        pub below : (i : ℕ) → getD counts i 0 < 4294967295
         pub next : Inner phase words₀ after len₀ n from₀ (nextFrom phase place) left₀ (left - 1) counts₀
             (raise rule counts) second₀ second′ refused
 
@@ -99,8 +107,6 @@ module _ (calls : List ℕ) (capacity : ℕ) where
       inner-steps {rule} {place} {n} x =
           let h : 0 < left = standing-steps _ capacity _ now rule place n (v .begun .fit) (v .limit) x .0 in
           record {
-            positive = h;
-            below = λ i. omega (arith, h, v .bounded i);
             next = record {
               begun = v .begun;
               carries = λ types inputs whole fit s. standing-steps _ capacity _ (v .carries types inputs whole fit s) rule place n fit
@@ -114,6 +120,15 @@ module _ (calls : List ℕ) (capacity : ℕ) where
               none-yet = v .none-yet;
             };
           }
+
+      -- the same, as the code answers it
+      pub inner-next : {r : Turn} {rule : Rule} {place n : ℕ} (counts′ : Counts) (from′ : ℕ) → Turns phase calls words len from left capacity after r
+          → r ≡ Stepped rule place n → counts′ ≡ raise rule counts → from′ ≡ nextFrom phase place
+          → Inner phase words₀ after len₀ n from₀ from′ left₀ (left - 1) counts₀ counts′ second₀ second′ refused
+      inner-next {rule = rule} {place = place} {n = n} counts′ from′ x e ce fe =
+          let y = inner-steps {rule = rule} {place = place} {n = n} (subst (λ (t : Turn). Turns phase calls words len from left capacity after t) e x) .next in
+          subst (λ (cs : Counts). Inner phase words₀ after len₀ n from₀ from′ left₀ (left - 1) counts₀ cs second₀ second′ refused) (sym ce)
+          (subst (λ (i : ℕ). Inner phase words₀ after len₀ n from₀ i left₀ (left - 1) counts₀ (raise rule counts) second₀ second′ refused) (sym fe) y)
 
   -- the outer loop's invariant: where it begins, nothing is done
   pub record Outer (phase : Phase) (words₀ words : List ℕ) (len₀ len budget left : ℕ) (counts : Counts) (second₀ second : List ℕ)
@@ -220,6 +235,48 @@ module _ (calls : List ℕ) (capacity : ℕ) where
         (ended (re ∙ v .none-yet) ce (subst (λ (n : ℕ). Front after n (w .term)) (sym le) (w .front)));
   }
 
+  module _ (words₀ words₁ words : List ℕ) (len₀ len₁ len budget from left₁ left : ℕ) (counts₁ counts : Counts)
+      (second₀ second₁ second : List ℕ) (refused₁ refused : ℕ) (after second′ : List ℕ) where
+    -- a phase that is over is followed by another
+    abbrev Leaves : Phase → Phase → Type 0
+    Leaves phase phase′ =
+        length after ≡ length words → length second′ ≡ length second
+        → Outer phase words₀ words₁ len₀ len₁ budget left₁ counts₁ second₀ second₁ refused₁
+        → Inner phase words₁ words len₁ len 0 from left₁ left counts₁ counts second₁ second refused
+        → Turns phase calls words len from left capacity after Stop → Outer phase′ words₀ after len₀ len budget left counts second₀ second′ refused
+
+    pub leaves-insertion : Leaves Insertion Reduction
+    leaves-insertion a b o v x = outer-next o v after second′ a b Reduction (λ types inputs whole s. standing-inserted _ capacity whole s x)
+
+    pub leaves-reduction : Leaves Reduction Dropping
+    leaves-reduction a b o v x = outer-next o v after second′ a b Dropping (λ types inputs whole s. standing-reduced _ capacity whole s x)
+
+    -- and the last one by nothing
+    abbrev Ends : Phase → Type 0
+    Ends phase =
+        Outer phase words₀ words₁ len₀ len₁ budget left₁ counts₁ second₀ second₁ refused₁
+        → Inner phase words₁ words len₁ len 0 from left₁ left counts₁ counts second₁ second refused
+        → (r : Reduced) → Turns phase calls words len from left capacity after Stop → r .refusal ≡ refused → r .counts ≡ counts → r .length ≡ len
+        → Reduces calls words₀ len₀ budget capacity after r
+
+    pub ends-dropping : Ends Dropping
+    ends-dropping o v r x re ce le = outer-ended o v r x re ce le
+
+    -- as the code tells the phase and the turn
+    module _ {phase : Phase} {t : Turn} (x : Turns phase calls words len from left capacity after t) (te : t ≡ Stop)
+        (o : Outer phase words₀ words₁ len₀ len₁ budget left₁ counts₁ second₀ second₁ refused₁)
+        (v : Inner phase words₁ words len₁ len 0 from left₁ left counts₁ counts second₁ second refused) where
+      stopped-turn : Turns phase calls words len from left capacity after Stop
+      stopped-turn = subst (λ (y : Turn). Turns phase calls words len from left capacity after y) te x
+
+      pub leave : (from′ phase′ : Phase) → phase ≡ from′ → Leaves from′ phase′ → length after ≡ length words → length second′ ≡ length second
+          → Outer phase′ words₀ after len₀ len budget left counts second₀ second′ refused
+      leave from′ phase′ e l a b = subst (λ (p : Phase). Leaves p phase′) (sym e) l a b o v stopped-turn
+
+      pub end : phase ≡ Dropping → (r : Reduced) → r .refusal ≡ refused → r .counts ≡ counts → r .length ≡ len
+          → Reduces calls words₀ len₀ budget capacity after r
+      end e r re ce le = subst Ends (sym e) ends-dropping o v r stopped-turn re ce le
+
   -- before the first turn
   pub outer-begins : (words second : List ℕ) (len budget : ℕ) → budget ≤ 4294967295 → Reducible calls words len capacity second
       → Outer Insertion words words len len budget budget zeroCounts second second 0
@@ -252,3 +309,9 @@ module _ (calls : List ℕ) (capacity : ℕ) where
       zeros zero i = refl
       zeros (suc n) zero = refl
       zeros (suc n) (suc i) = zeros n i
+
+-- how many phases come after a phase
+abbrev pub phasesAfter : Phase → ℕ
+phasesAfter Insertion = 2
+phasesAfter Reduction = 1
+phasesAfter Dropping = 0
