@@ -7,3 +7,5 @@ pub mod Turning
 pub mod Standing
 pub mod Looping
 pub mod Running
+pub mod Reducing
+pub mod Deciding

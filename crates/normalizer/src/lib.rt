@@ -8,3 +8,4 @@ pub mod find; // find.rt: the first redex of a phase in the current term
 pub mod rewrite; // rewrite.rt: the redex at a place rewritten in place
 pub mod turn; // turn.rt: one turn of the reduction
 pub mod reduce; // reduce.rt: the loop over phases and steps
+pub mod normalize; // normalize.rt: the public call `normalize`

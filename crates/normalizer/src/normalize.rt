@@ -1,0 +1,103 @@
+// The public call `normalize`.
+ghost use mathlib.Core.Path.{_≡_};
+ghost use Prim.Native.Nat.{ℕ, min};
+ghost use mathlib.Core.List.{List};
+ghost use Rattle.syntax.specs.Tables.{over};
+ghost use Rattle.reduction.specs.Reduction.{zeroCounts};
+ghost use Rattle.outcomes.specs.Contract.{Normalizes};
+ghost use Rattle.normalizer.specs.Runs.{Runs};
+use crate::moves::clear;
+use crate::moves::copy;
+use crate::reduce::reduce;
+use checker::check::NORMALIZE_LIMIT;
+use checker::check::verdict;
+use outcomes::Answer;
+
+fn smaller(a: usize, b: usize) -> usize
+    ensures { λ r. ⌜ r ≡ min a b ⌝ }
+{
+    if a < b {
+        return a;
+    }
+    b
+}
+
+// a refusal, with the counts of the steps taken
+fn refused(refusal: u32, counts: [u32; 10]) -> Answer
+    ensures { λ r. ⌜ r ≡ record { refusal = refusal; ty = 0; length = 0; counts = counts } ⌝ }
+{
+    Answer {
+        refusal: refusal,
+        ty: 0,
+        length: 0,
+        counts: counts,
+    }
+}
+
+// the checks and the reduction; the normal form is written to the output
+fn run(
+    types: &[u64],
+    calls: &[u64],
+    inputs: &[u64],
+    term: &[u64],
+    budget: u32,
+    output: &mut [u64],
+    first: &mut [u64],
+    second: &mut [u64],
+) -> Answer
+    ensures { λ r. ⌜
+        Runs (record { budget = budget }) (over (now (types .entry)) (now (calls .entry)) (now (inputs .entry))) (now (term .entry))
+        (record { output = now (output .entry); scratch₁ = now (first .entry); scratch₂ = now (second .entry) }) r (now (output .exit))
+        ⌝ }
+{
+    let none: [u32; 10] = [0; 10];
+    let checked = verdict(NORMALIZE_LIMIT, types, calls, inputs, term);
+    let refusal = checked.refusal;
+    if refusal != 0 {
+        return refused(refusal, none);
+    }
+    let capacity = smaller(smaller(output.len(), smaller(first.len(), second.len())), 8192);
+    let length = term.len();
+    if capacity < length {
+        return refused(11, none);
+    }
+    copy(term, length, first, 0);
+    let reduced = reduce(calls, first, length, budget, capacity, second);
+    let stopped = reduced.refusal;
+    let counts = reduced.counts;
+    if stopped != 0 {
+        return refused(stopped, counts);
+    }
+    let last = reduced.length;
+    copy(first, last, output, 0);
+    Answer {
+        refusal: 0,
+        ty: checked.ty,
+        length: last,
+        counts: counts,
+    }
+}
+
+// normalizes a term: refused with a number, or its type, its normal form in the output's leading words, and the counts of the rules;
+// the scratch buffers are zero after every call
+pub fn normalize(
+    types: &[u64],
+    calls: &[u64],
+    inputs: &[u64],
+    term: &[u64],
+    budget: u32,
+    output: &mut [u64],
+    first: &mut [u64],
+    second: &mut [u64],
+) -> Answer
+    ensures { λ r. ⌜
+        Normalizes (record { budget = budget }) (over (now (types .entry)) (now (calls .entry)) (now (inputs .entry))) (now (term .entry))
+        (record { output = now (output .entry); scratch₁ = now (first .entry); scratch₂ = now (second .entry) }) r
+        (record { output = now (output .exit); scratch₁ = now (first .exit); scratch₂ = now (second .exit) })
+        ⌝ }
+{
+    let answer = run(types, calls, inputs, term, budget, output, first, second);
+    clear(first);
+    clear(second);
+    answer
+}
