@@ -26,7 +26,8 @@ use Rattle.normalizer.proofs.Running.{runs-refused, runs-too-long, runs
 use Rattle.normalizer.proofs.Reducing.{term-size, copied, reducible}
 
 -- what was reached fits the capacity
-reached-fits : (capacity budget : ℕ) (t : Term) {left : ℕ} {u : Term} {counts : Counts} → Bound allPure capacity budget t (reached left u counts)
+reached-fits : (capacity budget : ℕ) (t : Term) {left : ℕ} {u : Term} {counts : Counts}
+    → Bound allPure capacity budget t (reached left u counts)
     → size u ≤ capacity
 reached-fits capacity budget t (reduced q c l f) = f
 
@@ -34,7 +35,8 @@ module _ (types calls inputs words output first second : List ℕ) (budget : ℕ
     (ce : checked ≡ checkedOf (elaborate normalizeLimit (over types calls inputs) words)) where
   -- the outcome, for an answer that is told by an equation
   abbrev Told : Answer → List ℕ → Type 0
-  Told a out = Runs (record { budget = budget }) (over types calls inputs) words (record { output = output; scratch₁ = first; scratch₂ = second }) a out
+  Told a out = Runs (record { budget = budget }) (over types calls inputs) words
+      (record { output = output; scratch₁ = first; scratch₂ = second }) a out
 
   told : {a b : Answer} {out : List ℕ} → a ≡ b → Told b out → Told a out
   told {out = out} e x = subst (λ (y : Answer). Told y out) (sym e) x
@@ -45,8 +47,10 @@ module _ (types calls inputs words output first second : List ℕ) (budget : ℕ
   run-refused z a e = told e (runs-refused budget (over types calls inputs) words _ (checked .refusal)
       (refused-of normalizeLimit (over types calls inputs) words checked ce z))
 
-  module _ (capacity : ℕ) (ke : capacity ≡ min (min (length output) (min (length first) (length second))) 8192) (z : checked .refusal ≡ 0) where
-    accepted : Accepts (Passed normalizeLimit (over types calls inputs) words) (elaborate normalizeLimit (over types calls inputs) words) (checked .ty)
+  module _ (capacity : ℕ) (ke : capacity ≡ min (min (length output) (min (length first) (length second))) 8192)
+      (z : checked .refusal ≡ 0) where
+    accepted : Accepts (Passed normalizeLimit (over types calls inputs) words) (elaborate normalizeLimit (over types calls inputs) words)
+        (checked .ty)
     accepted = accepted-of normalizeLimit (over types calls inputs) words checked ce z
 
     capacity-is : capacity ≡ capacityOf (record { output = output; scratch₁ = first; scratch₂ = second })
@@ -54,7 +58,8 @@ module _ (types calls inputs words output first second : List ℕ) (budget : ℕ
     capacity-is = ke
 
     -- longer than the capacity
-    pub run-too-long : capacity < length words → (a : Answer) → a ≡ record { refusal = 11; ty = 0; length = 0; counts = zeroCounts } → Told a output
+    pub run-too-long : capacity < length words → (a : Answer) → a ≡ record { refusal = 11; ty = 0; length = 0; counts = zeroCounts }
+        → Told a output
     run-too-long h a e =
         let x = accepted in
         told e (runs-too-long budget (over types calls inputs) words _ (x .typed) (x .is)
@@ -77,10 +82,12 @@ module _ (types calls inputs words output first second : List ℕ) (budget : ℕ
 
         comes-within : Comes after r (reduce allPure (capacityOf (record { output = output; scratch₁ = first; scratch₂ = second }))
             (record { budget = budget }) (accepted .typed .term))
-        comes-within = subst (λ (k : ℕ). Comes after r (reduce allPure k (record { budget = budget }) (accepted .typed .term))) capacity-is comes
+        comes-within = subst (λ (k : ℕ). Comes after r (reduce allPure k (record { budget = budget }) (accepted .typed .term))) capacity-is
+            comes
 
         -- stopped on the way
-        pub run-stopped : (r .refusal ≡ 0 → ⊥) → (a : Answer) → a ≡ record { refusal = r .refusal; ty = 0; length = 0; counts = r .counts } → Told a output
+        pub run-stopped : (r .refusal ≡ 0 → ⊥) → (a : Answer) → a ≡ record { refusal = r .refusal; ty = 0; length = 0; counts = r .counts }
+            → Told a output
         run-stopped n a e = let y = accepted in
             told e (runs-stopped budget (over types calls inputs) words _ (y .typed) (y .is) r comes-within n)
 

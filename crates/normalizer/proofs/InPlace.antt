@@ -31,7 +31,12 @@ module _ (rule : Rule) (calls words : List ℕ) (len place : ℕ) where
 
     pub redex-starts : StartsRedex rule calls (take (len - place) (drop place words))
     redex-starts = record {
-      start = record { term = r .position .subterm; rest = _; holds = holds-at-place (r .redex .current) place (r .position) (r .redex .at) };
+      start = record {
+        term = r .position .subterm;
+        rest = _;
+        holds = holds-at-place (r .redex .current) place (r .position)
+            (r .redex .at);
+      };
       contractum = r .contractum;
       fires = r .redex .fires;
     }
@@ -86,7 +91,8 @@ module _ (rule : Rule) (calls words : List ℕ) (len place : ℕ) where
     pub rewrites-over : (capacity : ℕ) (after : List ℕ) → capacity < m .wrote → Rewrites rule calls words len place capacity after Full
     rewrites-over capacity after h = record { told = λ t p y d. full (omega (arith, h, next-length d .0)) }
 
-    pub rewrites-full : (capacity : ℕ) (after : List ℕ) → capacity < len - m .read + m .wrote → Rewrites rule calls words len place capacity after Full
+    pub rewrites-full : (capacity : ℕ) (after : List ℕ) → capacity < len - m .read + m .wrote
+        → Rewrites rule calls words len place capacity after Full
     rewrites-full capacity after h = record { told = λ t p y d. full (omega (arith, h, next-length d .0)) }
 
     -- it is current
@@ -101,9 +107,10 @@ module _ (rule : Rule) (calls words : List ℕ) (len place : ℕ) where
           let q = next-length d in
           let e : written ≡ sets second 0 (encode y) = w .told y (a .laid) in
           let f : take (m .wrote) written ≡ encode y =
-              ap (λ (k : ℕ). take k written) (a .wrote-is) ∙ ap (take (length (encode y))) e
-              ∙ written-front second (encode y) (omega (arith, a .wrote-is, q .0, q .1, ne, h, s)) in
+          ap (λ (k : ℕ). take k written) (a .wrote-is) ∙ ap (take (length (encode y))) e
+          ∙ written-front second (encode y) (omega (arith, a .wrote-is, q .0, q .1, ne, h, s)) in
           let z = rewritten (d .current) place p (d .at) (m .read) (m .wrote) written after spliced y (a .read-is) (a .wrote-is) f v in
           let same : spliced ≡ n = omega (arith, z .0, q .0, ne) in
-          next n (omega (arith, q .0, ne, h)) (record { length-is = sym same ∙ z .0; words-are = ap (λ (k : ℕ). take k after) (sym same) ∙ z .1 });
+          next n (omega (arith, q .0, ne, h))
+          (record { length-is = sym same ∙ z .0; words-are = ap (λ (k : ℕ). take k after) (sym same) ∙ z .1 });
     }

@@ -122,13 +122,16 @@ module _ (calls : List ℕ) (capacity : ℕ) where
           }
 
       -- the same, as the code answers it
-      pub inner-next : {r : Turn} {rule : Rule} {place n : ℕ} (counts′ : Counts) (from′ : ℕ) → Turns phase calls words len from left capacity after r
+      pub inner-next : {r : Turn} {rule : Rule} {place n : ℕ} (counts′ : Counts) (from′ : ℕ)
+          → Turns phase calls words len from left capacity after r
           → r ≡ Stepped rule place n → counts′ ≡ raise rule counts → from′ ≡ nextFrom phase place
           → Inner phase words₀ after len₀ n from₀ from′ left₀ (left - 1) counts₀ counts′ second₀ second′ refused
       inner-next {rule = rule} {place = place} {n = n} counts′ from′ x e ce fe =
-          let y = inner-steps {rule = rule} {place = place} {n = n} (subst (λ (t : Turn). Turns phase calls words len from left capacity after t) e x) .next in
+          let y = inner-steps {rule = rule} {place = place} {n = n}
+          (subst (λ (t : Turn). Turns phase calls words len from left capacity after t) e x) .next in
           subst (λ (cs : Counts). Inner phase words₀ after len₀ n from₀ from′ left₀ (left - 1) counts₀ cs second₀ second′ refused) (sym ce)
-          (subst (λ (i : ℕ). Inner phase words₀ after len₀ n from₀ i left₀ (left - 1) counts₀ (raise rule counts) second₀ second′ refused) (sym fe) y)
+          (subst (λ (i : ℕ). Inner phase words₀ after len₀ n from₀ i left₀ (left - 1) counts₀ (raise rule counts) second₀ second′ refused)
+          (sym fe) y)
 
   -- the outer loop's invariant: where it begins, nothing is done
   pub record Outer (phase : Phase) (words₀ words : List ℕ) (len₀ len budget left : ℕ) (counts : Counts) (second₀ second : List ℕ)
@@ -243,7 +246,8 @@ module _ (calls : List ℕ) (capacity : ℕ) where
         length after ≡ length words → length second′ ≡ length second
         → Outer phase words₀ words₁ len₀ len₁ budget left₁ counts₁ second₀ second₁ refused₁
         → Inner phase words₁ words len₁ len 0 from left₁ left counts₁ counts second₁ second refused
-        → Turns phase calls words len from left capacity after Stop → Outer phase′ words₀ after len₀ len budget left counts second₀ second′ refused
+        → Turns phase calls words len from left capacity after Stop
+        → Outer phase′ words₀ after len₀ len budget left counts second₀ second′ refused
 
     pub leaves-insertion : Leaves Insertion Reduction
     leaves-insertion a b o v x = outer-next o v after second′ a b Reduction (λ types inputs whole s. standing-inserted _ capacity whole s x)
@@ -256,7 +260,8 @@ module _ (calls : List ℕ) (capacity : ℕ) where
     Ends phase =
         Outer phase words₀ words₁ len₀ len₁ budget left₁ counts₁ second₀ second₁ refused₁
         → Inner phase words₁ words len₁ len 0 from left₁ left counts₁ counts second₁ second refused
-        → (r : Reduced) → Turns phase calls words len from left capacity after Stop → r .refusal ≡ refused → r .counts ≡ counts → r .length ≡ len
+        → (r : Reduced) → Turns phase calls words len from left capacity after Stop → r .refusal ≡ refused → r .counts ≡ counts
+        → r .length ≡ len
         → Reduces calls words₀ len₀ budget capacity after r
 
     pub ends-dropping : Ends Dropping
@@ -269,7 +274,8 @@ module _ (calls : List ℕ) (capacity : ℕ) where
       stopped-turn : Turns phase calls words len from left capacity after Stop
       stopped-turn = subst (λ (y : Turn). Turns phase calls words len from left capacity after y) te x
 
-      pub leave : (from′ phase′ : Phase) → phase ≡ from′ → Leaves from′ phase′ → length after ≡ length words → length second′ ≡ length second
+      pub leave : (from′ phase′ : Phase) → phase ≡ from′ → Leaves from′ phase′ → length after ≡ length words
+          → length second′ ≡ length second
           → Outer phase′ words₀ after len₀ len budget left counts second₀ second′ refused
       leave from′ phase′ e l a b = subst (λ (p : Phase). Leaves p phase′) (sym e) l a b o v stopped-turn
 

@@ -27,17 +27,19 @@ module _ (types calls inputs words : List ℕ) (x : Typed) (p : Passed normalize
   -- the copy
   pub copied : (first : List ℕ) → length words ≤ length first → Current calls (paste first 0 words (length words)) (length words) (x .term)
   copied first h =
-    let none : length words ≡ 0 + length words = omega arith in
-    record {
-    shaped = accepted-holds normalizeLimit (over types calls inputs) words x p .shaped;
-    front = record {
-      length-is = term-size;
-      words-are = ap (λ (k : ℕ). take k (paste first 0 words (length words))) none ∙ take-paste first 0 words (length words) (omega arith) (omega arith)
-          ∙ take-all (length words) words (omega arith) ∙ is-encoded;
-    };
-  }
+      let none : length words ≡ 0 + length words = omega arith in
+      record {
+        shaped = accepted-holds normalizeLimit (over types calls inputs) words x p .shaped;
+        front = record {
+          length-is = term-size;
+          words-are = ap (λ (k : ℕ). take k (paste first 0 words (length words))) none
+              ∙ take-paste first 0 words (length words) (omega arith) (omega arith)
+              ∙ take-all (length words) words (omega arith) ∙ is-encoded;
+        };
+      }
 
-  pub reducible : (output first second : List ℕ) (capacity : ℕ) → capacity ≡ min (min (length output) (min (length first) (length second))) 8192
+  pub reducible : (output first second : List ℕ) (capacity : ℕ)
+      → capacity ≡ min (min (length output) (min (length first) (length second))) 8192
       → length words ≤ capacity → Reducible calls (paste first 0 words (length words)) (length words) capacity second
   reducible output first second capacity ce h =
       let l = length-paste first 0 words (length words) (omega (arith, ce, h)) (omega arith) in

@@ -40,7 +40,8 @@ module _ {phase : Phase} {calls words : List ℕ} {i : ℕ} (ready : (t : Term) 
   continues s = record { term = s .term; index = i; onward = onward (s .term) (s .at) }
 
   -- a place that is found is a place of the term
-  pub found-small : {marks : List ℕ} (r : Found) → Searchable phase calls words i marks → FindsFirst phase calls (from words i) r → i + placeOf r ≤ 131072
+  pub found-small : {marks : List ℕ} (r : Found) → Searchable phase calls words i marks → FindsFirst phase calls (from words i) r
+      → i + placeOf r ≤ 131072
   unfolding size
   found-small (Redex rule place) s f =
       let t = s .term in
@@ -74,5 +75,6 @@ module _ {calls words : List ℕ} {i : ℕ} where
   pub finds-unused : {old new : List ℕ} (r : Scan) → Scans calls words 0 old new r → Finds Dropping calls words i (r .found)
   unfolding scanOf
   finds-unused r f = record {
-    told = λ t a. ap (λ (x : Scan). x .found) (f .told t [] (record { shaped = a .shaped; is = a .is ∙ sym (append-nil (encode t)) }) .answer);
+    told = λ t a. ap (λ (x : Scan). x .found)
+        (f .told t [] (record { shaped = a .shaped; is = a .is ∙ sym (append-nil (encode t)) }) .answer);
   }

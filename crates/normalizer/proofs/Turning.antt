@@ -139,5 +139,6 @@ module _ {phase : Phase} {calls before : List ℕ} {len from : ℕ} where
         marks-small = omega (arith, m, r .limit);
       }
 
-  pub turn-finds : {r : Found} → Finds phase calls (take len before) from r → (t : Term) → At phase calls before len from t → r ≡ firstRedex allPure phase t
+  pub turn-finds : {r : Found} → Finds phase calls (take len before) from r → (t : Term) → At phase calls before len from t
+      → r ≡ firstRedex allPure phase t
   turn-finds f t a = f .told t (search-at a)

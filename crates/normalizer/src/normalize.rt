@@ -56,7 +56,10 @@ fn run(
     if refusal != 0 {
         return refused(refusal, none);
     }
-    let capacity = smaller(smaller(output.len(), smaller(first.len(), second.len())), 8192);
+    let capacity = smaller(
+        smaller(output.len(), smaller(first.len(), second.len())),
+        8192,
+    );
     let length = term.len();
     if capacity < length {
         return refused(11, none);

@@ -28,7 +28,13 @@ pub fn take_turn(
     requires { ⌜ Ready phase (now calls) (now current) length from capacity (now second) ⌝ }
     ensures { λ r. ⌜ Turns phase (now (calls .entry)) (now (current .entry)) length from left capacity (now (current .exit)) r ⌝ }
 {
-    let found = find(phase, calls, &current[..length], from, &mut second[..capacity]);
+    let found = find(
+        phase,
+        calls,
+        &current[..length],
+        from,
+        &mut second[..capacity],
+    );
     match found {
         Found::Nothing => Turn::Stop,
         Found::Redex(rule, place) => {

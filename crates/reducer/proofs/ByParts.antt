@@ -154,7 +154,8 @@ arguments-pass j (arg t ts) =
     (arguments-pass (suc j) ts)
 
 -- an operation, a let and a case
-pub grammar-parts : (t : Term) → valueKind (node t .kind) ≡ false → inGrammar allPure t ≡ allPass (partPasses (node t .kind)) 0 (node t .parts)
+pub grammar-parts : (t : Term) → valueKind (node t .kind) ≡ false → inGrammar allPure t ≡ allPass (partPasses (node t .kind)) 0
+    (node t .parts)
 unfolding inGrammar class node allPass partPasses roleOf suits keepsVariable valueKind needed allPure
 grammar-parts (var n) h = absurd (true≢false h)
 grammar-parts (call k ts) h = passes _ anOperation refl ∙ arguments-pass 0 ts

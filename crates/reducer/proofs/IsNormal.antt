@@ -53,7 +53,8 @@ short limit tables words h =
 
 module _ (tables : Tables) (words : List ℕ) (r : Checked) (e : r ≡ checkedOf (elaborate otherLimit tables words)) where
   -- refused by a check
-  pub refused-tested : (r .refusal ≡ 0 → ⊥) → _≡_ {A = Tested} (record { refusal = r .refusal; normal = false }) (isNormalOutcome tables words)
+  pub refused-tested : (r .refusal ≡ 0 → ⊥) → _≡_ {A = Tested} (record { refusal = r .refusal; normal = false })
+      (isNormalOutcome tables words)
   unfolding isNormalOutcome
   refused-tested z = ap testedOf (sym (refused-of otherLimit tables words r e z))
 

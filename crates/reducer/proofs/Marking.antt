@@ -15,7 +15,8 @@ use Rattle.syntax.specs.Encoding.{size}
 use Rattle.syntax.specs.PartsUnder.{usesParts}
 use Rattle.syntax.specs.Values.{counts, uses, usesAll}
 use Rattle.syntax.proofs.PartsUnder.{uses-node}
-use Rattle.syntax.proofs.Sizes.{sizeAll, size-var, size-call, size-lam, size-app, size-bind, size-pair, size-fst, size-snd, size-inl, size-inr}
+use Rattle.syntax.proofs.Sizes.{sizeAll, size-var, size-call, size-lam, size-app, size-bind, size-pair, size-fst, size-snd, size-inl}
+use Rattle.syntax.proofs.Sizes.{size-inr}
 use Rattle.syntax.proofs.Sizes.{size-case, size-done, size-arg}
 use Rattle.reducer.specs.Marks.{Marked, Space}
 
@@ -99,7 +100,8 @@ pub mark-leave : {old new : List ℕ} {depth k j : ℕ} {t : Term} → Marking o
 unfolding usesParts
 mark-leave m = record { marks = λ d h. omega (arith, m .so-far d h) }
 
-module _ {mid opened new : List ℕ} {depth b : ℕ} {part : Term} (o : Opened mid opened depth b) (a : Marked part (depth + b) opened new) where
+module _ {mid opened new : List ℕ} {depth b : ℕ} {part : Term} (o : Opened mid opened depth b)
+    (a : Marked part (depth + b) opened new) where
   -- a part adds its uses to the marks of the binders in scope
   pub part-marks : (d : ℕ) → d < depth → getD new d 0 ≡ getD mid d 0 + uses part (depth - 1 - d + b)
   part-marks d h =
@@ -136,7 +138,8 @@ pub record Grown (old new : List ℕ) (depth at : ℕ) : Type 0 where
 pub grown-none : (old : List ℕ) (depth at : ℕ) → Grown old old depth at
 grown-none old depth at = record { len = refl; by = λ d h. omega arith }
 
-pub grown-next : {old mid opened new : List ℕ} {depth b at : ℕ} {part : Term} → Opened mid opened depth b → Marked part (depth + b) opened new
+pub grown-next : {old mid opened new : List ℕ} {depth b at : ℕ} {part : Term} → Opened mid opened depth b
+    → Marked part (depth + b) opened new
     → length new ≡ length opened → Grown old mid depth at → (l : ℕ) → l ≡ size part → Grown old new depth (at + l)
 grown-next {depth = depth} {b = b} {part = part} o a le g l e = record {
   len = le ∙ o .len ∙ g .len;

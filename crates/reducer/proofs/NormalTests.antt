@@ -33,7 +33,8 @@ use Rattle.reducer.proofs.ByParts.{allPass, partPasses, value-kind, gra
 use Rattle.reducer.proofs.TestedParts.{refused, Testing, test-enter, test-fails, test-space, test-reached, test-next}
 
 -- what a test of a slice said of a term at its front
-module _ {test : Term → Bool} {calls words : List ℕ} {depth : ℕ} {old new : List ℕ} {r : Part} (a : Tests test calls words depth old new r) where
+module _ {test : Term → Bool} {calls words : List ℕ} {depth : ℕ} {old new : List ℕ} {r : Part}
+    (a : Tests test calls words depth old new r) where
   pub said-no : not (r .ok) ≡ true → (t : Term) (rest : List ℕ) → Holds calls words t rest → test t ≡ false
   said-no e t rest h = sym (a .told t rest h .ok-is) ∙ not-true (r .ok) e
 
@@ -191,6 +192,7 @@ module _ {calls words old : List ℕ} {depth k : ℕ} {mid : List ℕ} {n at j :
         (said-yes a ok) value-passed
 
     -- a turn of the loop over the parts of a pair or an injection
-    pub values-next : length new ≡ length mid → Testing isNormalValue (λ i. isNormalValue) calls words old depth k new n (at + r .end) (j + 1)
+    pub values-next : length new ≡ length mid → Testing isNormalValue (λ i. isNormalValue) calls words old depth k new n (at + r .end)
+        (j + 1)
     values-next = test-next isNormalValue (λ i. isNormalValue) calls words old depth k g lt (open-none mid depth) (omega arith) bz r
         (said-yes a ok) value-passed

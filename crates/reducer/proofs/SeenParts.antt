@@ -102,11 +102,13 @@ module _ {calls words : List ℕ} (start : Starts calls words) (old : List ℕ) 
         };
   }
 
-module _ {calls words old mid : List ℕ} {depth k : ℕ} {s : Seen} {n at j : ℕ} (g : Scanning calls words old mid depth k s n at j) (lt : j < n)
+module _ {calls words old mid : List ℕ} {depth k : ℕ} {s : Seen} {n at j : ℕ} (g : Scanning calls words old mid depth k s n at j)
+    (lt : j < n)
     {opened : List ℕ} {b : ℕ} (o : Opened mid opened depth b) (bl : b ≤ 1) where
   -- the part's words can be gone through
   pub scan-space : Space old depth (length words) → Space opened (depth + b) (length (from words at))
-  scan-space sp = space-next (length words) (length (from words at)) o bl (g .grown) sp (g .going .low) (g .going .high) (from-length words at)
+  scan-space sp = space-next (length words) (length (from words at)) o bl (g .grown) sp (g .going .low) (g .going .high)
+      (from-length words at)
 
   module _ (be : b ≡ bindersAt k j) {new : List ℕ} {r : Scan} (a : Scans calls (from words at) (depth + b) opened new r) where
     -- what is found in the part lies in the words
@@ -122,8 +124,13 @@ module _ {calls words old mid : List ℕ} {depth k : ℕ} {s : Seen} {n at j : �
       scanned-part t rest h part later holds q =
           let p = a .told part _ holds in
           let end-is : r .end ≡ size part = ap (λ (x : Scan). x .end) (p .answer) in
-          let same : s′ ≡ sawOf k j at s (scanOf part) (uses part 0) = se ∙ ap (λ (x : Scan). sawOf k j at s x (getD new depth 0)) (p .answer)
-          ∙ ap (λ (d : Bool). record { values = sawOf k j at s (scanOf part) 0 .values; drops = d; found = sawOf k j at s (scanOf part) 0 .found })
+          let same : s′ ≡ sawOf k j at s (scanOf part) (uses part 0) = se
+          ∙ ap (λ (x : Scan). sawOf k j at s x (getD new depth 0)) (p .answer)
+          ∙ ap (λ (d : Bool). record {
+            values = sawOf k j at s (scanOf part) 0 .values;
+            drops = d;
+            found = sawOf k j at s (scanOf part) 0 .found;
+          })
           (drops-mark k j (s .values) _ _ λ e. own-mark o (p .marked) (be ∙ e)) in (
             end-is,
             record {

@@ -45,7 +45,8 @@ module _ (test : Term → Bool) (each : ℕ → Term → Bool) (calls words : Li
   }
 
   -- after the last part
-  pub test-leave : {new : List ℕ} {n at j : ℕ} → Testing new n at j → n ≤ j → Tests test calls words depth old new (record { end = at; ok = true })
+  pub test-leave : {new : List ℕ} {n at j : ℕ} → Testing new n at j → n ≤ j
+      → Tests test calls words depth old new (record { end = at; ok = true })
   unfolding allPass
   test-leave g ge = record {
     told = λ t rest h.
@@ -70,7 +71,8 @@ module _ (test : Term → Bool) (each : ℕ → Term → Bool) (calls words : Li
     module _ {opened : List ℕ} {b : ℕ} (o : Opened mid opened depth b) (bl : b ≤ 1) where
       -- its words can be gone through
       pub test-space : Space old depth (length words) → Space opened (depth + b) (length (from words at))
-      test-space s = space-next (length words) (length (from words at)) o bl (g .grown) s (g .going .low) (g .going .high) (from-length words at)
+      test-space s = space-next (length words) (length (from words at)) o bl (g .grown) s (g .going .low) (g .going .high)
+          (from-length words at)
 
       module _ (be : b ≡ bindersAt k j) {new : List ℕ} (r : Part)
           (ok : Part-is (λ part. each j part ≡ true)) (a : Part-is (λ part. Passed part (depth + b) opened new r)) where

@@ -19,7 +19,8 @@ use Rattle.reduction.specs.declared.Phase.the-variants.{Dropping}
 use Rattle.reduction.specs.Rules.{allPure, drop, fire, rules, lower}
 use Rattle.reduction.specs.Redex.{contract, step, foundOf, firstRedex}
 use Rattle.reduction.specs.FitByKinds.{valueKind}
-use Rattle.reduction.proofs.Structure.{Hit, _or_, inside, stepOf, hitOf, here, find, finds, find-var, finds-done, find-call, find-lam, find-app}
+use Rattle.reduction.proofs.Structure.{Hit, _or_, inside, stepOf, hitOf, here, find, finds, find-var, finds-done, find-call, find-lam}
+use Rattle.reduction.proofs.Structure.{find-app}
 use Rattle.reduction.proofs.Structure.{find-bind, find-pair, find-fst, find-snd, find-inl, find-inr, find-case, finds-arg, step-find}
 use Rattle.reducer.specs.Searches.{movedBy}
 use Rattle.reducer.specs.Scans.{scanOf, orElse, dropsAt, valueBy, sawOf, endScan}
@@ -101,7 +102,8 @@ let-here e b = go (isValue e) (eqb (uses b 0) 0) (rename b lower)
 -- what is found in two parts and in three
 in-two : {X : Type 0} (n m : ℕ) (C D : Term → X) (a b : Term)
     → hitFound (inside n C (find allPure Dropping a) or inside m D (find allPure Dropping b)) ≡ orElse (movedBy n (F a)) (movedBy m (F b))
-in-two n m C D a b = or-parts (inside n C (find allPure Dropping a)) (inside m D (find allPure Dropping b)) (movedBy n (F a)) (movedBy m (F b))
+in-two n m C D a b = or-parts (inside n C (find allPure Dropping a)) (inside m D (find allPure Dropping b)) (movedBy n (F a))
+    (movedBy m (F b))
     (in-part n C a) (in-part m D b)
 
 in-three : {X : Type 0} (n m l : ℕ) (C D E : Term → X) (a b c : Term)
@@ -109,7 +111,8 @@ in-three : {X : Type 0} (n m l : ℕ) (C D E : Term → X) (a b c : Term)
     (inside m D (find allPure Dropping b) or inside l E (find allPure Dropping c)))
     ≡ orElse (orElse (movedBy n (F a)) (movedBy m (F b))) (movedBy l (F c))
 in-three n m l C D E a b c =
-    or-parts (inside n C (find allPure Dropping a)) (inside m D (find allPure Dropping b) or inside l E (find allPure Dropping c)) (movedBy n (F a))
+    or-parts (inside n C (find allPure Dropping a)) (inside m D (find allPure Dropping b) or inside l E (find allPure Dropping c))
+    (movedBy n (F a))
     (orElse (movedBy m (F b)) (movedBy l (F c))) (in-part n C a) (in-two m l D E b c)
     ∙ sym (or-assoc (movedBy n (F a)) (movedBy m (F b)) (movedBy l (F c)))
 
@@ -119,23 +122,28 @@ arguments-found : (j at : ℕ) (s : Seen) (ts : Terms) → s .drops ≡ false
 unfolding seenAfter sawOf endScan dropsAt scanOf
 arguments-found j at s done e =
     ap (λ (b : Bool). cond b (Redex Drop 0) (s .found)) e
-    ∙ sym (ap (λ (o : Option (Hit Terms)). orElse (s .found) (movedBy at (hitFound o))) (finds-done allPure Dropping) ∙ or-nothing (s .found))
+    ∙ sym (ap (λ (o : Option (Hit Terms)). orElse (s .found) (movedBy at (hitFound o))) (finds-done allPure Dropping)
+    ∙ or-nothing (s .found))
 arguments-found j at s (arg t ts) e =
     arguments-found (suc j) (at + size t) (sawOf 1 j at s (scanOf t) (uses t 0)) ts refl
     ∙ or-assoc (s .found) (movedBy at (F t)) (movedBy (at + size t) (hitFound (finds allPure Dropping ts)))
     ∙ ap (orElse (s .found)) (sym (ap (λ (o : Option (Hit Terms)). movedBy at (hitFound o)) (finds-arg allPure Dropping t ts) ∙ split))
   where
-    split : movedBy at (hitFound (inside 0 (λ x. arg x ts) (find allPure Dropping t) or inside (size t) (λ x. arg t x) (finds allPure Dropping ts)))
+    split : movedBy at (hitFound
+        (inside 0 (λ x. arg x ts) (find allPure Dropping t) or inside (size t) (λ x. arg t x) (finds allPure Dropping ts)))
         ≡ orElse (movedBy at (F t)) (movedBy (at + size t) (hitFound (finds allPure Dropping ts)))
     split =
-        ap (movedBy at) (or-parts (inside 0 (λ x. arg x ts) (find allPure Dropping t)) (inside (size t) (λ x. arg t x) (finds allPure Dropping ts))
-        (movedBy 0 (F t)) (movedBy (size t) (hitFound (finds allPure Dropping ts))) (in-part 0 (λ x. arg x ts) t) (found-inside (size t) (λ x. arg t x) (finds allPure Dropping ts)))
+        ap (movedBy at) (or-parts (inside 0 (λ x. arg x ts) (find allPure Dropping t))
+        (inside (size t) (λ x. arg t x) (finds allPure Dropping ts))
+        (movedBy 0 (F t)) (movedBy (size t) (hitFound (finds allPure Dropping ts))) (in-part 0 (λ x. arg x ts) t)
+        (found-inside (size t) (λ x. arg t x) (finds allPure Dropping ts)))
         ∙ moved-or at (movedBy 0 (F t)) (movedBy (size t) (hitFound (finds allPure Dropping ts)))
         ∙ ap₂ orElse (moved-moved at 0 (F t) ∙ ap (λ (i : ℕ). movedBy i (F t)) (add-zero at))
         (moved-moved at (size t) (hitFound (finds allPure Dropping ts)))
 
 -- a let comes before its parts
-let-first : (d : Bool) (x : Option (Hit Term)) (h : Option (Hit Term)) (f : Found) → hitFound h ≡ cond d (Redex Drop 0) Nothing → hitFound x ≡ f
+let-first : (d : Bool) (x : Option (Hit Term)) (h : Option (Hit Term)) (f : Found) → hitFound h ≡ cond d (Redex Drop 0) Nothing
+    → hitFound x ≡ f
     → hitFound (h or x) ≡ cond d (Redex Drop 0) f
 let-first true x h f e d = found-or h x ∙ ap (λ (g : Found). orElse g (hitFound x)) e
 let-first false x h f e d = found-or h x ∙ ap (λ (g : Found). orElse g (hitFound x)) e ∙ d
@@ -149,7 +157,8 @@ unfolding contract fire rules drop asBind partsOf node seenAfter sawOf endScan d
 found-node (var n) z = absurd (z refl)
 found-node (call k ts) z = first-find (call k ts) ∙ ap (λ (o : Option (Hit Term)). hitFound o) (find-call allPure Dropping k ts)
     ∙ found-inside 1 (call k) (finds allPure Dropping ts) ∙ sym (arguments-found 0 1 unseen ts refl)
-found-node (lam A b) z = first-find (lam A b) ∙ ap (λ (o : Option (Hit Term)). hitFound o) (find-lam allPure Dropping A b) ∙ in-part 1 (lam A) b
+found-node (lam A b) z = first-find (lam A b) ∙ ap (λ (o : Option (Hit Term)). hitFound o) (find-lam allPure Dropping A b)
+    ∙ in-part 1 (lam A) b
 found-node (app f a) z = first-find (app f a) ∙ ap (λ (o : Option (Hit Term)). hitFound o) (find-app allPure Dropping f a)
     ∙ in-two 1 (1 + size f) (λ x. app x a) (λ x. app f x) f a
 found-node (bind e b) z = first-find (bind e b) ∙ ap (λ (o : Option (Hit Term)). hitFound o) (find-bind allPure Dropping e b)
@@ -161,8 +170,10 @@ found-node (pair A a b) z = first-find (pair A a b) ∙ ap (λ (o : Option (Hit 
     ∙ in-two 1 (1 + size a) (λ x. pair A x b) (λ x. pair A a x) a b
 found-node (fst a) z = first-find (fst a) ∙ ap (λ (o : Option (Hit Term)). hitFound o) (find-fst allPure Dropping a) ∙ in-part 1 fst a
 found-node (snd a) z = first-find (snd a) ∙ ap (λ (o : Option (Hit Term)). hitFound o) (find-snd allPure Dropping a) ∙ in-part 1 snd a
-found-node (inl A a) z = first-find (inl A a) ∙ ap (λ (o : Option (Hit Term)). hitFound o) (find-inl allPure Dropping A a) ∙ in-part 1 (inl A) a
-found-node (inr A a) z = first-find (inr A a) ∙ ap (λ (o : Option (Hit Term)). hitFound o) (find-inr allPure Dropping A a) ∙ in-part 1 (inr A) a
+found-node (inl A a) z = first-find (inl A a) ∙ ap (λ (o : Option (Hit Term)). hitFound o) (find-inl allPure Dropping A a)
+    ∙ in-part 1 (inl A) a
+found-node (inr A a) z = first-find (inr A a) ∙ ap (λ (o : Option (Hit Term)). hitFound o) (find-inr allPure Dropping A a)
+    ∙ in-part 1 (inr A) a
 found-node (case s l r) z = first-find (case s l r) ∙ ap (λ (o : Option (Hit Term)). hitFound o) (find-case allPure Dropping s l r)
     ∙ in-three 1 (1 + size s) (1 + size s + size l) (λ x. case x l r) (λ x. case s x r) (λ x. case s l x) s l r
 

@@ -28,6 +28,7 @@ searchable-at q {calls} {words} {i} {marks} e s = subst (λ (x : Phase). Searcha
 
 finds-at : {p : Phase} (q : Phase) {calls words : List ℕ} {i : ℕ} {r : Found} → p ≡ q → Finds q calls words i r → Finds p calls words i r
 finds-at q {calls} {words} {i} {r} e s = subst (λ (x : Phase). Finds x calls words i r) (sym e) s
+
 continues-at : {p : Phase} (q : Phase) {calls words : List ℕ} → p ≡ q → Continues q calls words → Continues p calls words
 continues-at q {calls} {words} e s = subst (λ (x : Phase). Continues x calls words) (sym e) s
 
@@ -52,14 +53,16 @@ find-spec =
     (λ c κs.
     let enum-told = c .before .enum-told in
     let pre = c .before .before .before .before .before .before .pre in
-    let args = c .before .before .before .before .before .before .args in
-    (continues-at Insertion (enum-told .given .1) (continues insertion-ready (searchable-at Insertion (enum-told .given .1) (pre))), omega
-        (arith, from-length (args .term .now) (args .from), pre .small)))
+    let args = c .before .before .before .before .before .before .args in (
+      continues-at Insertion (enum-told .given .1) (continues insertion-ready (searchable-at Insertion (enum-told .given .1) (pre))),
+      omega
+          (arith, from-length (args .term .now) (args .from), pre .small),
+    ))
     (λ c κs.
     let enum-told = c .before .before .enum-told in
     let pre = c .before .before .before .before .before .before .before .pre in
     found-small insertion-ready _ (searchable-at Insertion (enum-told .given .1) (pre))
-        (first-at Insertion (enum-told .given .1) (c .search .ensures)))
+    (first-at Insertion (enum-told .given .1) (c .search .ensures)))
     (λ c. search needs)
     (λ c.
     let pre = c .before .before .before .before .before .pre in
@@ -74,14 +77,16 @@ find-spec =
     (λ c κs.
     let enum-told2 = c .before .enum-told2 in
     let pre = c .before .before .before .before .before .before .pre in
-    let args = c .before .before .before .before .before .before .args in
-    (continues-at Reduction (enum-told2 .given .1) (continues reduction-ready (searchable-at Reduction (enum-told2 .given .1) (pre))), omega
-        (arith, from-length (args .term .now) (args .from), pre .small)))
+    let args = c .before .before .before .before .before .before .args in (
+      continues-at Reduction (enum-told2 .given .1) (continues reduction-ready (searchable-at Reduction (enum-told2 .given .1) (pre))),
+      omega
+          (arith, from-length (args .term .now) (args .from), pre .small),
+    ))
     (λ c κs.
     let enum-told2 = c .before .before .enum-told2 in
     let pre = c .before .before .before .before .before .before .before .pre in
     found-small reduction-ready _ (searchable-at Reduction (enum-told2 .given .1) (pre))
-        (first-at Reduction (enum-told2 .given .1) (c .search2 .ensures)))
+    (first-at Reduction (enum-told2 .given .1) (c .search2 .ensures)))
     (λ c. search needs)
     (λ c κs.
     let pre = c .before .before .before .before .before .before .pre in
@@ -89,11 +94,11 @@ find-spec =
     (λ c.
     let enum-told = c .before .before .before .enum-told in
     finds-at Insertion (enum-told .given .1)
-        (finds-from insertion-ready _ _ (first-at Insertion (enum-told .given .1) (c .before .search .ensures)) (c .moved-by .ensures)))
+    (finds-from insertion-ready _ _ (first-at Insertion (enum-told .given .1) (c .before .search .ensures)) (c .moved-by .ensures)))
     (λ c.
     let enum-told2 = c .before .before .before .enum-told2 in
     finds-at Reduction (enum-told2 .given .1)
-        (finds-from reduction-ready _ _ (first-at Reduction (enum-told2 .given .1) (c .before .search2 .ensures)) (c .moved-by2 .ensures)))
+    (finds-from reduction-ready _ _ (first-at Reduction (enum-told2 .given .1) (c .before .search2 .ensures)) (c .moved-by2 .ensures)))
     (λ c. search needs)
     (λ c.
     let enum-told3 = c .before .before .before .before .enum-told3 in

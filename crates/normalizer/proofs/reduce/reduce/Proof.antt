@@ -87,7 +87,7 @@ reduce-spec =
     let take-turn = c .before .before .before .before .before .before .before .before .before .take-turn in
     let turn2 = c .before .before .before .turn2 in
     inner-next _ _ (loop .inv) _ _ (take-turn .kept .1 .1 .0) (take-turn .kept .1 .1 .1 .1 .1 .1 .1 .0) _ _ (take-turn .ensures)
-        (turn2 .given .1) (c .before .raise .ensures) (c .next-from .ensures))
+    (turn2 .given .1) (c .before .raise .ensures) (c .next-from .ensures))
     (λ c. search needs)
     (λ c. omega (arith, ap phasesAfter (c .enum-told2 .given .1)))
     (λ c.
@@ -96,8 +96,8 @@ reduce-spec =
     let reduce = c .before .before .before .before .before .before .before .before .before .before .before .before .reduce in
     let loop = c .before .before .before .before .before .before .before .before .before .before .before .loop in
     leave _ _ _ _ _ _ _ _ _ _ _ _ _ _ _ _ _ _ _ _ _ (take-turn .ensures) (enum-told .given .1) (reduce .inv) (loop .inv) Insertion Reduction
-        (c .enum-told2 .given .1) (leaves-insertion _ _ _ _ _ _ _ _ _ _ _ _ _ _ _ _ _ _ _ _ _) (take-turn .kept .1 .1 .0)
-        (take-turn .kept .1 .1 .1 .1 .1 .1 .1 .0))
+    (c .enum-told2 .given .1) (leaves-insertion _ _ _ _ _ _ _ _ _ _ _ _ _ _ _ _ _ _ _ _ _) (take-turn .kept .1 .1 .0)
+    (take-turn .kept .1 .1 .1 .1 .1 .1 .1 .0))
     (λ c. search needs)
     (λ c. omega (arith, ap phasesAfter (c .enum-told3 .given .1)))
     (λ c.
@@ -106,8 +106,8 @@ reduce-spec =
     let reduce = c .before .before .before .before .before .before .before .before .before .before .before .before .reduce in
     let loop = c .before .before .before .before .before .before .before .before .before .before .before .loop in
     leave _ _ _ _ _ _ _ _ _ _ _ _ _ _ _ _ _ _ _ _ _ (take-turn .ensures) (enum-told .given .1) (reduce .inv) (loop .inv) Reduction Dropping
-        (c .enum-told3 .given .1) (leaves-reduction _ _ _ _ _ _ _ _ _ _ _ _ _ _ _ _ _ _ _ _ _) (take-turn .kept .1 .1 .0)
-        (take-turn .kept .1 .1 .1 .1 .1 .1 .1 .0))
+    (c .enum-told3 .given .1) (leaves-reduction _ _ _ _ _ _ _ _ _ _ _ _ _ _ _ _ _ _ _ _ _) (take-turn .kept .1 .1 .0)
+    (take-turn .kept .1 .1 .1 .1 .1 .1 .1 .0))
     (λ c. search needs)
     (λ c. search needs)
     (λ c. search needs)
@@ -120,10 +120,10 @@ reduce-spec =
     (λ c. search needs)
     (λ c.
     let args = c .before .before .before .before .before .before .before .before .before .before .before .before .before .before .before
-        .before .args in
+    .before .args in
     let take-turn = c .before .before .before .before .before .before .before .before .take-turn in
     let enum-told = c .before .before .enum-told in
     let reduce = c .before .before .before .before .before .before .before .before .before .before .before .before .reduce in
     let loop = c .before .before .before .before .before .before .before .before .before .before .before .loop in
     end _ _ _ _ _ _ _ _ _ _ _ _ _ _ _ _ _ _ _ _ (args .second .now) (take-turn .ensures) (enum-told .given .1) (reduce .inv) (loop .inv)
-        (c .enum-told4 .given .1) _ refl refl refl))
+    (c .enum-told4 .given .1) _ refl refl refl))

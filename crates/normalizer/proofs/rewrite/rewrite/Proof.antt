@@ -66,13 +66,15 @@ rewrite-spec =
     let measure = c .before .before .before .before .before .measure in
     let pre = c .before .before .before .before .before .before .before .before .before .before .before .pre in
     let args = c .before .before .before .before .before .before .before .before .before .before .before .args in
-    let if2 = c .before .before .before .if2 in
-    (planned _ _ _ _ _ _ (measure .ensures) (pre) (args .second .now) refl (if2 .left), small-part (args .current .now) (args .length)
-        (args .place) (omega (arith, pre .small, pre .limit))))
+    let if2 = c .before .before .before .if2 in (
+      planned _ _ _ _ _ _ (measure .ensures) (pre) (args .second .now) refl (if2 .left),
+      small-part (args .current .now) (args .length)
+          (args .place) (omega (arith, pre .small, pre .limit)),
+    ))
     (λ c κs.
     let measure = c .before .before .before .before .before .before .before .before .before .before .measure in
     let pre = c .before .before .before .before .before .before .before .before .before .before .before .before .before .before .before
-        .before .pre in
+    .before .pre in
     let write = c .before .before .before .before .write in
     let if2 = c .before .before .before .before .before .before .before .before .if2 in
     spliceable _ _ _ _ _ _ (measure .ensures) (pre) _ (write .kept .1 .1 .1 .0) (if2 .left))
@@ -82,8 +84,8 @@ rewrite-spec =
     let measure = c .before .before .before .before .before .before .before .before .before .before .before .before .before .measure in
     let write = c .before .before .before .before .before .before .before .write in
     let pre = c .before .before .before .before .before .before .before .before .before .before .before .before .before .before .before
-        .before .before .before .before .pre in
+    .before .before .before .before .pre in
     let if2 = c .before .before .before .before .before .before .before .before .before .before .before .if2 in
     let splice = c .before .before .splice in
     rewrites-next _ _ _ _ _ _ (measure .ensures) _ _ _ _ _ _ (write .kept .1 .1 .1 .0) (pre .scratch) refl (if2 .left) (write .ensures)
-        (splice .ensures)))
+    (splice .ensures)))

@@ -58,7 +58,7 @@ take-turn-spec =
     let found = c .before .before .before .before .found in
     let find = c .before .before .before .before .before .before .before .before .find in
     turn-rewritable _ (args .second .now) _ _ (pre) (sym (found .given .1) ∙ turn-finds (find .ensures) (pre .term) (pre .at)) _
-        (search needs))
+    (search needs))
     (λ c. search needs)
     (λ c. search needs)
     (λ c. search needs)
@@ -70,19 +70,19 @@ take-turn-spec =
     (λ c. search needs)
     (λ c.
     let find = c .before .before .before .before .before .before .before .before .before .before .before .before .before .before .before
-        .find in
+    .find in
     let found = c .before .before .before .before .before .before .before .before .before .before .before .found in
     let if1 = c .before .before .before .before .before .before .before .before .before .if1 in
     let rewrite = c .before .before .before .before .before .before .rewrite in
     turned-full _ _ _ _ _ _ (turn-finds (find .ensures)) (found .given .1) (omega (arith, if1 .left))
-        (told-as _ (c .enum-told2 .given .1) (rewrite .ensures)))
+    (told-as _ (c .enum-told2 .given .1) (rewrite .ensures)))
     (λ c. search needs)
     (λ c. search needs)
     (λ c.
     let find = c .before .before .before .before .before .before .before .before .before .before .before .before .before .before .before
-        .before .find in
+    .before .find in
     let found = c .before .before .before .before .before .before .before .before .before .before .before .before .found in
     let if1 = c .before .before .before .before .before .before .before .before .before .before .if1 in
     let rewrite = c .before .before .before .before .before .before .before .rewrite in
     turned-goes _ _ _ _ _ _ (turn-finds (find .ensures)) (found .given .1) _ (omega (arith, if1 .left))
-        (told-as _ (c .before .rewritten .given .1) (rewrite .ensures))))
+    (told-as _ (c .before .rewritten .given .1) (rewrite .ensures))))

@@ -113,7 +113,8 @@ pub +first-unused-spec : {M : Type 1} → statement M
       (
         part-starts _ _ (loop .inv .going) (loop-test .taken),
         scan-space (loop .inv) (loop-test .taken)
-            (open-set _ _ _ (omega (arith, pre .1 .1 .deep, not-empty (pre .1 .0), loop .inv .grown .len))) (binders .ensures .1) (pre .1 .1),
+            (open-set _ _ _ (omega (arith, pre .1 .1 .deep, not-empty (pre .1 .0), loop .inv .grown .len))) (binders .ensures .1)
+            (pre .1 .1),
       ),
     ))
     (λ c.

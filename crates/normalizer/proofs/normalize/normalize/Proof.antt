@@ -1,0 +1,60 @@
+-- The run's outcome with both scratch buffers cleared is the definition's; the claim follows from the equation.
+use Prim.Native.Nat.{ℕ}
+use mathlib.Core.Path.{_≡_, refl, sym, _∙_, ap, subst}
+use mathlib.Core.List.{List}
+use lib.ListN.{length}
+use Rattle.syntax.specs.Tables.{Tables}
+use Rattle.reduction.specs.Reduction.{Settings}
+use Rattle.outcomes.specs.Buffers.{overwrite, cleared}
+use Rattle.outcomes.specs.Normalize.{Buffers, Outcome, normalizeWithin, capacityOf, normalizeOutcome}
+use Rattle.outcomes.specs.Contract.{Normalizes}
+use Rattle.outcomes.specs.declared.Answer.{Answer}
+use Rattle.theory.proofs.Contracted.{normalizes}
+use Rattle.normalizer.specs.Runs.{Runs}
+use borrow.Author.Needs.{needs}
+use Rattle.normalizer.proofs.normalize.normalize.Statement.{statement}
+use Rattle.normalizer.proofs.normalize.normalize.Tie as tie
+use Rattle.normalizer.proofs.normalize.normalize.Reads as reads
+use Rattle.normalizer.proofs.normalize.normalize.Lts as lts
+use Rattle.normalizer.proofs.moves.clear.Reads as clear-reads
+use Rattle.normalizer.proofs.normalize.run.Reads as run-reads
+
+same-cleared : (l m : List ℕ) → length l ≡ length m → cleared l ≡ cleared m
+unfolding cleared
+same-cleared l m e = rw e
+
+outcome : (settings : Settings) (tables : Tables) (words : List ℕ) (before : Buffers) (a : Answer)
+    (output first second first′ second′ : List ℕ)
+    → Runs settings tables words before a output → first′ ≡ cleared first → second′ ≡ cleared second
+    → length first ≡ length (before .scratch₁) → length second ≡ length (before .scratch₂)
+    → Normalizes settings tables words before a (record { output = output; scratch₁ = first′; scratch₂ = second′ })
+unfolding normalizeOutcome
+outcome settings tables words before a output first second first′ second′ r fe se fl sl =
+    normalizes settings tables words before a _
+    (made (r .answer-is) (r .output-is) (fe ∙ same-cleared first (before .scratch₁) fl) (se ∙ same-cleared second (before .scratch₂) sl))
+  where
+    made : {a b : Answer} {o p f g s h : List ℕ} → a ≡ b → o ≡ p → f ≡ g → s ≡ h
+        → _≡_ {A = Outcome} (record { answer = a; buffers = record { output = o; scratch₁ = f; scratch₂ = s } })
+        (record { answer = b; buffers = record { output = p; scratch₁ = g; scratch₂ = h } })
+    made {a} {b} {o} {p} {f} {g} {s} {h} x y z w =
+        ap (λ (u : Answer). record { answer = u; buffers = record { output = o; scratch₁ = f; scratch₂ = s } }) x
+        ∙ ap (λ (u : List ℕ). record { answer = b; buffers = record { output = u; scratch₁ = f; scratch₂ = s } }) y
+        ∙ ap (λ (u : List ℕ). record { answer = b; buffers = record { output = p; scratch₁ = u; scratch₂ = s } }) z
+        ∙ ap (λ (u : List ℕ). record { answer = b; buffers = record { output = p; scratch₁ = g; scratch₂ = u } }) w
+
+pub normalize-spec : {M : Type 1} → statement M
+normalize-spec =
+    tie.close
+    (tie.spec
+    (λ c κs. search needs)
+    (λ c κs. search needs)
+    (λ c κs. search needs)
+    (λ c. search needs)
+    (λ c. search needs)
+    (λ c. search needs)
+    (λ c.
+    let run = c .before .before .before .before .before .before .before .before .before .before .before .before .before .before .run in
+    let clear = c .before .before .before .before .before .before .clear in
+    let clear2 = c .before .before .clear2 in
+    outcome _ _ _ _ _ _ _ _ _ _ (run .ensures) (clear .ensures) (clear2 .ensures) (run .kept .1 .1 .1 .1 .1 .1 .0)
+    (run .kept .1 .1 .1 .1 .1 .1 .1 .0)))
