@@ -11,6 +11,7 @@ pub mod generate;
 pub mod lines;
 pub mod listing;
 pub mod normal_form;
+pub mod on_words;
 pub mod random;
 pub mod reduction;
 pub mod rules;
