@@ -5,6 +5,7 @@ pub mod api;
 pub mod bundle;
 pub mod checks;
 pub mod coding;
+pub mod corpus;
 pub mod deep_stack;
 pub mod definitions;
 pub mod generate;

@@ -1,5 +1,7 @@
 //! The command: `reference SUBCOMMAND [ARGUMENTS]`, see `USAGE`.
 
+use reference::corpus::contents::records;
+use reference::corpus::corpus;
 use reference::deep_stack::with_deep_stack;
 use reference::definitions::check::run_check;
 use reference::definitions::repository::write_repository;
@@ -9,6 +11,7 @@ use reference::lines::runs::run_line;
 use reference::listing::respond;
 use reference::random::Random;
 use std::env;
+use std::fs;
 use std::io::{self, BufWriter, Error, Read, Write};
 use std::path::Path;
 use std::process::ExitCode;
@@ -22,6 +25,7 @@ const USAGE: &str = "usage: reference SUBCOMMAND
                       the definitions of REPOSITORY/crates checked against such lines by rt, in a
                       repository written into DIR: COUNT cases, a fifth as many bundles, a quarter
                       as many runs
+  corpus STDIN STDOUT the records of a test program, and what it writes
 ";
 
 /// A bundle is refused from this length on, so that no more is read.
@@ -50,6 +54,7 @@ fn dispatch(arguments: &[String]) -> io::Result<bool> {
         ["cases", seed, count] => print_lines(seed, count, case_line),
         ["bundles", seed, count] => print_lines(seed, count, bundle_line),
         ["runs", seed, count] => print_lines(seed, count, run_line),
+        ["corpus", input, output] => write_corpus(Path::new(input), Path::new(output)),
         ["definitions", repository, folder, seed, count] => {
             check_definitions(Path::new(repository), Path::new(folder), seed, count)
         }
@@ -74,6 +79,13 @@ fn print_lines(seed: &str, count: &str, line: fn(&mut Random) -> String) -> io::
         writeln!(output, "{}", line(&mut random))?;
     }
     output.flush()?;
+    Ok(true)
+}
+
+fn write_corpus(input: &Path, output: &Path) -> io::Result<bool> {
+    let corpus = corpus(&records());
+    fs::write(input, corpus.input)?;
+    fs::write(output, corpus.output)?;
     Ok(true)
 }
 
