@@ -1,7 +1,7 @@
 //! The checks 1 to 9 in their order, on words.
 
-use super::depths::Depths;
-use super::nodes::{kind, number, part_count};
+use super::depths::{part_count, Depths};
+use super::nodes::{kind, number};
 use super::typing::type_of;
 use crate::checks::{Refusal, LONGEST_TO_NORMALIZE, MOST_CALLS, MOST_INPUTS, MOST_TYPES};
 use crate::words::*;
@@ -89,10 +89,9 @@ fn is_one_term(term: &[u64], calls: &[u64]) -> bool {
 /// Every variable names a binder or an input.
 fn variables_fit(term: &[u64], calls: &[u64], inputs: usize) -> bool {
     let mut depths = Depths::new();
-    depths.begin(0);
+    let mut cursor = depths.begin(0);
     for &word in term {
-        let Some(depth) = depths.current() else { break };
-        depths.pass(word, depth, calls);
+        let depth = cursor.pass(word, calls);
         if kind(word) == VARIABLE && number(word) >= depth as usize + inputs {
             return false;
         }

@@ -14,5 +14,5 @@ mod typing;
 mod usage;
 mod walk;
 
-pub use normalize::normalize;
+pub use normalize::{normalize, normalize_and_measure};
 pub use respond::respond;

@@ -1,5 +1,6 @@
-//! Term words by their kind: how many parts follow, which parts are values, where a part ends.
+//! Term words by their kind: their fields, which parts are values, where a part ends.
 
+use super::depths::part_count;
 use crate::words::*;
 
 const NUMBER_MASK: u64 = (1 << 30) - 1;
@@ -7,11 +8,13 @@ const NUMBER_MASK: u64 = (1 << 30) - 1;
 /// What one is in a term word's number field.
 pub const ONE: u64 = 1 << 30;
 
+#[inline(always)]
 pub fn kind(word: u64) -> u64 {
     word >> 60
 }
 
 /// The number of a variable or a call.
+#[inline(always)]
 pub fn number(word: u64) -> usize {
     (word >> 30 & NUMBER_MASK) as usize
 }
@@ -24,17 +27,6 @@ pub fn type_number(word: u64) -> usize {
 /// The number of arguments of a call word's signature.
 pub fn argument_count(signature: u64) -> usize {
     (signature >> 60) as usize
-}
-
-/// The number of parts of the node with this word.
-pub fn part_count(word: u64, calls: &[u64]) -> usize {
-    match kind(word) {
-        VARIABLE => 0,
-        CALL => argument_count(calls[number(word)]),
-        FUNCTION | FIRST | SECOND | LEFT | RIGHT => 1,
-        APPLICATION | LET | PAIR => 2,
-        _ => 3,
-    }
 }
 
 /// The number of parts in operand positions; they come first.

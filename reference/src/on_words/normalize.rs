@@ -2,7 +2,7 @@
 
 use super::checks::examine;
 use super::rewrite::Buffers;
-use super::walk::walk;
+use super::walk::{walk, Record};
 use crate::api::{Answer, LARGEST_CAPACITY};
 use crate::checks::Refusal;
 
@@ -19,12 +19,25 @@ pub fn normalize(
     first_scratch: &mut [u64],
     second_scratch: &mut [u64],
 ) -> Answer {
+    let buffers = [output, first_scratch, second_scratch];
+    normalize_and_measure(types, calls, inputs, term, budget, buffers).0
+}
+
+/// The same, and the length of the longest term on the walk.
+pub fn normalize_and_measure(
+    types: &[u64],
+    calls: &[u64],
+    inputs: &[u64],
+    term: &[u64],
+    budget: u32,
+    [output, first_scratch, second_scratch]: [&mut [u64]; 3],
+) -> (Answer, usize) {
     let capacity = output
         .len()
         .min(first_scratch.len())
         .min(second_scratch.len())
         .min(LARGEST_CAPACITY);
-    let mut counts = [0; 10];
+    let mut record = Record::default();
     let mut buffers = Buffers {
         current: first_scratch,
         length: term.len(),
@@ -35,7 +48,7 @@ pub fn normalize(
             return Err(Refusal::Capacity);
         }
         buffers.current[..term.len()].copy_from_slice(term);
-        walk(&mut buffers, calls, budget, capacity, &mut counts)?;
+        walk(&mut buffers, calls, budget, capacity, &mut record)?;
         Ok(type_number)
     });
     let answer = match result {
@@ -46,12 +59,12 @@ pub fn normalize(
                 refusal: 0,
                 type_number,
                 length: normal_form.len(),
-                counts,
+                counts: record.counts,
             }
         }
-        Err(refusal) => Answer::refused(refusal, counts),
+        Err(refusal) => Answer::refused(refusal, record.counts),
     };
     first_scratch.fill(0);
     second_scratch.fill(0);
-    answer
+    (answer, record.longest)
 }

@@ -4,27 +4,27 @@ use super::depths::Depths;
 use super::nodes::{kind, number, ONE};
 use crate::words::VARIABLE;
 
+/// Whether a word is a variable that names something outside so many binders.
+#[inline(always)]
+fn is_outside(word: u64, depth: u32) -> bool {
+    kind(word) == VARIABLE && number(word) >= depth as usize
+}
+
 /// Adds one to each variable of the part that names something outside `cutoff` binders.
 pub fn raise(part: &mut [u64], cutoff: u32, calls: &[u64], depths: &mut Depths) {
-    depths.begin(cutoff);
+    let mut cursor = depths.begin(cutoff);
     for word in part {
-        let Some(depth) = depths.current() else { break };
-        depths.pass(*word, depth, calls);
-        if kind(*word) == VARIABLE && number(*word) >= depth as usize {
-            *word += ONE;
-        }
+        let depth = cursor.pass(*word, calls);
+        *word += ONE * u64::from(is_outside(*word, depth));
     }
 }
 
 /// Takes one from each variable of a body that names something outside its binder, which goes.
 pub fn lower(body: &mut [u64], calls: &[u64], depths: &mut Depths) {
-    depths.begin(0);
+    let mut cursor = depths.begin(1);
     for word in body {
-        let Some(depth) = depths.current() else { break };
-        depths.pass(*word, depth, calls);
-        if kind(*word) == VARIABLE && number(*word) > depth as usize {
-            *word -= ONE;
-        }
+        let depth = cursor.pass(*word, calls);
+        *word -= ONE * u64::from(is_outside(*word, depth));
     }
 }
 
@@ -38,19 +38,17 @@ pub fn count_uses(
 ) -> (usize, usize) {
     let mut uses = 0;
     let mut at = start;
-    depths.begin(0);
-    while let Some(depth) = depths.current() {
+    let mut cursor = depths.begin(0);
+    while !cursor.is_done() {
         let word = words[at];
-        depths.pass(word, depth, calls);
-        if kind(word) == VARIABLE && number(word) == depth as usize {
-            uses += 1;
-        }
+        let depth = cursor.pass(word, calls);
+        uses += usize::from(word == u64::from(depth) * ONE);
         at += 1;
     }
     (uses, at)
 }
 
-/// Substitutes values for variables; it keeps two lists of depths, for the body and the value.
+/// Substitutes values for variables; it has depths for the body and for the value.
 pub struct Substitution {
     body_depths: Depths,
     value_depths: Depths,
@@ -74,46 +72,37 @@ impl Substitution {
         calls: &[u64],
     ) -> usize {
         let mut length = 0;
-        self.body_depths.begin(0);
+        let mut cursor = self.body_depths.begin(0);
         for &word in body {
-            let Some(depth) = self.body_depths.current() else {
-                break;
-            };
-            self.body_depths.pass(word, depth, calls);
-            if kind(word) == VARIABLE && number(word) >= depth as usize {
-                if number(word) == depth as usize {
-                    let copy = &mut target[length..length + value.len()];
-                    self.copy_value(copy, value, depth, calls);
-                    length += value.len();
-                    continue;
-                }
-                target[length] = word - ONE;
+            let depth = cursor.pass(word, calls);
+            if word == u64::from(depth) * ONE {
+                let end = length + value.len();
+                copy_value(
+                    &mut target[length..end],
+                    value,
+                    depth,
+                    calls,
+                    &mut self.value_depths,
+                );
+                length = end;
             } else {
-                target[length] = word;
+                target[length] = word - ONE * u64::from(is_outside(word, depth));
+                length += 1;
             }
-            length += 1;
         }
         length
     }
+}
 
-    /// Copies a value to under this many binders more.
-    fn copy_value(&mut self, target: &mut [u64], value: &[u64], binders: u32, calls: &[u64]) {
-        if binders == 0 {
-            target.copy_from_slice(value);
-            return;
-        }
-        self.value_depths.begin(0);
-        for (copy, &word) in target.iter_mut().zip(value) {
-            let Some(depth) = self.value_depths.current() else {
-                break;
-            };
-            self.value_depths.pass(word, depth, calls);
-            let is_outside = kind(word) == VARIABLE && number(word) >= depth as usize;
-            *copy = if is_outside {
-                word + u64::from(binders) * ONE
-            } else {
-                word
-            };
-        }
+/// Copies a value to under this many binders more.
+fn copy_value(target: &mut [u64], value: &[u64], binders: u32, calls: &[u64], depths: &mut Depths) {
+    if binders == 0 {
+        target.copy_from_slice(value);
+        return;
+    }
+    let mut cursor = depths.begin(0);
+    for (copy, &word) in target.iter_mut().zip(value) {
+        let depth = cursor.pass(word, calls);
+        *copy = word + u64::from(binders) * ONE * u64::from(is_outside(word, depth));
     }
 }

@@ -10,15 +10,23 @@ use crate::checks::Refusal;
 use crate::reduction::Counts;
 use crate::rules::{Phase, PHASES};
 
-/// Walks the current term to its normal form within the budget and the capacity; adds each step
-/// to the counts.
+/// What a walk did, up to its end or a refusal.
+#[derive(Default)]
+pub struct Record {
+    pub counts: Counts,
+    /// The length of the longest term.
+    pub longest: usize,
+}
+
+/// Walks the current term to its normal form within the budget and the capacity.
 pub fn walk(
     buffers: &mut Buffers,
     calls: &[u64],
     budget: u32,
     capacity: usize,
-    counts: &mut Counts,
+    record: &mut Record,
 ) -> Result<(), Refusal> {
+    record.longest = buffers.length;
     let mut depths = Depths::new();
     let mut substitution = Substitution::new();
     let mut usage = Usage::default();
@@ -35,7 +43,8 @@ pub fn walk(
             }
             buffers.rewrite(measured.plan, calls, &mut depths, &mut substitution);
             remaining -= 1;
-            counts[redex.rule as usize] += 1;
+            record.counts[redex.rule as usize] += 1;
+            record.longest = record.longest.max(buffers.length);
             from = match phase {
                 Phase::Insertion => redex.index,
                 // Before the redex only a let that binds it can have become one.

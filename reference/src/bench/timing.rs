@@ -1,0 +1,122 @@
+//! Timing: medians of repetitions that alternate between the implementations.
+
+use super::clock::processor_time;
+use super::workloads::Workload;
+use super::Implementation;
+use crate::on_words;
+use std::hint::black_box;
+use std::time::Duration;
+
+/// A repetition answers the bundles as often as takes this long, at least once.
+const SHORTEST_REPETITION: Duration = Duration::from_millis(5);
+/// Repetitions end after this time for each implementation, or after so many; there are at least
+/// three, or one if one takes that long.
+const ENOUGH: Duration = Duration::from_millis(1500);
+const MOST_REPETITIONS: usize = 21;
+const FEWEST_REPETITIONS: usize = 3;
+const LONG: Duration = Duration::from_secs(5);
+/// An implementation that is expected to take longer for one repetition is left out.
+const TOO_LONG: Duration = Duration::from_secs(60);
+/// A tree's step takes up to this long for each word of the longest term.
+const TREE_STEP_PER_WORD: Duration = Duration::from_nanos(60);
+
+/// The median, the least and the greatest time for the workload's bundles.
+#[derive(Clone, Copy, Debug)]
+pub struct Timing {
+    pub median: Duration,
+    pub least: Duration,
+    pub greatest: Duration,
+    pub repetitions: usize,
+}
+
+/// Times the workload with each implementation; all answers are compared first.
+pub fn time_all(workload: &Workload, implementations: &[Implementation]) -> Vec<Option<Timing>> {
+    let expected = answers(workload, on_words::respond);
+    let mut samplers: Vec<Option<Sampler>> = implementations
+        .iter()
+        .map(|implementation| {
+            if implementation.name == "trees" && tree_estimate(workload) > TOO_LONG {
+                return None;
+            }
+            let started = processor_time();
+            let found = answers(workload, implementation.respond);
+            let once = processor_time() - started;
+            assert!(
+                found == expected,
+                "{} answers otherwise",
+                implementation.name
+            );
+            Some(Sampler::new(implementation.respond, once))
+        })
+        .collect();
+    for _ in 0..MOST_REPETITIONS {
+        for sampler in samplers.iter_mut().flatten() {
+            sampler.repeat(workload);
+        }
+    }
+    let timings = samplers.into_iter();
+    timings
+        .map(|sampler| sampler.map(Sampler::timing))
+        .collect()
+}
+
+fn answers(workload: &Workload, respond: fn(&[u8]) -> Vec<u8>) -> Vec<Vec<u8>> {
+    let bundles = workload.bundles.iter();
+    bundles.map(|bundle| respond(bundle)).collect()
+}
+
+fn tree_estimate(workload: &Workload) -> Duration {
+    let visits = workload.steps.saturating_mul(workload.longest as u64);
+    TREE_STEP_PER_WORD.mul_f64(visits as f64)
+}
+
+/// The repetitions of one implementation so far.
+struct Sampler {
+    respond: fn(&[u8]) -> Vec<u8>,
+    /// How often a repetition answers the bundles.
+    rounds: u32,
+    is_long: bool,
+    spent: Duration,
+    times: Vec<Duration>,
+}
+
+impl Sampler {
+    fn new(respond: fn(&[u8]) -> Vec<u8>, once: Duration) -> Sampler {
+        let rounds = SHORTEST_REPETITION.as_secs_f64() / once.as_secs_f64().max(1e-9);
+        Sampler {
+            respond,
+            rounds: rounds.ceil() as u32,
+            is_long: once > LONG,
+            spent: Duration::ZERO,
+            times: Vec::new(),
+        }
+    }
+
+    /// One repetition more, if more are wanted.
+    fn repeat(&mut self, workload: &Workload) {
+        let fewest = if self.is_long { 1 } else { FEWEST_REPETITIONS };
+        if self.times.len() >= fewest && self.spent > ENOUGH {
+            return;
+        }
+        let started = processor_time();
+        for _ in 0..self.rounds {
+            for bundle in &workload.bundles {
+                black_box((self.respond)(black_box(bundle)));
+            }
+        }
+        let elapsed = processor_time() - started;
+        self.spent += elapsed;
+        self.times.push(elapsed / self.rounds);
+    }
+
+    fn timing(mut self) -> Timing {
+        self.times.sort();
+        let repetitions = self.times.len();
+        Timing {
+            median: self.times[repetitions / 2],
+            least: self.times[0],
+            greatest: self.times[repetitions - 1],
+            repetitions,
+        }
+    }
+}
