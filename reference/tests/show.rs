@@ -47,7 +47,7 @@ fn branches_and_inputs() {
     );
     let term = case(&variable(0), &on_left, &on_right);
     let expected = "\
-before: 10 words of type b0 × b0
+before: 11 words of type b0 × b0
   case i0 of
     left x0: (x0, i1)
     right x1:
