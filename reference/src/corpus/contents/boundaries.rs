@@ -23,6 +23,11 @@ impl Contents {
             term: Vec::new(),
             ..with_inputs(1)
         };
+        // The length is looked at before the words.
+        let bad_types = Sample {
+            types: vec![u64::MAX; 1025],
+            ..with_inputs(1)
+        };
         for sample in [
             with_types(1024),
             with_types(1025),
@@ -31,6 +36,7 @@ impl Contents {
             with_inputs(256),
             with_inputs(257),
             without_term,
+            bad_types,
         ] {
             self.all_calls(&sample, LONGEST);
         }
@@ -61,5 +67,7 @@ impl Contents {
         self.respond(largest.clone());
         largest.push(0);
         self.respond(largest);
+        // Too long, though its header says so.
+        self.respond(write_bundle(&[0; 4], &[0; 2], &[0; 6], &[0; 8180]));
     }
 }

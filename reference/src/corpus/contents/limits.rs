@@ -15,8 +15,10 @@ impl Contents {
             let budget = self.random.between(0, needs.steps as usize) as u32;
             let capacity = self.random.between(0, needs.capacity);
             self.normalize_within(&sample, budget, capacity);
-            self.normalize_within(&sample, 0, needs.capacity);
-            self.normalize_within(&sample, u32::MAX, 0);
+            // The input's own length comes first, then the budget, then the next term's length.
+            self.normalize_within(&sample, 0, sample.term.len() - 1);
+            self.normalize_within(&sample, 0, sample.term.len());
+            self.normalize_within(&sample, u32::MAX, sample.term.len());
         }
         for shape in moderate_shapes().into_iter().chain(moderate_deep_shapes()) {
             if let Some(needs) = needs(&shape.sample, MOST_STEPS) {
