@@ -2,18 +2,16 @@
 
 use reference::bench::plot::plot;
 use reference::bench::timing::{time_all, Timing};
-use reference::bench::workloads::Workload;
+use reference::bench::workloads::{self, Workload};
 use reference::bench::{implementations, report, Measurement};
 use reference::generate::shapes::doubling;
 use std::time::Duration;
 
 fn workload(steps: u64, longest: usize) -> Workload {
     Workload {
-        name: "made up".into(),
-        bundles: vec![doubling(3).bundle()],
-        words: 28,
         steps,
         longest,
+        ..workloads::workload("made up".into(), vec![doubling(3)])
     }
 }
 

@@ -3,6 +3,8 @@
 use super::clock::processor_time;
 use super::workloads::Workload;
 use super::Implementation;
+use crate::api::normalize;
+use crate::generate::limits::Limits;
 use crate::on_words;
 use std::hint::black_box;
 use std::time::Duration;
@@ -17,8 +19,8 @@ const FEWEST_REPETITIONS: usize = 3;
 const LONG: Duration = Duration::from_secs(5);
 /// An implementation that is expected to take longer for one repetition is left out.
 const TOO_LONG: Duration = Duration::from_secs(60);
-/// A tree's step takes up to this long for each word of the longest term.
-const TREE_STEP_PER_WORD: Duration = Duration::from_nanos(60);
+/// What it will take is estimated from the walks' first steps.
+const FIRST_STEPS: u32 = 1000;
 
 /// The median, the least and the greatest time for the workload's bundles.
 #[derive(Clone, Copy, Debug)]
@@ -65,9 +67,27 @@ fn answers(workload: &Workload, respond: fn(&[u8]) -> Vec<u8>) -> Vec<Vec<u8>> {
     bundles.map(|bundle| respond(bundle)).collect()
 }
 
+/// What the workload will take on trees: its first steps take as long as later ones.
 fn tree_estimate(workload: &Workload) -> Duration {
-    let visits = workload.steps.saturating_mul(workload.longest as u64);
-    TREE_STEP_PER_WORD.mul_f64(visits as f64)
+    let mut first_steps = 0;
+    let started = processor_time();
+    for sample in &workload.samples {
+        let limits = Limits::OF_PROGRAM;
+        let [mut output, mut first, mut second] = limits.lengths.map(|length| vec![0; length]);
+        let answer = normalize(
+            &sample.types,
+            &sample.calls,
+            &sample.inputs,
+            &sample.term,
+            FIRST_STEPS,
+            &mut output,
+            &mut first,
+            &mut second,
+        );
+        first_steps += answer.counts.iter().sum::<u32>();
+    }
+    let elapsed = processor_time() - started;
+    elapsed.mul_f64(workload.steps as f64 / f64::from(first_steps.max(1)))
 }
 
 /// The repetitions of one implementation so far.

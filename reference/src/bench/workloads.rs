@@ -9,9 +9,10 @@ const TYPICAL_TERMS: usize = 200;
 /// Random terms with longer walks are not typical.
 const TYPICAL_STEPS: u64 = 1000;
 
-/// Bundles that are answered one after another.
+/// Samples that are answered one after another.
 pub struct Workload {
     pub name: String,
+    pub samples: Vec<Sample>,
     pub bundles: Vec<Vec<u8>>,
     /// Words of the terms, steps of the walks, and words of the longest term on any walk.
     pub words: usize,
@@ -19,20 +20,17 @@ pub struct Workload {
     pub longest: usize,
 }
 
-fn workload(name: String, samples: &[Sample]) -> Workload {
-    let mut workload = Workload {
+/// A workload of these samples.
+pub fn workload(name: String, samples: Vec<Sample>) -> Workload {
+    let walks: Vec<(u64, usize)> = samples.iter().map(walk_of).collect();
+    Workload {
         name,
         bundles: samples.iter().map(Sample::bundle).collect(),
         words: samples.iter().map(|sample| sample.term.len()).sum(),
-        steps: 0,
-        longest: 0,
-    };
-    for sample in samples {
-        let (steps, longest) = walk_of(sample);
-        workload.steps += steps;
-        workload.longest = workload.longest.max(longest);
+        steps: walks.iter().map(|walk| walk.0).sum(),
+        longest: walks.iter().map(|walk| walk.1).max().unwrap_or(0),
+        samples,
     }
-    workload
 }
 
 /// The steps and the longest term of the sample's walk within the program's limits.
@@ -56,13 +54,13 @@ pub fn all() -> Vec<Workload> {
     let mut typical = typical(1, TYPICAL_TERMS);
     typical.retain(|sample| walk_of(sample).0 <= TYPICAL_STEPS);
     let name = format!("{} typical terms of 13 to 110 words", typical.len());
-    let mut workloads = vec![workload(name, &typical)];
+    let mut workloads = vec![workload(name, typical)];
     for levels in [4, 7] {
         let name = format!("doubling, {levels} levels");
-        workloads.push(workload(name, &[doubling(levels)]));
+        workloads.push(workload(name, vec![doubling(levels)]));
     }
     for shape in largest_shapes() {
-        workloads.push(workload(shape.name.to_owned(), &[shape.sample]));
+        workloads.push(workload(shape.name.to_owned(), vec![shape.sample]));
     }
     workloads
 }

@@ -64,21 +64,19 @@ impl Buffers<'_> {
         calls: &[u64],
         depths: &mut Depths,
     ) {
-        // The parts that stay are raised while the node is still whole.
-        let before = node.start + 1..computation.start;
-        let after = computation.end..node.end;
         let new_length = node.len() + 2;
-        let moved = computation.len();
+        let new_variable = pack_term(VARIABLE, 0, 0);
         self.stretch[0] = pack_term(LET, 0, 0);
-        self.stretch[1..1 + moved].copy_from_slice(&self.current[computation.clone()]);
-        let rest = &mut self.stretch[1 + moved..new_length];
-        rest[0] = self.current[node.start];
-        let variable = 1 + before.len();
-        rest[1..variable].copy_from_slice(&self.current[before]);
-        rest[variable] = pack_term(VARIABLE, 0, 0);
-        rest[variable + 1..].copy_from_slice(&self.current[after]);
-        raise(rest, 0, calls, depths);
-        rest[variable] = pack_term(VARIABLE, 0, 0);
+        let mut length = self.append(1, computation.clone());
+        let node_start = length;
+        length = self.append(length, node.start..computation.start);
+        let variable_place = length;
+        self.stretch[variable_place] = new_variable;
+        self.append(length + 1, computation.end..node.end);
+        // The new variable is raised with the node's other parts, and then set again.
+        let new_node = &mut self.stretch[node_start..new_length];
+        raise(new_node, 0, calls, depths);
+        self.stretch[variable_place] = new_variable;
         self.replace(node, new_length);
     }
 

@@ -12,20 +12,22 @@ pub fn type_of(types: &[u64], calls: &[u64], inputs: &[u64], term: &[u64]) -> Op
         scope: Vec::new(),
         open: Vec::new(),
     };
-    let mut whole = None;
     for &word in term {
-        let mut part = typing.begin(word)?;
-        while let Some(type_number) = part {
+        let mut progress = typing.begin(word)?;
+        while let Progress::Typed(type_number) = progress {
             match typing.open.pop() {
-                Some(node) => part = typing.give(node, type_number)?,
-                None => {
-                    whole = Some(type_number as u32);
-                    part = None;
-                }
+                Some(node) => progress = typing.give(node, type_number)?,
+                None => return Some(type_number as u32),
             }
         }
     }
-    whole
+    None
+}
+
+/// A node is typed, or waits for the type of its next part.
+enum Progress {
+    Typed(usize),
+    Waits,
 }
 
 /// A node of which the next part is to be typed.
@@ -49,14 +51,14 @@ struct Typing<'a> {
 }
 
 impl Typing<'_> {
-    /// Begins a node: its type if it has no part, else it is opened. `None` for a broken rule.
-    fn begin(&mut self, word: u64) -> Option<Option<usize>> {
+    /// Begins a node; `None` for a broken rule.
+    fn begin(&mut self, word: u64) -> Option<Progress> {
         match kind(word) {
-            VARIABLE => return Some(Some(self.variable(number(word))?)),
+            VARIABLE => return Some(Progress::Typed(self.variable(number(word))?)),
             CALL => {
                 let (count, result, _) = unpack_call(self.calls[number(word)]);
                 if count == 0 {
-                    return Some(Some(result as usize));
+                    return Some(Progress::Typed(result as usize));
                 }
             }
             FUNCTION => {
@@ -71,11 +73,11 @@ impl Typing<'_> {
             last: 0,
             first: 0,
         });
-        Some(None)
+        Some(Progress::Waits)
     }
 
-    /// Gives an open node the type of its next part: the node's type if that was the last part.
-    fn give(&mut self, node: Open, part: usize) -> Option<Option<usize>> {
+    /// Gives an open node the type of its next part; `None` for a broken rule.
+    fn give(&mut self, node: Open, part: usize) -> Option<Progress> {
         let whole = type_number(node.word);
         match (kind(node.word), node.typed) {
             (CALL, typed) => {
@@ -83,14 +85,14 @@ impl Typing<'_> {
                 let (_, result, arguments) = unpack_call(signature);
                 require(part as u64 == arguments[typed])?;
                 if typed + 1 == argument_count(signature) {
-                    return Some(Some(result as usize));
+                    return Some(Progress::Typed(result as usize));
                 }
             }
             (FUNCTION, _) => {
                 self.scope.pop();
                 let (_, codomain) = self.parts(whole, FUNCTION_TYPE)?;
                 require(part == codomain)?;
-                return Some(Some(whole));
+                return Some(Progress::Typed(whole));
             }
             (APPLICATION, 0) => {
                 self.parts(part, FUNCTION_TYPE)?;
@@ -98,27 +100,27 @@ impl Typing<'_> {
             (APPLICATION, _) => {
                 let (domain, codomain) = self.parts(node.first, FUNCTION_TYPE)?;
                 require(part == domain)?;
-                return Some(Some(codomain));
+                return Some(Progress::Typed(codomain));
             }
             (LET, 0) => self.scope.push(part),
             (LET, _) => {
                 self.scope.pop();
-                return Some(Some(part));
+                return Some(Progress::Typed(part));
             }
             (PAIR, 0) => require(part == self.parts(whole, PRODUCT)?.0)?,
             (PAIR, _) => {
                 require(part == self.parts(whole, PRODUCT)?.1)?;
-                return Some(Some(whole));
+                return Some(Progress::Typed(whole));
             }
-            (FIRST, _) => return Some(Some(self.parts(part, PRODUCT)?.0)),
-            (SECOND, _) => return Some(Some(self.parts(part, PRODUCT)?.1)),
+            (FIRST, _) => return Some(Progress::Typed(self.parts(part, PRODUCT)?.0)),
+            (SECOND, _) => return Some(Progress::Typed(self.parts(part, PRODUCT)?.1)),
             (LEFT, _) => {
                 require(part == self.parts(whole, SUM)?.0)?;
-                return Some(Some(whole));
+                return Some(Progress::Typed(whole));
             }
             (RIGHT, _) => {
                 require(part == self.parts(whole, SUM)?.1)?;
-                return Some(Some(whole));
+                return Some(Progress::Typed(whole));
             }
             (_, 0) => self.scope.push(self.parts(part, SUM)?.0),
             (_, 1) => {
@@ -128,7 +130,7 @@ impl Typing<'_> {
             (_, _) => {
                 self.scope.pop();
                 require(part == node.last)?;
-                return Some(Some(part));
+                return Some(Progress::Typed(part));
             }
         }
         self.open.push(Open {
@@ -137,7 +139,7 @@ impl Typing<'_> {
             first: if node.typed == 0 { part } else { node.first },
             ..node
         });
-        Some(None)
+        Some(Progress::Waits)
     }
 
     fn variable(&self, number: usize) -> Option<usize> {
