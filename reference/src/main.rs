@@ -127,7 +127,8 @@ fn write_corpus(input: &Path, output: &Path) -> io::Result<bool> {
 
 fn bench(plot_file: Option<&Path>) -> io::Result<bool> {
     let implementations = implementations();
-    println!("{}\n{}", report::LEGEND, report::head(&implementations));
+    println!("{}", report::legend(&implementations));
+    println!("{}", report::head(&implementations));
     let measurements = measure(&implementations, |measurement| {
         println!("{}", report::line(measurement));
     });

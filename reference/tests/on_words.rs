@@ -5,7 +5,7 @@ use reference::deep_stack::with_deep_stack;
 use reference::generate::boundaries::*;
 use reference::generate::bundles::BUNDLE_DAMAGES;
 use reference::generate::damage::{apply_damages, DAMAGES};
-use reference::generate::deep::{moderate_deep_shapes, named_deep_shapes};
+use reference::generate::deep::*;
 use reference::generate::ill_typed::broken_samples;
 use reference::generate::limits::{needs, Limits};
 use reference::generate::shapes::*;
@@ -162,6 +162,19 @@ fn deep_shapes_at_full_size() {
         let answer = agree(&sample, Limits::OF_PROGRAM, name);
         let has_capacity = !name.ends_with("no capacity");
         assert_eq!(answer.refusal, if has_capacity { 0 } else { 11 }, "{name}");
+    }
+    // One level more passes a limit.
+    for (sample, refusal) in [
+        (nested_pairs(1020), 1),
+        (nested_injections(1020), 1),
+        (nested_applications(1020), 1),
+        (nested_functions(1020), 1),
+        (nested_lets(2048), 1),
+        (nested_cases(1366), 1),
+        (nested_subjects(586), 11),
+    ] {
+        let answer = agree(&sample, Limits::OF_PROGRAM, "too deep");
+        assert_eq!(answer.refusal, refusal);
     }
 }
 

@@ -4,8 +4,16 @@ use super::timing::Timing;
 use super::{Implementation, Measurement};
 use std::time::Duration;
 
-/// What the table's columns are.
-pub const LEGEND: &str = "\
+/// What the table's columns are, and whether one is missing.
+pub fn legend(implementations: &[Implementation]) -> String {
+    let is_linked = implementations
+        .iter()
+        .any(|implementation| implementation.name == "verified");
+    let missing = "The verified library was not linked: see build.rs.\n";
+    format!("{LEGEND}{}", if is_linked { "" } else { missing })
+}
+
+const LEGEND: &str = "\
 Times are medians of processor time from a bundle's bytes to its listing's bytes: the checks, and
 allocating and clearing the buffers, are included. After each: the least and the greatest repetition as
 percent of the median, and the number of repetitions. The repetitions of the implementations

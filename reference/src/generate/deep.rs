@@ -112,22 +112,22 @@ pub fn nested_subjects(levels: usize) -> Sample {
 /// All deep shapes at full size.
 pub fn named_deep_shapes() -> Vec<Shape> {
     vec![
-        shape("pairs, 1,018 deep, taken apart", nested_pairs(1018)),
-        shape("pairs, 1,018 deep, a value", pair_value(1018)),
+        shape("pairs, 1,019 deep, taken apart", nested_pairs(1019)),
+        shape("pairs, 1,019 deep, a value", pair_value(1019)),
         shape(
-            "injections, 1,018 deep, 1,018 cases",
-            nested_injections(1018),
+            "injections, 1,019 deep, 1,019 cases",
+            nested_injections(1019),
         ),
         shape("lets, 2,047 deep in what they bind", nested_lets(2047)),
         shape(
             "lets, 2,047 deep in their bodies, unused",
             unused_lets(4096),
         ),
-        shape("lets, 1,364 deep, a normal form", normal_chain(1364)),
-        shape("applications, 1,018 deep", nested_applications(1018)),
-        shape("functions, 1,018 deep", nested_functions(1018)),
+        shape("lets, 1,365 deep, a normal form", normal_chain(1365)),
+        shape("applications, 1,019 deep", nested_applications(1019)),
+        shape("functions, 1,019 deep", nested_functions(1019)),
         shape("cases, 1,365 deep in branches", nested_cases(1365)),
-        shape("cases, 400 deep in subjects", nested_subjects(400)),
+        shape("cases, 585 deep in subjects", nested_subjects(585)),
         shape("calls, 2,731 deep", nested_calls(2731)),
         shape("calls, 2,732 deep: no capacity", nested_calls(2732)),
     ]

@@ -163,7 +163,7 @@ pub fn largest_shapes() -> Vec<Shape> {
         shape("drop cascade, 2,730 lets", drop_cascade(2730)),
         shape("branching, 8 lets", branching(8)),
         shape("branching, 30 lets: no capacity", branching(30)),
-        shape("1,018 functions applied", applied_functions(1018)),
+        shape("1,019 functions applied", applied_functions(1019)),
     ];
     shapes.extend(named_deep_shapes());
     shapes
