@@ -1,6 +1,7 @@
 //! The corpus: what it covers, that both implementations answer it alike, and that the committed
 //! files are the generated ones.
 
+use reference::corpus::answers::{answer, normalize_line};
 use reference::corpus::contents::records;
 use reference::corpus::corpus;
 use reference::corpus::records::Record;
@@ -61,11 +62,15 @@ fn number(text: &str) -> u32 {
 }
 
 #[test]
-fn words_answer_bundles_alike() {
+fn words_answer_alike() {
     for record in records() {
-        if let Record::Respond(bundle) = &record {
-            let expected = corpus(std::slice::from_ref(&record)).output;
-            assert_eq!(on_words::respond(bundle), expected);
-        }
+        let found = match &record {
+            Record::Respond(bundle) => on_words::respond(bundle),
+            Record::Normalize(sample, limits) => {
+                normalize_line(on_words::normalize, sample, *limits).into_bytes()
+            }
+            _ => continue,
+        };
+        assert_eq!(found, answer(&record));
     }
 }

@@ -1,6 +1,6 @@
 //! The normalizer on words against the tree implementation: answers and all words of the buffers.
 
-use reference::api::{self, Answer};
+use reference::api::{self, Answer, Normalize};
 use reference::deep_stack::with_deep_stack;
 use reference::generate::boundaries::*;
 use reference::generate::bundles::BUNDLE_DAMAGES;
@@ -13,10 +13,6 @@ use reference::generate::terms::random_sample;
 use reference::generate::{Profile, Sample};
 use reference::random::Random;
 use reference::{listing, on_words};
-
-/// The signature of both implementations.
-type Normalize =
-    fn(&[u64], &[u64], &[u64], &[u64], u32, &mut [u64], &mut [u64], &mut [u64]) -> Answer;
 
 /// The answer, and the output and scratch buffers afterwards.
 fn outcome(normalize: Normalize, sample: &Sample, limits: Limits) -> (Answer, [Vec<u64>; 3]) {

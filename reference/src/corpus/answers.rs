@@ -4,7 +4,7 @@
 //! or 1. Call 3: `normalize REFUSAL TYPE LENGTH`, ten counts and a digest of the buffers.
 
 use super::records::Record;
-use crate::api::{check, is_normal, normalize};
+use crate::api::{check, is_normal, normalize, Normalize};
 use crate::generate::limits::Limits;
 use crate::generate::Sample;
 use crate::listing::respond;
@@ -21,11 +21,14 @@ pub fn answer(record: &Record) -> Vec<u8> {
             let answer = is_normal(&sample.types, &sample.calls, &sample.inputs, &sample.term);
             format!("normal {} {}\n", answer.refusal, u8::from(answer.normal)).into_bytes()
         }
-        Record::Normalize(sample, limits) => normalize_line(sample, *limits).into_bytes(),
+        Record::Normalize(sample, limits) => {
+            normalize_line(normalize, sample, *limits).into_bytes()
+        }
     }
 }
 
-fn normalize_line(sample: &Sample, limits: Limits) -> String {
+/// The line for call 3, by any implementation of it.
+pub fn normalize_line(normalize: Normalize, sample: &Sample, limits: Limits) -> String {
     let mut output = filled(limits.lengths[0], 1_000_003, 7);
     let mut first_scratch = filled(limits.lengths[1], 31, 1);
     let mut second_scratch = filled(limits.lengths[2], 17, 5);
