@@ -18,10 +18,7 @@ fn workload(steps: u64, longest: usize) -> Workload {
 fn timing(microseconds: u64) -> Timing {
     let median = Duration::from_micros(microseconds);
     Timing {
-        median,
-        least: median / 2,
-        greatest: median * 2,
-        repetitions: 5,
+        times: vec![median / 2, median, median * 2],
     }
 }
 
@@ -38,7 +35,7 @@ fn lines_have_the_columns_of_the_head() {
     let head = report::head(&implementations);
     let line = report::line(&measurement);
     assert!(head.lines().all(|head| columns(head) == columns(&line)));
-    assert!(line.contains("440.00 µs (50 to 200 %, 5) | 10.00 µs | - | - | -"));
+    assert!(line.contains("440.00 µs (50 to 200 %, 3) | 10.00 µs | - | - | -"));
     measurement.timings[1] = Some(timing(1100));
     assert!(report::line(&measurement).contains("| 25.00 µs | 2.50 |"));
 }
@@ -66,7 +63,7 @@ fn times_of_a_small_workload() {
     let timings = time_all(&workload(44, 60), &implementations);
     assert_eq!(timings.len(), implementations.len());
     for timing in timings.into_iter().flatten() {
-        assert!(timing.least <= timing.median && timing.median <= timing.greatest);
-        assert!(timing.repetitions >= 3);
+        assert!(timing.least() <= timing.median() && timing.median() <= timing.greatest());
+        assert!(timing.times.len() >= 3);
     }
 }

@@ -1,6 +1,7 @@
 //! Terms as text and as drawings.
 
 use reference::deep_stack::with_deep_stack;
+use reference::generate::boundaries::normal_chain;
 use reference::generate::deep::named_deep_shapes;
 use reference::generate::shapes::{branching, sample, typical, B, B_AND_B, B_OR_B};
 use reference::generate::{phrases, Sample};
@@ -88,6 +89,9 @@ fn refusals() {
     let shown = shown(&branching(30));
     assert!(shown.text().ends_with("refused with 11\n"));
     assert!(shown.drawings().1.is_none());
+    // A term may be shown that is too long to be normalized.
+    let text = self::shown(&normal_chain(1366)).text();
+    assert!(text.ends_with("refused with 1\n"));
 }
 
 #[test]

@@ -66,8 +66,8 @@ fn points(measurements: &[Measurement], index: usize) -> Vec<Point> {
         .iter()
         .filter(|measurement| measurement.workload.steps >= FEWEST_STEPS)
         .filter_map(|measurement| {
-            let timing = measurement.timings[index]?;
-            let nanoseconds = timing.median.as_secs_f64() * 1e9;
+            let timing = measurement.timings[index].as_ref()?;
+            let nanoseconds = timing.median().as_secs_f64() * 1e9;
             let per_step = nanoseconds / measurement.workload.steps as f64;
             Some((measurement.workload.longest as f64, per_step))
         })

@@ -17,8 +17,8 @@ const LEGEND: &str = "\
 Times are medians of processor time from a bundle's bytes to its listing's bytes: the checks, and
 allocating and clearing the buffers, are included. After each: the least and the greatest repetition as
 percent of the median, and the number of repetitions. The repetitions of the implementations
-alternate in one process. A ratio is to the time on words; `-` was left out: it would take longer
-than a minute.
+alternate in one process. A ratio is to the time on words, the median over repetitions made one after
+the other. What would take longer than a minute was left out: `-`.
 ";
 
 /// The two lines of the table's head.
@@ -50,12 +50,15 @@ pub fn line(measurement: &Measurement) -> String {
         workload.longest.to_string(),
         workload.steps.to_string(),
     ];
-    let on_words = measurement.timings[0];
+    let none = || String::from("-");
     for (index, timing) in measurement.timings.iter().enumerate() {
-        columns.push(timing.map_or("-".into(), timing_text));
-        columns.push(timing.map_or("-".into(), |timing| step_text(timing, workload.steps)));
+        let timing = timing.as_ref();
+        columns.push(timing.map_or_else(none, timing_text));
+        columns.push(timing.map_or_else(none, |timing| step_text(timing, workload.steps)));
         if index > 0 {
-            columns.push(ratio_text(*timing, on_words));
+            let on_words = measurement.timings[0].as_ref();
+            let ratio = timing.zip(on_words).map(|(one, other)| one.ratio_to(other));
+            columns.push(ratio.map_or_else(none, |ratio| format!("{ratio:.2}")));
         }
     }
     row(&columns)
@@ -66,30 +69,21 @@ fn row(columns: &[impl AsRef<str>]) -> String {
     format!("| {} |", columns.join(" | "))
 }
 
-fn timing_text(timing: Timing) -> String {
-    let percent = |time: Duration| 100.0 * time.as_secs_f64() / timing.median.as_secs_f64();
+fn timing_text(timing: &Timing) -> String {
+    let median = timing.median();
+    let percent = |time: Duration| 100.0 * time.as_secs_f64() / median.as_secs_f64();
     format!(
         "{} ({:.0} to {:.0} %, {})",
-        duration_text(timing.median),
-        percent(timing.least),
-        percent(timing.greatest),
-        timing.repetitions
+        duration_text(median),
+        percent(timing.least()),
+        percent(timing.greatest()),
+        timing.times.len()
     )
 }
 
-fn step_text(timing: Timing, steps: u64) -> String {
+fn step_text(timing: &Timing, steps: u64) -> String {
     match u32::try_from(steps) {
-        Ok(steps) if steps > 0 => duration_text(timing.median / steps),
-        _ => "-".into(),
-    }
-}
-
-fn ratio_text(timing: Option<Timing>, on_words: Option<Timing>) -> String {
-    match (timing, on_words) {
-        (Some(timing), Some(on_words)) => {
-            let ratio = timing.median.as_secs_f64() / on_words.median.as_secs_f64();
-            format!("{ratio:.2}")
-        }
+        Ok(steps) if steps > 0 => duration_text(timing.median() / steps),
         _ => "-".into(),
     }
 }

@@ -22,13 +22,36 @@ const TOO_LONG: Duration = Duration::from_secs(60);
 /// What it will take is estimated from the walks' first steps.
 const FIRST_STEPS: u32 = 1000;
 
-/// The median, the least and the greatest time for the workload's bundles.
-#[derive(Clone, Copy, Debug)]
+/// The times of the repetitions, in the order they were made.
+#[derive(Clone, Debug)]
 pub struct Timing {
-    pub median: Duration,
-    pub least: Duration,
-    pub greatest: Duration,
-    pub repetitions: usize,
+    pub times: Vec<Duration>,
+}
+
+impl Timing {
+    pub fn median(&self) -> Duration {
+        let mut times = self.times.clone();
+        times.sort();
+        times[times.len() / 2]
+    }
+
+    pub fn least(&self) -> Duration {
+        self.times.iter().min().copied().unwrap_or_default()
+    }
+
+    pub fn greatest(&self) -> Duration {
+        self.times.iter().max().copied().unwrap_or_default()
+    }
+
+    /// The median of the ratios of repetitions that were made one after the other.
+    pub fn ratio_to(&self, other: &Timing) -> f64 {
+        let pairs = self.times.iter().zip(&other.times);
+        let mut ratios: Vec<f64> = pairs
+            .map(|(one, other)| one.as_secs_f64() / other.as_secs_f64())
+            .collect();
+        ratios.sort_by(f64::total_cmp);
+        ratios[ratios.len() / 2]
+    }
 }
 
 /// Times the workload with each implementation; all answers are compared first.
@@ -129,14 +152,7 @@ impl Sampler {
         self.times.push(elapsed / self.rounds);
     }
 
-    fn timing(mut self) -> Timing {
-        self.times.sort();
-        let repetitions = self.times.len();
-        Timing {
-            median: self.times[repetitions / 2],
-            least: self.times[0],
-            greatest: self.times[repetitions - 1],
-            repetitions,
-        }
+    fn timing(self) -> Timing {
+        Timing { times: self.times }
     }
 }

@@ -4,7 +4,7 @@ use super::drawing::tree_drawing;
 use super::terms::term_text;
 use super::types::{formula, short};
 use crate::bundle::read_bundle;
-use crate::checks::{examine, Checked, Refusal, LONGEST_TO_EXAMINE};
+use crate::checks::{examine, Checked, Refusal, LONGEST_TO_EXAMINE, LONGEST_TO_NORMALIZE};
 use crate::generate::limits::Limits;
 use crate::reduction::{walk, Counts};
 use crate::tables::Tables;
@@ -50,16 +50,24 @@ pub fn show(bytes: &[u8]) -> Result<Shown, Refusal> {
         &rest[..lengths.term],
         LONGEST_TO_EXAMINE,
     )?;
-    let limits = Limits::OF_PROGRAM;
-    let (outcome, counts) = match walk(checked.term.clone(), limits.budget, limits.lengths[0]) {
-        Ok((normal_form, counts)) => (Ok(normal_form), counts),
-        Err(stopped) => (Err(stopped.refusal), stopped.counts),
-    };
+    let (outcome, counts) = normal_form(&checked.term);
     Ok(Shown {
         checked,
         outcome,
         counts,
     })
+}
+
+/// What the program answers, with the steps taken.
+fn normal_form(term: &Term) -> (Result<Term, Refusal>, Counts) {
+    if term.size() > LONGEST_TO_NORMALIZE {
+        return (Err(Refusal::Lengths), [0; 10]);
+    }
+    let limits = Limits::OF_PROGRAM;
+    match walk(term.clone(), limits.budget, limits.lengths[0]) {
+        Ok((normal_form, counts)) => (Ok(normal_form), counts),
+        Err(stopped) => (Err(stopped.refusal), stopped.counts),
+    }
 }
 
 impl Shown {
