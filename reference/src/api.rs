@@ -44,6 +44,10 @@ impl Answer {
     }
 }
 
+/// The signature of `normalize`, which other implementations share.
+pub type Normalize =
+    fn(&[u64], &[u64], &[u64], &[u64], u32, &mut [u64], &mut [u64], &mut [u64]) -> Answer;
+
 /// The type check.
 pub fn check(types: &[u64], calls: &[u64], inputs: &[u64], term: &[u64]) -> CheckAnswer {
     with_deep_stack(

@@ -34,9 +34,10 @@ impl Refusal {
 pub const LONGEST_TO_NORMALIZE: usize = 4096;
 pub const LONGEST_TO_EXAMINE: usize = 8192;
 
-const MOST_TYPES: usize = 1024;
-const MOST_CALLS: usize = 1024;
-const MOST_INPUTS: usize = 256;
+/// The most words of the other tables.
+pub const MOST_TYPES: usize = 1024;
+pub const MOST_CALLS: usize = 1024;
+pub const MOST_INPUTS: usize = 256;
 
 /// What passed all checks: the decoded tables and term, and the term's type.
 #[derive(Clone, Debug)]

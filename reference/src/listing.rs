@@ -5,7 +5,8 @@ use crate::bundle::read_bundle;
 use crate::checks::Refusal;
 use std::fmt::Write;
 
-const BUDGET: u32 = 1_000_000;
+/// The budget of the program.
+pub const BUDGET: u32 = 1_000_000;
 
 /// Writes the listing to the front of `text` and answers its length. If `text` is too short, or
 /// there are fewer `words` than an accepted answer's length, it answers 0 and `text` is unchanged.

@@ -1,5 +1,9 @@
 //! The command: `reference SUBCOMMAND [ARGUMENTS]`, see `USAGE`.
 
+use reference::bench::plot::plot;
+use reference::bench::{implementations, measure, report};
+use reference::corpus::contents::records;
+use reference::corpus::corpus;
 use reference::deep_stack::with_deep_stack;
 use reference::definitions::check::run_check;
 use reference::definitions::repository::write_repository;
@@ -8,13 +12,18 @@ use reference::lines::cases::case_line;
 use reference::lines::runs::run_line;
 use reference::listing::respond;
 use reference::random::Random;
+use reference::show::report::show;
 use std::env;
+use std::fs;
 use std::io::{self, BufWriter, Error, Read, Write};
 use std::path::Path;
 use std::process::ExitCode;
 
 const USAGE: &str = "usage: reference SUBCOMMAND
   respond             a bundle on standard input, its listing on standard output
+  show                a bundle on standard input as readable text, before and after normalizing
+  show --svg BEFORE AFTER
+                      the same, and both terms drawn as trees
   cases SEED COUNT    lines of small cases with their answers
   bundles SEED COUNT  lines of small bundles with their listings
   runs SEED COUNT     lines of small terms with a run of each
@@ -22,6 +31,8 @@ const USAGE: &str = "usage: reference SUBCOMMAND
                       the definitions of REPOSITORY/crates checked against such lines by rt, in a
                       repository written into DIR: COUNT cases, a fifth as many bundles, a quarter
                       as many runs
+  corpus STDIN STDOUT the records of a test program, and what it writes
+  bench [--plot FILE] times on the named shapes as a table, and as an SVG plot (release build)
 ";
 
 /// A bundle is refused from this length on, so that no more is read.
@@ -47,9 +58,16 @@ fn dispatch(arguments: &[String]) -> io::Result<bool> {
     let arguments: Vec<&str> = arguments.iter().map(String::as_str).collect();
     match arguments[..] {
         ["respond"] => respond_to_standard_input(),
+        ["show"] => show_standard_input(None),
+        ["show", "--svg", before, after] => {
+            show_standard_input(Some((Path::new(before), Path::new(after))))
+        }
         ["cases", seed, count] => print_lines(seed, count, case_line),
         ["bundles", seed, count] => print_lines(seed, count, bundle_line),
         ["runs", seed, count] => print_lines(seed, count, run_line),
+        ["corpus", input, output] => write_corpus(Path::new(input), Path::new(output)),
+        ["bench"] => bench(None),
+        ["bench", "--plot", file] => bench(Some(Path::new(file))),
         ["definitions", repository, folder, seed, count] => {
             check_definitions(Path::new(repository), Path::new(folder), seed, count)
         }
@@ -57,10 +75,33 @@ fn dispatch(arguments: &[String]) -> io::Result<bool> {
     }
 }
 
-fn respond_to_standard_input() -> io::Result<bool> {
+fn read_standard_input() -> io::Result<Vec<u8>> {
     let mut bytes = Vec::new();
     io::stdin().take(MOST_BYTES_READ).read_to_end(&mut bytes)?;
-    io::stdout().write_all(&respond(&bytes))?;
+    Ok(bytes)
+}
+
+fn respond_to_standard_input() -> io::Result<bool> {
+    io::stdout().write_all(&respond(&read_standard_input()?))?;
+    Ok(true)
+}
+
+fn show_standard_input(files: Option<(&Path, &Path)>) -> io::Result<bool> {
+    let shown = match show(&read_standard_input()?) {
+        Ok(shown) => shown,
+        Err(refusal) => {
+            println!("refused with {}", refusal.number());
+            return Ok(true);
+        }
+    };
+    print!("{}", shown.text());
+    if let Some((before_file, after_file)) = files {
+        let (before, after) = shown.drawings();
+        fs::write(before_file, before)?;
+        if let Some(after) = after {
+            fs::write(after_file, after)?;
+        }
+    }
     Ok(true)
 }
 
@@ -74,6 +115,26 @@ fn print_lines(seed: &str, count: &str, line: fn(&mut Random) -> String) -> io::
         writeln!(output, "{}", line(&mut random))?;
     }
     output.flush()?;
+    Ok(true)
+}
+
+fn write_corpus(input: &Path, output: &Path) -> io::Result<bool> {
+    let corpus = corpus(&records());
+    fs::write(input, corpus.input)?;
+    fs::write(output, corpus.output)?;
+    Ok(true)
+}
+
+fn bench(plot_file: Option<&Path>) -> io::Result<bool> {
+    let implementations = implementations();
+    println!("{}", report::legend(&implementations));
+    println!("{}", report::head(&implementations));
+    let measurements = measure(&implementations, |measurement| {
+        println!("{}", report::line(measurement));
+    });
+    if let Some(file) = plot_file {
+        fs::write(file, plot(&implementations, &measurements))?;
+    }
     Ok(true)
 }
 

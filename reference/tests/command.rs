@@ -36,6 +36,13 @@ fn respond_answers_on_standard_output() {
 }
 
 #[test]
+fn show_tells_why_there_is_nothing_to_show() {
+    let output = run_command(&["show"], &[0; 8]);
+    assert!(output.status.success());
+    assert_eq!(output.stdout, b"refused with 1\n");
+}
+
+#[test]
 fn cases_cover_all_refusals() {
     let lines = lines(&["cases", "1", "1000"]);
     assert_eq!(lines.len(), 1000);
@@ -81,6 +88,9 @@ fn anything_else_prints_the_usage() {
         &["nothing"],
         &["cases", "1"],
         &["cases", "x", "1"],
+        &["show", "--svg", "file"],
+        &["corpus", "file"],
+        &["bench", "--plot"],
         &["definitions", "repository", "folder", "x", "1"],
     ] {
         let output = run_command(arguments, &[]);

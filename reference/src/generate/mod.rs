@@ -3,7 +3,11 @@
 pub mod boundaries;
 pub mod bundles;
 pub mod damage;
+pub mod deep;
 pub mod ill_typed;
+pub mod limits;
+pub mod phrases;
+pub mod shapes;
 pub mod tables;
 pub mod terms;
 pub mod values;
