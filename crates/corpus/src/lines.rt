@@ -1,0 +1,247 @@
+// What is written for each call.
+ghost use Prim.Native.Nat.{_≤_};
+ghost use lib.ListN.{length};
+use crate::words::MOST_BUFFER;
+use crate::words::MOST_WORDS;
+use crate::words::digest;
+use crate::words::fill;
+use bundles::listing::listing;
+use bundles::read::read_bundle;
+use checker::check::check;
+use libc::STDOUT_FILENO;
+use normalizer::normalize::normalize;
+use outcomes::Answer;
+use outcomes::Lengths;
+use reducer::is_normal::is_normal;
+
+// the most bytes of a listing
+const MOST_TEXT: usize = 139393;
+
+// the buffers and the budget of the program
+const CAPACITY: usize = 8192;
+
+const BUDGET: u32 = 1000000;
+
+fn wide(n: u32) -> u64 {
+    n as u64
+}
+
+fn put_number(n: u64) {
+    io::print_decimal(STDOUT_FILENO, n);
+}
+
+fn put_field(n: u64) {
+    put_number(n);
+    io::write_all(STDOUT_FILENO, b" ");
+}
+
+fn end_line() {
+    io::write_all(STDOUT_FILENO, b"\n");
+}
+
+// call 1
+pub fn check_line(types: &[u64], calls: &[u64], inputs: &[u64], term: &[u64]) {
+    let r = check(types, calls, inputs, term);
+    io::write_all(STDOUT_FILENO, b"check ");
+    put_field(wide(r.refusal));
+    put_number(r.ty);
+    end_line();
+}
+
+fn number_of(yes: bool) -> u64 {
+    if yes { 1 } else { 0 }
+}
+
+// call 2
+pub fn normal_line(types: &[u64], calls: &[u64], inputs: &[u64], term: &[u64]) {
+    let r = is_normal(types, calls, inputs, term);
+    io::write_all(STDOUT_FILENO, b"normal ");
+    put_field(wide(r.refusal));
+    put_number(number_of(r.normal));
+    end_line();
+}
+
+fn put_counts(counts: [u32; 10]) {
+    let mut i: usize = 0;
+    while i < 10 {
+        put_field(wide(counts[i]));
+        i += 1;
+    }
+}
+
+fn put_answer(answer: Answer, hash: u64) {
+    io::write_all(STDOUT_FILENO, b"normalize ");
+    put_field(wide(answer.refusal));
+    put_field(answer.ty);
+    put_field(answer.length as u64);
+    let counts = answer.counts;
+    put_counts(counts);
+    io::print_hex(STDOUT_FILENO, hash, 16);
+    end_line();
+}
+
+// the answer, and what the buffers hold after it
+fn normalized(
+    types: &[u64],
+    calls: &[u64],
+    inputs: &[u64],
+    term: &[u64],
+    budget: u32,
+    output: &mut [u64],
+    first: &mut [u64],
+    second: &mut [u64],
+) {
+    let answer = normalize(types, calls, inputs, term, budget, output, first, second);
+    let hash = digest(digest(digest(14695981039346656037, output), first), second);
+    put_answer(answer, hash);
+}
+
+// the buffers are fronts of these arrays
+fn fitted(
+    types: &[u64],
+    calls: &[u64],
+    inputs: &[u64],
+    term: &[u64],
+    budget: u32,
+    output: &mut [u64],
+    o: usize,
+    first: &mut [u64],
+    f: usize,
+    second: &mut [u64],
+    s: usize,
+)
+    requires { ⌜ (o ≤ length (now output)) × (f ≤ length (now first)) × (s ≤ length (now second)) ⌝ }
+{
+    let start: usize = 0;
+    normalized(
+        types,
+        calls,
+        inputs,
+        term,
+        budget,
+        &mut output[start..o],
+        &mut first[start..f],
+        &mut second[start..s],
+    );
+}
+
+// call 3
+pub fn normalize_line(
+    types: &[u64],
+    calls: &[u64],
+    inputs: &[u64],
+    term: &[u64],
+    budget: u32,
+    o: usize,
+    f: usize,
+    s: usize,
+) {
+    if MOST_BUFFER < o {
+        return;
+    }
+    if MOST_BUFFER < f {
+        return;
+    }
+    if MOST_BUFFER < s {
+        return;
+    }
+    let mut output: [u64; MOST_BUFFER] = [0; MOST_BUFFER];
+    let mut first: [u64; MOST_BUFFER] = [0; MOST_BUFFER];
+    let mut second: [u64; MOST_BUFFER] = [0; MOST_BUFFER];
+    fill(&mut output, 1000003, 7);
+    fill(&mut first, 31, 1);
+    fill(&mut second, 17, 5);
+    fitted(
+        types,
+        calls,
+        inputs,
+        term,
+        budget,
+        &mut output,
+        o,
+        &mut first,
+        f,
+        &mut second,
+        s,
+    );
+}
+
+fn write_front(text: &[u8], n: usize) {
+    if text.len() < n {
+        return;
+    }
+    let start: usize = 0;
+    io::write_all(STDOUT_FILENO, &text[start..n]);
+}
+
+fn put_listing(answer: Answer, output: &[u64]) {
+    let mut text: [u8; MOST_TEXT] = [0; MOST_TEXT];
+    let n = listing(answer, output, &mut text);
+    write_front(&text, n);
+}
+
+fn unreadable() -> Answer {
+    Answer {
+        refusal: 12,
+        ty: 0,
+        length: 0,
+        counts: [0; 10],
+    }
+}
+
+fn list_normal(types: &[u64], calls: &[u64], inputs: &[u64], term: &[u64]) {
+    let mut output: [u64; CAPACITY] = [0; CAPACITY];
+    let mut first: [u64; CAPACITY] = [0; CAPACITY];
+    let mut second: [u64; CAPACITY] = [0; CAPACITY];
+    let answer = normalize(
+        types,
+        calls,
+        inputs,
+        term,
+        BUDGET,
+        &mut output,
+        &mut first,
+        &mut second,
+    );
+    put_listing(answer, &output);
+}
+
+// the tables stand one after the other; the reader's lengths always fit, and the tests show it again
+fn list_tables(lengths: Lengths, words: &[u64]) {
+    let a = lengths.types;
+    if words.len() < a {
+        return;
+    }
+    let calls = lengths.calls;
+    if words.len() - a < calls {
+        return;
+    }
+    let b = a + calls;
+    let inputs = lengths.inputs;
+    if words.len() - b < inputs {
+        return;
+    }
+    let c = b + inputs;
+    let term = lengths.words;
+    if words.len() - c < term {
+        return;
+    }
+    let d = c + term;
+    let start: usize = 0;
+    list_normal(&words[start..a], &words[a..b], &words[b..c], &words[c..d]);
+}
+
+// call 0, on the first so many bytes
+pub fn respond(bytes: &[u8], size: usize) {
+    if bytes.len() < size {
+        return;
+    }
+    let start: usize = 0;
+    let mut words: [u64; MOST_WORDS] = [0; MOST_WORDS];
+    let lengths = read_bundle(&bytes[start..size], &mut words);
+    if 0 < lengths.refusal {
+        put_listing(unreadable(), &words);
+        return;
+    }
+    list_tables(lengths, &words);
+}

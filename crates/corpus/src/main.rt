@@ -1,0 +1,117 @@
+// Reads records from standard input, makes the call that each asks for, and writes a line or a listing for each.
+// A record is ten header words, then the words of four tables or the bytes of a bundle, padded to whole words.
+ghost use Prim.Native.Nat.{_≤_};
+ghost use lib.ListN.{length};
+use libc::STDIN_FILENO;
+
+mod words; // words.rt: words from bytes, and the buffers' contents
+mod lines; // lines.rt: what is written for each call
+
+use crate::lines::check_line;
+use crate::lines::normal_line;
+use crate::lines::normalize_line;
+use crate::lines::respond;
+use crate::words::HEADER_BYTES;
+use crate::words::MOST_BYTES;
+use crate::words::MOST_WORDS;
+use crate::words::decode;
+use crate::words::header_word;
+use crate::words::length_word;
+
+// reads so many bytes to the front; no where the input ends before
+fn read_front(bytes: &mut [u8], n: usize) -> bool {
+    if bytes.len() < n {
+        return false;
+    }
+    let start: usize = 0;
+    let got = io::read_full(STDIN_FILENO, &mut bytes[start..n]);
+    got == n
+}
+
+// call 0: the bundle's bytes
+fn bundle(head: &[u8; HEADER_BYTES]) -> bool {
+    let size = length_word(head, 9);
+    let mut bytes: [u8; MOST_BYTES] = [0; MOST_BYTES];
+    if !read_front(&mut bytes, (size + 7) / 8 * 8) {
+        return false;
+    }
+    respond(&bytes, size);
+    true
+}
+
+// calls 1 to 3 on the tables that stand one after the other
+fn call_on(head: &[u8; HEADER_BYTES], words: &[u64], a: usize, b: usize, c: usize, d: usize)
+    requires { ⌜ (a ≤ b) × (b ≤ c) × (c ≤ d) × (d ≤ length (now words)) ⌝ }
+{
+    let start: usize = 0;
+    let types = &words[start..a];
+    let calls = &words[a..b];
+    let inputs = &words[b..c];
+    let term = &words[c..d];
+    let call = header_word(head, 0);
+    if call == 1 {
+        check_line(types, calls, inputs, term);
+        return;
+    }
+    if call == 2 {
+        normal_line(types, calls, inputs, term);
+        return;
+    }
+    let budget = header_word(head, 1);
+    if 4294967295 < budget {
+        return;
+    }
+    let output = length_word(head, 2);
+    let first = length_word(head, 3);
+    let second = length_word(head, 4);
+    normalize_line(
+        types,
+        calls,
+        inputs,
+        term,
+        budget as u32,
+        output,
+        first,
+        second,
+    );
+}
+
+// calls 1 to 3: the tables' words
+fn tables(head: &[u8; HEADER_BYTES]) -> bool {
+    let a = length_word(head, 5);
+    let b = a + length_word(head, 6);
+    let c = b + length_word(head, 7);
+    let d = c + length_word(head, 8);
+    if MOST_WORDS < d {
+        return false;
+    }
+    let mut bytes: [u8; MOST_BYTES] = [0; MOST_BYTES];
+    if !read_front(&mut bytes, 8 * d) {
+        return false;
+    }
+    let mut words: [u64; MOST_WORDS] = [0; MOST_WORDS];
+    decode(&bytes, &mut words, d);
+    call_on(head, &words, a, b, c, d);
+    true
+}
+
+// one record; no at the end of the input
+fn record() -> bool {
+    let mut head: [u8; HEADER_BYTES] = [0; HEADER_BYTES];
+    let n = io::read_full(STDIN_FILENO, &mut head);
+    if n < HEADER_BYTES {
+        return false;
+    }
+    if header_word(&head, 0) == 0 {
+        return bundle(&head);
+    }
+    tables(&head)
+}
+
+// A proved loop has to end, so it counts its turns down from a number that no run uses up.
+fn main() {
+    let mut turns = u64::MAX;
+    while turns > 0 && record() {
+        turns -= 1;
+    }
+}
