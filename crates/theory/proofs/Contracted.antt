@@ -19,7 +19,7 @@ use Rattle.outcomes.specs.declared.Answer.{Answer}
 use Rattle.typing.proofs.Accepted.{Verdicts, refusal, Passed, elaborated}
 use Rattle.theory.proofs.Claimed.{claim}
 
-take-front : (xs ys : List ℕ) → take (length xs) (xs ++ ys) ≡ xs
+pub take-front : (xs ys : List ℕ) → take (length xs) (xs ++ ys) ≡ xs
 take-front [] ys = refl
 take-front (x ∷ xs) ys = ap {B = List ℕ} (λ zs. x ∷ zs) (take-front xs ys)
 

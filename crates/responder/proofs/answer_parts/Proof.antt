@@ -1,0 +1,37 @@
+-- The four parts of the words are those that the definitions take.
+use Rattle.responder.proofs.Responding.{parts-answered}
+use borrow.Author.Needs.{needs}
+use Rattle.responder.proofs.answer_parts.Statement.{statement}
+use Rattle.responder.proofs.answer_parts.Tie as tie
+use Rattle.responder.proofs.answer_parts.Reads as reads
+use Rattle.responder.proofs.answer_parts.Lts as lts
+use Rattle.responder.proofs.answer_to.Reads as answer-to-reads
+
+pub answer-parts-spec : {M : Type 1} → statement M
+answer-parts-spec =
+    tie.close
+    (tie.spec
+    (λ c. search needs)
+    (λ c. search needs)
+    (λ c. search needs)
+    (λ c. search needs)
+    (λ c. search needs)
+    (λ c. search needs)
+    (λ c. search needs)
+    (λ c. search needs)
+    (λ c. search needs)
+    (λ c. search needs)
+    (λ c. search needs)
+    (λ c. search needs)
+    (λ c. search needs)
+    (λ c. search needs)
+    (λ c. search needs)
+    (λ c. search needs)
+    (λ c. search needs)
+    (λ c. search needs)
+    (λ c. search needs)
+    (λ c κs. search needs)
+    (λ c. search needs)
+    (λ c.
+    let answer-to = c .before .before .answer-to in
+    parts-answered _ _ _ _ (answer-to .ensures)))

@@ -1,0 +1,26 @@
+-- The outcome of `normalize` with buffers of 8,192 zeros, listed.
+use mathlib.Core.Path.{refl}
+use Rattle.responder.proofs.Responding.{listing-normalized, full-capacity}
+use borrow.Author.Needs.{needs}
+use Rattle.responder.proofs.answer_to.Statement.{statement}
+use Rattle.responder.proofs.answer_to.Tie as tie
+use Rattle.responder.proofs.answer_to.Reads as reads
+use Rattle.responder.proofs.answer_to.Lts as lts
+use Rattle.bundles.proofs.listing.listing.Reads as listing-reads
+use Rattle.normalizer.proofs.normalize.normalize.Reads as normalize-reads
+
+pub answer-to-spec : {M : Type 1} → statement M
+answer-to-spec =
+    tie.close
+    (tie.spec
+    (λ c. search needs)
+    (λ c. search needs)
+    (λ c. search needs)
+    (λ c κs. search needs)
+    (λ c. search needs)
+    (λ c κs. search needs)
+    (λ c. search needs)
+    (λ c.
+    let normalize = c .before .before .before .before .before .before .before .before .normalize in
+    let listing = c .before .before .listing in
+    listing-normalized _ _ _ _ _ _ _ _ (full-capacity _ _ _ refl refl refl) (normalize .ensures .outcome) (listing .ensures)))

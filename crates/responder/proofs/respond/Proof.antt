@@ -1,0 +1,34 @@
+-- Read, then refused or answered.
+use borrow.Author.Needs.{needs}
+use Rattle.responder.proofs.Responding.{refused-responds, read-responds, reading-fits}
+use Rattle.responder.proofs.respond.Statement.{statement}
+use Rattle.responder.proofs.respond.Tie as tie
+use Rattle.responder.proofs.respond.Reads as reads
+use Rattle.responder.proofs.respond.Lts as lts
+use Rattle.bundles.proofs.read.read_bundle.Reads as read-bundle-reads
+use Rattle.responder.proofs.answer_parts.Reads as answer-parts-reads
+use Rattle.responder.proofs.refuse.Reads as refuse-reads
+
+pub respond-spec : {M : Type 1} → statement M
+respond-spec =
+    tie.close
+    (tie.spec
+    (λ c. search needs)
+    (λ c κs. search needs)
+    (λ c κs. search needs)
+    (λ c. search needs)
+    (λ c.
+    let read-bundle = c .before .before .before .before .before .before .read-bundle in
+    let if1 = c .before .before .before .before .if1 in
+    let refuse = c .before .before .refuse in
+    refused-responds _ _ _ _ _ (read-bundle .ensures) (if1 .taken) (refuse .ensures))
+    (λ c. search needs)
+    (λ c κs.
+    let read-bundle = c .before .before .before .before .read-bundle in
+    reading-fits _ _ _ _ (read-bundle .ensures))
+    (λ c. search needs)
+    (λ c.
+    let read-bundle = c .before .before .before .before .before .before .before .read-bundle in
+    let if1 = c .before .before .before .before .before .if1 in
+    let answer-parts = c .before .before .answer-parts in
+    read-responds _ _ _ _ _ (read-bundle .ensures) (if1 .left) (answer-parts .ensures)))
