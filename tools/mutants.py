@@ -7,7 +7,7 @@ named here, in files that it did not touch. Exit status 1 if one is not, or if i
 import pathlib, re, shutil, subprocess, sys, tempfile
 
 ROOT = pathlib.Path(__file__).resolve().parent.parent
-RULES, ROOTS, FITS = "reduction/specs/Rules", "reduction/proofs/Roots", "reduction/proofs/Fits"
+RULES, ROOTS, FITS = "reduction/specs/Rules", "reduction/proofs/Roots", "reduction/proofs/Fires"
 BOTH, DISJOINT, REDUCTION = RULES + " " + ROOTS, "reduction/proofs/Disjoint", "reduction/specs/Reduction"
 CHECKS, VALUES, RUN, NORMALIZE = "typing/specs/Refusals", "syntax/specs/Values", "semantics/specs/Run", "outcomes/specs/Normalize"
 CHECK_2, CHECK_3 = "  _ ← require 2 (wellFormedTypes 0 (tables .types))\n", "  _ ← require 3 (distinct (tables .types))\n"
