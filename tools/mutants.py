@@ -7,33 +7,33 @@ named here, in files that it did not touch. Exit status 1 if one is not, or if i
 import pathlib, re, shutil, subprocess, sys, tempfile
 
 ROOT = pathlib.Path(__file__).resolve().parent.parent
-RULES, ROOTS, FITS = "reduction/specs/Rules", "reduction/proofs/Roots", "reduction/proofs/Fires"
-BOTH, DISJOINT, REDUCTION = RULES + " " + ROOTS, "reduction/proofs/Disjoint", "reduction/specs/Reduction"
+RULES, ROOTS, FIRES = "reduction/specs/Rules", "reduction/proofs/Roots", "reduction/proofs/Fires"
+ALL, DISJOINT, REDUCTION = RULES + " " + ROOTS + " " + FIRES, "reduction/proofs/Disjoint", "reduction/specs/Reduction"
 CHECKS, VALUES, RUN, NORMALIZE = "typing/specs/Refusals", "syntax/specs/Values", "semantics/specs/Run", "outcomes/specs/Normalize"
 CHECK_2, CHECK_3 = "  _ ← require 2 (wellFormedTypes 0 (tables .types))\n", "  _ ← require 3 (distinct (tables .types))\n"
 CHECK_8, CHECK_9 = "  _ ← require 8 (scoped tables t)\n", "  A ← provide 9 (infer tables t (tables .inputs))\n"
 CAPACITY = "min (min (length (b .output)) (min (length (b .scratch₁)) (length (b .scratch₂)))) maxCapacity"
 
-# Name, the crate that refuses, edits (files, old, new). Laws of `reduction` state the rules a second time, as families; where the theory is
-# to refuse a rule, the family and its law are made wrong in the same way, so that `reduction` is proved.
+# Name, the crate that refuses, edits (files, old, new). Laws of `reduction` state the rules twice more, as families; the first six mutants
+# make the families wrong in the same way, so that what refuses them is not the rule's second statement but what follows from it.
 MUTANTS = [
     ("a rule that doubles a call: let value also for a call", "theory", [
         (RULES, "_&&_}", "_&&_, _||_}"), (RULES, "given}", "given, isSome}"), (RULES, "case, asVar,", "case, asVar, asCall,"),
         (RULES, "(v, b) ← asBind t\n  given (isValue v)", "(v, b) ← asBind t\n  given (isValue v || isSome (asCall v))"),
         (ROOTS, "{Bool}", "{Bool, _||_}\nuse Rattle.syntax.specs.Maybe.{isSome}"), (ROOTS, "case, arg}", "case, arg, asCall}"),
         (ROOTS, "r-value : {v b : Term} → T (isValue v)", "r-value : {v b : Term} → T (isValue v || isSome (asCall v))"),
-        (FITS, "_&&_, not}", "_&&_, _||_, not}\nuse Rattle.syntax.specs.Maybe.{isSome}"), (FITS, "done, arg}", "done, arg, asCall}"),
-        (FITS, "(isValue (x .0)) (x .1 ⟦", "(isValue (x .0) || isSome (asCall (x .0))) (x .1 ⟦"),
+        (FIRES, "_&&_, not}", "_&&_, _||_, not}\nuse Rattle.syntax.specs.Maybe.{isSome}"), (FIRES, "done, arg}", "done, arg, asCall}"),
+        (FIRES, "(isValue (x .0)) (x .1 ⟦", "(isValue (x .0) || isSome (asCall (x .0))) (x .1 ⟦"),
+        (FIRES, "f-value : {v b : Term} → T (isValue v)", "f-value : {v b : Term} → T (isValue v || isSome (asCall v))"),
         (DISJOINT, "partsOf, asVar,", "partsOf, asCall, asVar,"), (DISJOINT, "partsOf asVar", "partsOf asCall asVar")]),
-    ("drop of a let that is used once", "theory", [
-        (BOTH, "eqb}", "leb}"), (FITS, "eqb}", "leb}"),
-        (BOTH, "eqb (uses b 0) 0", "leb (uses b 0) 1"), (FITS, "eqb (uses (x .1) 0) 0", "leb (uses (x .1) 0) 1")]),
-    ("let of case into one branch only", "theory", [(BOTH, "(bind r (weakenBody c))", "r")]),
-    ("let of let without renumbering", "theory", [(BOTH, "b (weakenBody c)", "b c"), (FITS, "(weakenBody (x .1))", "(x .1)")]),
+    ("drop of a let that is used once", "reduction", [
+        (ALL, "eqb}", "leb}"), (ALL, "eqb (uses b 0) 0", "leb (uses b 0) 1"), (FIRES, "eqb (uses (x .1) 0) 0", "leb (uses (x .1) 0) 1")]),
+    ("let of case into one branch only", "theory", [(ALL, "(bind r (weakenBody c))", "r")]),
+    ("let of let without renumbering", "reduction", [(ALL, "b (weakenBody c)", "b c"), (FIRES, "(weakenBody (x .1))", "(x .1)")]),
     ("apply to a computation", "theory", [
         (RULES, "given (isValue a) (b", "given true (b"), (ROOTS, "{Bool}", "{Bool, true}"),
-        (ROOTS, "{b v : Term} → T (isValue v)", "{b v : Term} → T true"), (FITS, "(isValue (x .1)) (b", "true (b")]),
-    ("left case takes the right branch", "theory", [(BOTH, "(l ⟦ v ⟧)", "(r ⟦ v ⟧)"), (FITS, "(x .1 ⟦ v ⟧)", "(x .2 ⟦ v ⟧)")]),
+        (ROOTS + " " + FIRES, "{b v : Term} → T (isValue v)", "{b v : Term} → T true"), (FIRES, "(isValue (x .1)) (b", "true (b")]),
+    ("left case takes the right branch", "reduction", [(ALL, "(l ⟦ v ⟧)", "(r ⟦ v ⟧)"), (FIRES, "(x .1 ⟦ v ⟧)", "(x .2 ⟦ v ⟧)")]),
     ("a claim that says nothing of redexes", "theory", [
         ("semantics/specs/Claim", "normal ≡ true", "normal ≡ isNormal allPure normal"), ("theory/proofs/Claimed", "z .normal;", "refl;")]),
     ("a run goes right to left", "theory", [(RUN, "h ← run ρ f\n    v ← run ρ a\n", "v ← run ρ a\n    h ← run ρ f\n")]),
