@@ -2,25 +2,15 @@
 ghost use Prim.Native.Nat.{_≤_};
 ghost use lib.ListN.{length};
 use crate::words::MOST_BUFFER;
-use crate::words::MOST_WORDS;
 use crate::words::digest;
 use crate::words::fill;
-use bundles::listing::listing;
-use bundles::read::read_bundle;
 use checker::check::check;
 use libc::STDOUT_FILENO;
 use normalizer::normalize::normalize;
 use outcomes::Answer;
-use outcomes::Lengths;
 use reducer::is_normal::is_normal;
-
-// the most bytes of a listing
-const MOST_TEXT: usize = 139393;
-
-// the buffers and the budget of the program
-const CAPACITY: usize = 8192;
-
-const BUDGET: u32 = 1000000;
+use responder::MOST_WRITTEN;
+use responder::respond;
 
 fn wide(n: u32) -> u64 {
     n as u64
@@ -174,74 +164,13 @@ fn write_front(text: &[u8], n: usize) {
     io::write_all(STDOUT_FILENO, &text[start..n]);
 }
 
-fn put_listing(answer: Answer, output: &[u64]) {
-    let mut text: [u8; MOST_TEXT] = [0; MOST_TEXT];
-    let n = listing(answer, output, &mut text);
-    write_front(&text, n);
-}
-
-fn unreadable() -> Answer {
-    Answer {
-        refusal: 12,
-        ty: 0,
-        length: 0,
-        counts: [0; 10],
-    }
-}
-
-fn list_normal(types: &[u64], calls: &[u64], inputs: &[u64], term: &[u64]) {
-    let mut output: [u64; CAPACITY] = [0; CAPACITY];
-    let mut first: [u64; CAPACITY] = [0; CAPACITY];
-    let mut second: [u64; CAPACITY] = [0; CAPACITY];
-    let answer = normalize(
-        types,
-        calls,
-        inputs,
-        term,
-        BUDGET,
-        &mut output,
-        &mut first,
-        &mut second,
-    );
-    put_listing(answer, &output);
-}
-
-// the tables stand one after the other; the reader's lengths always fit, and the tests show it again
-fn list_tables(lengths: Lengths, words: &[u64]) {
-    let a = lengths.types;
-    if words.len() < a {
-        return;
-    }
-    let calls = lengths.calls;
-    if words.len() - a < calls {
-        return;
-    }
-    let b = a + calls;
-    let inputs = lengths.inputs;
-    if words.len() - b < inputs {
-        return;
-    }
-    let c = b + inputs;
-    let term = lengths.words;
-    if words.len() - c < term {
-        return;
-    }
-    let d = c + term;
-    let start: usize = 0;
-    list_normal(&words[start..a], &words[a..b], &words[b..c], &words[c..d]);
-}
-
 // call 0, on the first so many bytes
-pub fn respond(bytes: &[u8], size: usize) {
+pub fn bundle_listing(bytes: &[u8], size: usize) {
     if bytes.len() < size {
         return;
     }
     let start: usize = 0;
-    let mut words: [u64; MOST_WORDS] = [0; MOST_WORDS];
-    let lengths = read_bundle(&bytes[start..size], &mut words);
-    if 0 < lengths.refusal {
-        put_listing(unreadable(), &words);
-        return;
-    }
-    list_tables(lengths, &words);
+    let mut text: [u8; MOST_WRITTEN] = [0; MOST_WRITTEN];
+    let n = respond(&bytes[start..size], &mut text);
+    write_front(&text, n);
 }

@@ -7,10 +7,10 @@ use libc::STDIN_FILENO;
 mod words; // words.rt: words from bytes, and the buffers' contents
 mod lines; // lines.rt: what is written for each call
 
+use crate::lines::bundle_listing;
 use crate::lines::check_line;
 use crate::lines::normal_line;
 use crate::lines::normalize_line;
-use crate::lines::respond;
 use crate::words::HEADER_BYTES;
 use crate::words::MOST_BYTES;
 use crate::words::MOST_WORDS;
@@ -35,7 +35,7 @@ fn bundle(head: &[u8; HEADER_BYTES]) -> bool {
     if !read_front(&mut bytes, (size + 7) / 8 * 8) {
         return false;
     }
-    respond(&bytes, size);
+    bundle_listing(&bytes, size);
     true
 }
 

@@ -1,12 +1,11 @@
 // The program: reads a bundle from standard input and writes its listing to standard output.
 use libc::STDIN_FILENO;
 use libc::STDOUT_FILENO;
+use responder::MOST_WRITTEN;
 use responder::respond;
 
 // one byte more than a bundle may have, so that a longer input is refused
 const MOST_READ: usize = 65537;
-// the longest listing
-const MOST_WRITTEN: usize = 139393;
 
 fn write_front(text: &[u8], n: usize) {
     if n <= text.len() {

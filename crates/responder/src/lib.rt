@@ -14,6 +14,9 @@ use normalizer::normalize::normalize;
 use outcomes::Answer;
 use outcomes::Lengths;
 
+// the most bytes that an answer takes
+pub const MOST_WRITTEN: usize = 139393;
+
 // normalizes with the program's settings and lists the answer
 fn answer_to(types: &[u64], calls: &[u64], inputs: &[u64], term: &[u64], text: &mut [u8]) -> usize
     ensures { λ r. ⌜
