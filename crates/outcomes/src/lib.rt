@@ -12,7 +12,8 @@ pub struct Tested {
     pub normal: bool,
 }
 
-// normalization: refusal number, type number, length of the normal form, and ten counts in the order of the rules
+// normalization: refusal number, type number, length of the normal form, and ten counts in the order of the rules; laid out as C does
+#[repr(C)]
 pub struct Answer {
     pub refusal: u32,
     pub ty: u64,

@@ -1,0 +1,37 @@
+// The public calls `respond` and `normalize` for programs in C and Rust.
+ghost use mathlib.Core.Path.{_≡_};
+ghost use Rattle.syntax.specs.Tables.{over};
+ghost use Rattle.outcomes.specs.Contract.{Normalizes};
+ghost use Rattle.outcomes.specs.Respond.{respondOutcome};
+use normalizer::normalize::normalize;
+use outcomes::Answer;
+use responder::respond;
+
+// `responder::respond`
+#[no_mangle]
+pub extern "C" fn flatten_respond(bytes: &[u8], text: &mut [u8]) -> usize
+    ensures { λ r. ⌜ record { length = r; buffer = now (text .exit) } ≡ respondOutcome (now (bytes .entry)) (now (text .entry)) ⌝ }
+{
+    respond(bytes, text)
+}
+
+// `normalizer::normalize`
+#[no_mangle]
+pub extern "C" fn flatten_normalize(
+    types: &[u64],
+    calls: &[u64],
+    inputs: &[u64],
+    term: &[u64],
+    budget: u32,
+    output: &mut [u64],
+    first: &mut [u64],
+    second: &mut [u64],
+) -> Answer
+    ensures { λ r. ⌜
+        Normalizes (record { budget = budget }) (over (now (types .entry)) (now (calls .entry)) (now (inputs .entry))) (now (term .entry))
+        (record { output = now (output .entry); scratch₁ = now (first .entry); scratch₂ = now (second .entry) }) r
+        (record { output = now (output .exit); scratch₁ = now (first .exit); scratch₂ = now (second .exit) })
+        ⌝ }
+{
+    normalize(types, calls, inputs, term, budget, output, first, second)
+}
