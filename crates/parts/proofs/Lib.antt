@@ -1,6 +1,9 @@
 pub mod Extents
 pub mod Traversal
 pub mod Variables
+pub mod Joined
+pub mod Binding
+pub mod Rows
 pub mod Counting
 pub mod Writing
 pub mod Renaming

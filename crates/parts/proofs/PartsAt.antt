@@ -16,18 +16,8 @@ use Rattle.parts.specs.Joined.{joined}
 use Rattle.parts.specs.Ends.{Sized}
 use Rattle.parts.specs.Counts.{Counts}
 use Rattle.parts.specs.declared.uses.Uses.{Uses}
+use Rattle.parts.proofs.Joined.{encode-joined, shaped-joined, size-joined}
 use Rattle.parts.proofs.Traversal.{front-of, first-word, fits, from-length}
-
-encode-joined : (ts us : Terms) → encodeAll (joined ts us) ≡ encodeAll ts ++ encodeAll us
-unfolding joined encode
-encode-joined done us = refl
-encode-joined (arg t ts) us = ap (λ (l : List ℕ). encode t ++ l) (encode-joined ts us)
-    ∙ sym (append-assoc (encode t) (encodeAll ts) (encodeAll us))
-
-shaped-joined : (calls : List ℕ) (ts us : Terms) → ShapedAll calls ts → ShapedAll calls us → ShapedAll calls (joined ts us)
-unfolding joined Shaped
-shaped-joined calls done us p q = q
-shaped-joined calls (arg t ts) us p q = (p .0, shaped-joined calls ts us (p .1) q)
 
 -- a term that stands at an index: its end, its words, its first word
 module _ {calls : List ℕ} (words : List ℕ) (i : ℕ) {t : Term} {rest : List ℕ} (h : Holds calls (from words i) t rest) where
@@ -87,12 +77,8 @@ module _ (calls words : List ℕ) where
         record {
           shaped = shaped-joined calls (node t .parts) ts (shaped-node calls t (p .shaped .0) .shaped) (p .shaped .1);
           here = sym (drop-drop 1 i words) ∙ ap (drop 1) (p .here ∙ e);
-          inside = omega (arith, p .inside, size-arg t ts, size-node t, size-joined);
+          inside = omega (arith, p .inside, size-arg t ts, size-node t, size-joined (node t .parts) ts);
         }
-      where
-        size-joined : sizeAll (joined (node t .parts) ts) ≡ sizeAll (node t .parts) + sizeAll ts
-        size-joined = ap (λ (l : List ℕ). length l) (encode-joined (node t .parts) ts)
-            ∙ length-append (encodeAll (node t .parts)) (encodeAll ts)
 
   -- some n parts stand from i on
   pub record Row (i n : ℕ) : Type 0 where

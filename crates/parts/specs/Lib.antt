@@ -2,5 +2,6 @@ pub mod Shapes
 pub mod Ends
 pub mod Fronts
 pub mod Joined
+pub mod Binding
 pub mod Counts
 pub mod Writes

@@ -5,6 +5,7 @@ ghost use Rattle.syntax.specs.Kinds.{bindersAt};
 ghost use Rattle.syntax.specs.Tables.{arity as arityOf};
 ghost use Rattle.syntax.specs.Parts.{partCount};
 ghost use Rattle.parts.specs.Shapes.{Shaping};
+ghost use Rattle.parts.specs.Binding.{outerCount};
 use crate::fields::kind;
 use crate::fields::number;
 
@@ -58,6 +59,17 @@ pub fn binders(k: u64, j: usize) -> usize
         return 1;
     }
     0
+}
+
+// how many of the n parts of a node its binder does not reach: the first ones
+pub fn outer_count(k: u64, n: usize) -> usize
+    ensures { λ r. ⌜ r ≡ outerCount k n ⌝ }
+{
+    let s = shape_of(k);
+    if s.binds {
+        return s.free;
+    }
+    n
 }
 
 // how many arguments a call takes, 0 past the table

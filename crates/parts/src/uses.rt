@@ -1,11 +1,14 @@
 // How often a part uses a variable.
+ghost use mathlib.Core.Path.{_≡_};
 ghost use Prim.Native.Nat.{ℕ, _+_, _≤_};
+ghost use lib.Dec.{eqb};
 ghost use lib.ListN.{length};
-ghost use Rattle.parts.specs.Fronts.{Starts};
-ghost use Rattle.parts.specs.Counts.{Counts};
+ghost use Rattle.syntax.specs.Values.{counts};
+ghost use Rattle.parts.specs.Fronts.{Starts, StartsAll};
+ghost use Rattle.parts.specs.Counts.{Counts, CountsAll};
 use crate::fields::kind;
 use crate::fields::number;
-use crate::shape::binders;
+use crate::shape::outer_count;
 use crate::shape::part_count;
 
 // where a part ends, and how often it uses a variable
@@ -14,32 +17,65 @@ pub struct Uses {
     pub uses: usize,
 }
 
-// where the part at the front ends, and how often it uses the variable `depth`
-pub fn count_uses(calls: &[u64], t: &[u64], depth: usize) -> Uses
-    requires { ⌜ Starts (now calls) (now t) × (depth + length (now t) ≤ 65536) ⌝ }
-    ensures { λ r. ⌜ Counts (now (calls .entry)) (now (t .entry)) depth r ⌝ }
+// 1 if two variables are the same, else 0
+fn same(v: usize, u: usize) -> usize
+    ensures { λ r. ⌜ (r ≡ counts (eqb v u)) × (r ≤ 1) ⌝ }
 {
-    let w = t[0];
-    let k = kind(w);
-    if k == 0 {
-        if number(w) as usize == depth {
-            return Uses { end: 1, uses: 1 };
-        }
-        return Uses { end: 1, uses: 0 };
+    if v == u {
+        return 1;
     }
-    let n = part_count(calls, w);
-    let mut at: usize = 1;
+    0
+}
+
+// where so many parts at the front end, and how often they use the variable `depth`; only the parts that a binder reaches
+// need a call of their own, and none if they are the last
+fn count_parts(calls: &[u64], t: &[u64], parts: usize, depth: usize) -> Uses
+    requires { ⌜ StartsAll (now calls) (now t) parts × (depth + length (now t) ≤ 65536) ⌝ }
+    ensures { λ r. ⌜ CountsAll (now (calls .entry)) (now (t .entry)) parts depth r ⌝ }
+{
+    let mut owed = parts;
+    let mut under = depth;
+    let mut at: usize = 0;
     let mut uses: usize = 0;
-    let mut j: usize = 0;
-    while j < n {
-        let inner = depth + binders(k, j);
-        let part = count_uses(calls, &t[at..], inner);
-        at = at + part.end;
-        uses = uses + part.uses;
-        j += 1;
+    while 0 < owed {
+        let w = t[at];
+        let k = kind(w);
+        if k == 0 {
+            uses = uses + same(number(w) as usize, under);
+            at += 1;
+            owed -= 1;
+        } else {
+            let n = part_count(calls, w);
+            let outer = outer_count(k, n);
+            at += 1;
+            if outer == n {
+                owed = owed - 1 + n;
+            } else {
+                let first = count_parts(calls, &t[at..], outer, under);
+                at = at + first.end;
+                uses = uses + first.uses;
+                if owed == 1 {
+                    owed = n - outer;
+                    under += 1;
+                } else {
+                    let later = count_parts(calls, &t[at..], n - outer, under + 1);
+                    at = at + later.end;
+                    uses = uses + later.uses;
+                    owed -= 1;
+                }
+            }
+        }
     }
     Uses {
         end: at,
         uses: uses,
     }
+}
+
+// where the part at the front ends, and how often it uses the variable `depth`
+pub fn count_uses(calls: &[u64], t: &[u64], depth: usize) -> Uses
+    requires { ⌜ Starts (now calls) (now t) × (depth + length (now t) ≤ 65536) ⌝ }
+    ensures { λ r. ⌜ Counts (now (calls .entry)) (now (t .entry)) depth r ⌝ }
+{
+    count_parts(calls, t, 1, depth)
 }

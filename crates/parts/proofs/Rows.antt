@@ -1,0 +1,223 @@
+-- Going through a row of terms node by node: the words ahead are those of a row too, because a node's parts come before what follows it.
+use Prim.Native.Nat.{ℕ, suc, _+_, _-_, _≤_, _<_}
+use native.Mathlib.Omega.{arith}
+use mathlib.Core.Path.{_≡_, refl, sym, _∙_, ap, subst}
+use mathlib.Core.List.{List, _++_, append-assoc, append-nil}
+use lib.ListN.{length, getD, drop, take, length-append}
+use lib.Seq.{drop-drop, drop-append-seam}
+use Rattle.syntax.specs.Words.{kindOf, numberOf}
+use Rattle.syntax.specs.Term.{Term, Terms, done, arg, node}
+use Rattle.syntax.specs.Encoding.{wordOf, encode, encodeAll, size}
+use Rattle.syntax.specs.Parts.{partCount}
+use Rattle.syntax.specs.Shaped.{count, Shaped, ShapedAll}
+use Rattle.syntax.proofs.Nodes.{tail-part}
+use Rattle.syntax.proofs.Sizes.{sizeAll, size-node, size-arg, size-positive}
+use Rattle.parts.specs.Fronts.{Holds, Starts, HoldsAll, StartsAll, from}
+use Rattle.parts.specs.Joined.{joined}
+use Rattle.parts.specs.Binding.{outer, inner, outerCount}
+use Rattle.parts.proofs.Joined.{encode-joined, size-joined, joined-shaped, count-joined, joined-assoc}
+use Rattle.parts.proofs.Binding.{node-parts, outer-many}
+use Rattle.parts.proofs.Traversal.{front-of, first-word}
+use Rattle.parts.proofs.PartsAt.{PartsAt, part-here, parts-open, held-first}
+
+-- one term is a row of one
+pub one-holds : {calls words : List ℕ} {t : Term} {rest : List ℕ} → Holds calls words t rest → HoldsAll calls words 1 (arg t done) rest
+unfolding Shaped encode count
+one-holds {t = t} {rest = rest} h = record {
+  shaped = (h .shaped, tt);
+  is = h .is ∙ ap (λ (l : List ℕ). l ++ rest) (sym (append-nil (encode t)));
+  many = refl;
+}
+
+pub one-starts : {calls words : List ℕ} → Starts calls words → StartsAll calls words 1
+one-starts s = record { terms = arg (s .term) done; rest = s .rest; holds = one-holds (s .holds) }
+
+-- a term has a word at least
+pub count-size : (ts : Terms) → count ts ≤ sizeAll ts
+unfolding count
+count-size done = omega arith
+count-size (arg t ts) = omega (arith, count-size ts, size-arg t ts, size-positive t)
+
+-- a row in two: the first a terms, and P of them and the others
+pub record Cut (a : ℕ) (P : Terms → Terms → Type 0) (us : Terms) : Type 0 where
+  pub front : Terms
+  pub later : Terms
+  pub is : us ≡ joined front later
+  pub many : count front ≡ a
+  pub facts : P front later
+
+module _ (calls words : List ℕ) where
+  module _ {i : ℕ} {rest : List ℕ} (ts us : Terms) (p : PartsAt calls words i (joined ts us) rest) where
+    here : drop i words ≡ encodeAll ts ++ (encodeAll us ++ rest)
+    here = p .here ∙ ap (λ (l : List ℕ). l ++ rest) (encode-joined ts us) ∙ append-assoc (encodeAll ts) (encodeAll us) rest
+
+    -- the first terms of a row
+    row-front : (a : ℕ) → count ts ≡ a → HoldsAll calls (from words i) a ts (encodeAll us ++ rest)
+    row-front a e = record { shaped = joined-shaped calls ts us (p .shaped) .0; is = tail-part words i ∙ here; many = e }
+
+    -- the others behind them
+    row-behind : (l : ℕ) → l ≡ sizeAll ts → PartsAt calls words (i + l) us rest
+    row-behind l e = record {
+      shaped = joined-shaped calls ts us (p .shaped) .1;
+      here = sym (drop-drop l i words) ∙ ap (drop l) here
+          ∙ ap (λ (j : ℕ). drop j (encodeAll ts ++ (encodeAll us ++ rest))) e
+          ∙ drop-append-seam (encodeAll ts) (encodeAll us ++ rest);
+      inside = omega (arith, p .inside, size-joined ts us, e);
+    }
+
+  -- the row ahead, of `owed` terms, and Q of the whole row and this
+  pub record Standing (Q : Terms → Terms → Type 0) (at owed : ℕ) (ts : Terms) (rest : List ℕ) : Type 0 where
+    pub ahead : Terms
+    pub here : PartsAt calls words at ahead rest
+    pub many : count ahead ≡ owed
+    pub sized : at + sizeAll ahead ≡ sizeAll ts
+    pub to-do : Q ts ahead
+
+  -- the invariant of a loop over the nodes: for whatever row of n terms is at the front
+  pub record Marching (Q : Terms → Terms → Type 0) (n at owed : ℕ) : Type 0 where
+    pub start : StartsAll calls words n
+    pub stand : (ts : Terms) (rest : List ℕ) → HoldsAll calls words n ts rest → Standing Q at owed ts rest
+
+  -- before the first node
+  pub march : (Q : Terms → Terms → Type 0) (n : ℕ) → StartsAll calls words n → ((ts : Terms) → Q ts ts) → Marching Q n 0 n
+  march Q n s q = record {
+    start = s;
+    stand = λ ts rest h. record {
+      ahead = ts;
+      here = record {
+        shaped = h .shaped;
+        here = h .is;
+        inside = omega (arith, ap (λ (l : List ℕ). length l) (h .is), length-append (encodeAll ts) rest);
+      };
+      many = h .many;
+      sized = omega arith;
+      to-do = q ts;
+    };
+  }
+
+  -- the node at the front of the row ahead
+  pub record Visit (Q : Terms → Terms → Type 0) (at owed : ℕ) (ts : Terms) (rest : List ℕ) : Type 0 where
+    pub term : Term
+    pub later : Terms
+    pub holds : Holds calls (from words at) term (encodeAll later ++ rest)
+    pub row : PartsAt calls words (at + 1) (joined (outer term) (joined (inner term) later)) rest
+    pub word : getD words at 0 ≡ wordOf term
+    pub kind : kindOf (getD words at 0) ≡ node term .kind
+    pub number : numberOf (getD words at 0) ≡ node term .number
+    pub parts : partCount calls (getD words at 0) ≡ count (outer term) + count (inner term)
+    pub outers : outerCount (kindOf (getD words at 0)) (partCount calls (getD words at 0)) ≡ count (outer term)
+    pub many : owed ≡ count later + 1
+    pub sized : at + 1 + (sizeAll (outer term) + (sizeAll (inner term) + sizeAll later)) ≡ sizeAll ts
+    pub to-do : Q ts (arg term later)
+
+  visit-first : {Q : Terms → Terms → Type 0} {at owed : ℕ} {ts : Terms} {rest : List ℕ} (us : Terms) → PartsAt calls words at us rest
+      → count us ≡ owed → at + sizeAll us ≡ sizeAll ts → Q ts us → 1 ≤ owed → Visit Q at owed ts rest
+  unfolding count
+  visit-first done p m e q lt = absurd (omega (arith, m, lt))
+  visit-first {at = at} {ts = ts} {rest = rest} (arg t us) p m e q lt =
+      let h = part-here calls words p in
+      let f = front-of h in
+      let w : getD words at 0 ≡ wordOf t = held-first words at h in
+      let v : getD words at 0 ≡ getD (from words at) 0 0 = w ∙ sym (first-word h) in
+      let k : kindOf (getD words at 0) ≡ node t .kind = ap kindOf v ∙ f .kind in
+      let n : partCount calls (getD words at 0) ≡ count (node t .parts) = ap (partCount calls) v ∙ f .parts in
+      record {
+        term = t;
+        later = us;
+        holds = h;
+        row = subst (λ (l : Terms). PartsAt calls words (at + 1) l rest)
+            (ap (λ (l : Terms). joined l us) (node-parts t) ∙ joined-assoc (outer t) (inner t) us) (parts-open calls words p);
+        word = w;
+        kind = k;
+        number = ap numberOf v ∙ f .number;
+        parts = n ∙ ap count (node-parts t) ∙ count-joined (outer t) (inner t);
+        outers = ap (λ (i : ℕ). outerCount i (partCount calls (getD words at 0))) k ∙ ap (outerCount (node t .kind)) n ∙ outer-many t;
+        many = omega (arith, m);
+        sized = omega
+            (arith, e, size-arg t us, size-node t, ap (λ (l : Terms). sizeAll l) (node-parts t), size-joined (outer t) (inner t));
+        to-do = q;
+      }
+
+  module _ {Q : Terms → Terms → Type 0} {n at owed : ℕ} (g : Marching Q n at owed) where
+    -- the words passed and the terms owed are no more than the words there are
+    pub march-inside : at + owed ≤ length words
+    march-inside =
+        let s = g .stand _ _ (g .start .holds) in
+        omega (arith, s .here .inside, s .many, count-size (s .ahead))
+
+    -- no term is owed
+    pub march-end : owed ≡ 0 → (ts : Terms) (rest : List ℕ) → HoldsAll calls words n ts rest → (at ≡ sizeAll ts) × Q ts done
+    unfolding count encode
+    march-end z ts rest h = let s = g .stand ts rest h in last (s .ahead) (s .many) (s .sized) (s .to-do)
+      where
+        last : (us : Terms) → count us ≡ owed → at + sizeAll us ≡ sizeAll ts → Q ts us → (at ≡ sizeAll ts) × Q ts done
+        last done m e q = (omega (arith, e), q)
+        last (arg u us) m e q = absurd (omega (arith, m, z))
+
+    -- what is said of the row ahead, said otherwise
+    pub march-said : (R : Terms → Terms → Type 0) → ((ts us : Terms) → count us ≡ owed → Q ts us → R ts us) → Marching R n at owed
+    march-said R r = record {
+      start = g .start;
+      stand = λ ts rest h.
+          let s = g .stand ts rest h in
+          record { ahead = s .ahead; here = s .here; many = s .many; sized = s .sized; to-do = r ts (s .ahead) (s .many) (s .to-do) };
+    }
+
+    module _ (lt : 1 ≤ owed) where
+      pub visit : (ts : Terms) (rest : List ℕ) → HoldsAll calls words n ts rest → Visit Q at owed ts rest
+      visit ts rest h = let s = g .stand ts rest h in visit-first (s .ahead) (s .here) (s .many) (s .sized) (s .to-do) lt
+
+      -- past the node: its parts come first
+      pub march-on : (R : Terms → Terms → Type 0) (m : ℕ) → m ≡ owed - 1 + partCount calls (getD words at 0)
+          → ((ts : Terms) (rest : List ℕ) → (v : Visit Q at owed ts rest) → R ts (joined (outer (v .term)) (joined (inner (v .term)) (v .later))))
+          → Marching R n (at + 1) m
+      march-on R m e r = record {
+        start = g .start;
+        stand = λ ts rest h.
+            let v = visit ts rest h in
+            let o = outer (v .term) in
+            let i = inner (v .term) in
+            record {
+              ahead = joined o (joined i (v .later));
+              here = v .row;
+              many = omega (arith, e, v .parts, v .many, count-joined o (joined i (v .later)), count-joined i (v .later));
+              sized = omega (arith, v .sized, size-joined o (joined i (v .later)), size-joined i (v .later));
+              to-do = r ts rest v;
+            };
+      }
+
+  -- a row whose first a terms are gone through at once
+  module _ {a : ℕ} {P : Terms → Terms → Terms → Type 0} {n at owed : ℕ} (g : Marching (λ ts us. Cut a (P ts) us) n at owed) where
+    cut-here : {ts : Terms} {rest : List ℕ} (s : Standing (λ ts us. Cut a (P ts) us) at owed ts rest)
+        → PartsAt calls words at (joined (s .to-do .front) (s .to-do .later)) rest
+    cut-here {rest = rest} s = subst (λ (l : Terms). PartsAt calls words at l rest) (s .to-do .is) (s .here)
+
+    -- they start a slice that can be handed on
+    pub march-starts : StartsAll calls (from words at) a
+    march-starts =
+        let s = g .stand _ _ (g .start .holds) in
+        record { terms = s .to-do .front; rest = _; holds = row-front _ _ (cut-here s) a (s .to-do .many) }
+
+    -- past them, l words further
+    module _ (l m : ℕ) (S : Terms → Terms → Type 0) (me : owed ≡ a + m)
+        (d : (ts front later : Terms) (rest : List ℕ) → HoldsAll calls (from words at) a front rest → P ts front later
+            → (l ≡ sizeAll front) × S ts later) where
+      passed : {ts : Terms} {rest : List ℕ} (s : Standing (λ ts us. Cut a (P ts) us) at owed ts rest)
+          → (l ≡ sizeAll (s .to-do .front)) × S ts (s .to-do .later)
+      passed {ts} s = d ts (s .to-do .front) (s .to-do .later) _ (row-front _ _ (cut-here s) a (s .to-do .many)) (s .to-do .facts)
+
+      pub march-past : Marching S n (at + l) m
+      march-past = record {
+        start = g .start;
+        stand = λ ts rest h.
+            let s = g .stand ts rest h in
+            let c = s .to-do in
+            let p = passed s in
+            record {
+              ahead = c .later;
+              here = row-behind (c .front) (c .later) (cut-here s) l (p .0);
+              many = omega (arith, s .many, me, c .many, ap count (c .is), count-joined (c .front) (c .later));
+              sized = omega (arith, s .sized, p .0, ap (λ (x : Terms). sizeAll x) (c .is), size-joined (c .front) (c .later));
+              to-do = p .1;
+            };
+      }
