@@ -6,6 +6,9 @@ pub mod Binding
 pub mod Rows
 pub mod Counting
 pub mod Writing
+pub mod Tracing
+pub mod TraceParts
+pub mod Copying
 pub mod Renaming
 pub mod Substituting
 pub mod Sized

@@ -1,137 +1,78 @@
--- Renaming into a buffer, part by part: each part is renamed under its binders, which moves the cut.
+-- Renaming into a buffer, node by node: a variable's word is raised, any other is copied, so as many words are written as are read.
 use Prim.Native.Nat.{ℕ, suc, _+_, _-_, _*_, _^_, _≤_, _<_}
 use native.Mathlib.Omega.{arith}
-use native.Mathlib.Numerals.{add-one}
 use mathlib.Core.Path.{_≡_, refl, sym, _∙_, ap, subst}
-use mathlib.Core.List.{List, [], _∷_, _++_}
+use mathlib.Core.List.{List, [], _∷_, _++_, append-nil}
 use lib.ListN.{length, getD, set, length-set}
 use lib.Seq.{sets}
 use Rattle.syntax.specs.Words.{kindOf, numberOf, pack}
-use Rattle.syntax.specs.Kinds.{bindersAt}
 use Rattle.syntax.specs.Term.{Term, Terms, var, done, arg, node}
-use Rattle.syntax.specs.Encoding.{wordOf, encode, encodeAll, size}
+use Rattle.syntax.specs.Encoding.{encode, encodeAll, size}
 use Rattle.syntax.specs.Parts.{partCount}
 use Rattle.syntax.specs.Substitution.{traverse, renaming, rename}
 use Rattle.syntax.specs.Under.{underBy, raiseAt}
-use Rattle.syntax.specs.PartsUnder.{traverseParts}
-use Rattle.syntax.proofs.PartsUnder.{encode-traverse}
-use Rattle.syntax.proofs.Sizes.{size-rename}
+use Rattle.syntax.proofs.Sizes.{size-renames, size-arg, size-done}
 use Rattle.syntax.proofs.Under.{raiseAt-below, raiseAt-above, underBy-underBy}
 use Rattle.parts.specs.Fronts.{Holds, Starts, from}
-use Rattle.parts.specs.Writes.{Room, Written, Renames}
-use Rattle.parts.proofs.Traversal.{front-of, first-word, Going, enter, enter-start, Does, Next, upcoming, reached, onward}
-use Rattle.parts.proofs.Traversal.{onward-start, leave}
-use Rattle.parts.proofs.Variables.{variable-at, word-variable}
-use Rattle.parts.proofs.Writing.{Writing, write-none, write-next, write-all}
+use Rattle.parts.specs.Binding.{outerCount}
+use Rattle.parts.specs.Writes.{raised, Room, Written, Renames, RenameRoom, RenamesAll}
+use Rattle.parts.proofs.Rows.{one-starts, one-holds}
+use Rattle.parts.proofs.Tracing.{Trace, Entered, Inside, trace-variable, trace-enter, outer-few}
+use Rattle.parts.proofs.TraceParts.{trace-outer}
 
 -- under so many binders more
 pub raise-under : (b cut by : ℕ) → underBy renaming b (raiseAt cut by) ≡ raiseAt (cut + b) by
 raise-under b cut by = underBy-underBy renaming b cut (λ n. by + n) ∙ ap (λ (c : ℕ). raiseAt c by) (omega arith)
 
--- o words of the parts are written, behind the node's own word, and the parts from j on are still to come
-abbrev pub Renamed : (old new : List ℕ) (at cut by k j o : ℕ) → Term → Terms → Type 0
-Renamed old new at cut by k j o t ts =
-    Writing old new (at + 1) o (encodeAll (traverseParts renaming k 0 (node t .parts) (raiseAt cut by)))
-    (encodeAll (traverseParts renaming k j ts (raiseAt cut by)))
+-- a variable's word, raised
+pub raise-below : (w cut by : ℕ) → w ≡ pack 0 (numberOf w) 0 → numberOf w < cut → w ≡ pack 0 (raiseAt cut by (numberOf w)) 0
+raise-below w cut by e lt = e ∙ ap (λ (i : ℕ). pack 0 i 0) (sym (raiseAt-below cut by (numberOf w) lt))
 
--- the loop's invariant; `old` is the buffer when the node's own word is written
-pub record Renaming (calls src old new : List ℕ) (at cut by k n m j : ℕ) : Type 0 where
-  pub going : Going calls src (Renamed old new at cut by k j (m - 1)) n m j
-  pub room : at + size (going .start .term) ≤ length old
-  pub len : length new ≡ length old
+pub raise-above : (w cut by : ℕ) → w ≡ pack 0 (numberOf w) 0 → cut ≤ numberOf w
+    → w + by * 2 ^ 30 ≡ pack 0 (raiseAt cut by (numberOf w)) 0
+raise-above w cut by e ge = ap (λ (x : ℕ). x + by * 2 ^ 30) e ∙ more (numberOf w)
+    ∙ ap (λ (i : ℕ). pack 0 i 0) (sym (raiseAt-above cut by (numberOf w) ge))
+  where
+    more : (n : ℕ) → pack 0 n 0 + by * 2 ^ 30 ≡ pack 0 (by + n) 0
+    more n = omega arith
 
-module _ (calls src old : List ℕ) (at cut by k : ℕ) (ke : k ≡ kindOf (getD src 0 0)) where
-  -- a variable
-  renamed-variable : (w number : ℕ) → k ≡ 0 → number ≡ numberOf (getD src 0 0) → w ≡ pack 0 (raiseAt cut by number) 0
-      → Renames calls src old (set old at w) at cut by 1
-  unfolding size encode traverse node
-  renamed-variable w number z ne we = record {
-    told = λ t rest h. variable-at h (sym ke ∙ z) (λ x. Written 1 old (set old at w) at x (rename x (raiseAt cut by))) λ v e. record {
-      read-is = refl;
-      new-is = ap (λ (x : ℕ). set old at x) (we ∙ ap (λ (i : ℕ). pack 0 (raiseAt cut by i) 0) (ne ∙ e));
-    };
-  }
+-- the loop's invariant
+abbrev pub Renaming : (calls src old : List ℕ) (n cut at by : ℕ) (new : List ℕ) (owed under i : ℕ) → Type 0
+Renaming calls src old n cut at by new owed under i = Trace renaming (raised by) calls src old n cut at new owed under i i
 
-  pub rename-below : (number : ℕ) → Room calls src (length old) at → k ≡ 0 → number ≡ numberOf (getD src 0 0) → number < cut
-      → Renames calls src old (set old at (getD src 0 0)) at cut by 1
-  rename-below number r z ne lt = renamed-variable (getD src 0 0) number z ne
-      (word-variable (r .start) (sym ke ∙ z) ne ∙ ap (λ (i : ℕ). pack 0 i 0) (sym (raiseAt-below cut by number lt)))
+module _ (by : ℕ) {calls src old : List ℕ} {n cut at : ℕ} {new : List ℕ} {owed under i : ℕ}
+    (g : Renaming calls src old n cut at by new owed under i) (lt : 1 ≤ owed) (k : ℕ) (ke : k ≡ kindOf (getD src i 0)) where
+  pub rename-variable : (w : ℕ) → k ≡ 0 → w ≡ pack 0 (raiseAt under by (numberOf (getD src i 0))) 0
+      → Renaming calls src old n cut at by (set new (at + i) w) (owed - 1) under (i + 1)
+  unfolding encode node size
+  rename-variable w z e = trace-variable renaming (raised by) g lt k ke (numberOf (getD src i 0)) z refl (set new (at + i) w) (at + i) 1 refl
+      (length-set new (at + i) w) λ a. (ap (λ (x : ℕ). set new (at + i) x) e, refl)
 
-  pub rename-above : (number w : ℕ) → Room calls src (length old) at → k ≡ 0 → number ≡ numberOf (getD src 0 0) → cut ≤ number
-      → w ≡ getD src 0 0 + by * 2 ^ 30 → Renames calls src old (set old at w) at cut by 1
-  rename-above number w r z ne ge we = renamed-variable w number z ne
-      (we ∙ ap (λ (x : ℕ). x + by * 2 ^ 30) (word-variable (r .start) (sym ke ∙ z) ne) ∙ raised
-      ∙ ap (λ (i : ℕ). pack 0 i 0) (sym (raiseAt-above cut by number ge)))
-    where
-      raised : pack 0 number 0 + by * 2 ^ 30 ≡ pack 0 (by + number) 0
-      raised = omega arith
+  -- the outer parts of a node are written
+  pub rename-within : (z : k ≡ 0 → ⊥) (m c : ℕ) (me : m ≡ partCount calls (getD src i 0)) (ce : c ≡ outerCount k m) (new′ : List ℕ) (r : ℕ)
+      → length new′ ≡ length (set new (at + i) (getD src i 0))
+      → RenamesAll calls (from src (i + 1)) c (set new (at + i) (getD src i 0)) new′ (at + (i + 1)) under by r
+      → Inside renaming (raised by) calls src old n cut at new′ (m - c + (owed - 1)) under (i + 1 + r) (i + 1 + r) (m - c)
+  rename-within z m c me ce new′ r l w = trace-outer (trace-enter renaming (raised by) g lt k ke z m c me ce (at + i) refl)
+      new′ (at + (i + 1)) r r _ refl (omega (arith, outer-few renaming (raised by) g lt k ke z m c me ce (at + i) refl, lt)) l w
 
-  -- before the first part
-  pub rename-enter : (n : ℕ) (w : ℕ) → Room calls src (length old) at → n ≡ partCount calls (getD src 0 0)
-      → Renaming calls src (set old at w) (set old at w) at cut by k n 1 0
-  rename-enter n w r e = record {
-    going = enter calls src Q n (r .start) e start;
-    room = subst (λ (s : Starts calls src). at + size (s .term) ≤ length (set old at w))
-        (sym (enter-start calls src Q n (r .start) e start))
-        (omega (arith, r .room, length-set old at w));
-    len = refl;
-  }
-    where
-      Q : Term → Terms → Type 0
-      Q = Renamed (set old at w) (set old at w) at cut by k 0 0
+-- of one term
+pub rename-one-room : {calls src : List ℕ} {len at : ℕ} (cut by : ℕ) → Room calls src len at → RenameRoom calls src 1 len at cut by
+unfolding encode
+rename-one-room cut by r = record {
+  start = one-starts (r .start);
+  given = tt;
+  room = omega (arith, r .room, size-renames (arg (r .start .term) done) (raiseAt cut by), size-arg (r .start .term) done, size-done);
+}
 
-      start : (t : Term) (rest : List ℕ) → Holds calls src t rest → Q t (node t .parts)
-      start t rest h = write-none (set old at w) (at + 1) _
-
-  -- after the last part
-  pub rename-leave : (n m j : ℕ) (new : List ℕ) → (k ≡ 0 → ⊥) → Renaming calls src (set old at (getD src 0 0)) new at cut by k n m j → n ≤ j
-      → Renames calls src old new at cut by m
-  unfolding traverseParts encode
-  rename-leave n m j new z g ge = record {
-    told = λ t rest h.
-        let q = leave calls src (g .going) ge t rest h in
-        let f : node t .kind ≡ k = sym (front-of h .kind) ∙ sym ke in
-        let all = encode-traverse renaming t (raiseAt cut by) (λ y. z (sym f ∙ y))
-        ∙ ap {B = List ℕ} (λ (i : ℕ). wordOf t ∷ encodeAll (traverseParts renaming i 0 (node t .parts) (raiseAt cut by))) f in
-        record { read-is = q .0; new-is = write-all (q .1) .0 ∙ rw (all, add-one at, first-word h) };
-  }
-
-module _ {calls src old new : List ℕ} {at cut by k n m j : ℕ} (g : Renaming calls src old new at cut by k n m j) where
-  module _ (lt : j < n) where
-    -- the next part has room
-    pub rename-room : Room calls (from src m) (length new) (at + m)
-    rename-room =
-        let u = upcoming calls src (g .going) lt in
-        record { start = record { term = u .part; rest = _; holds = u .holds }; room = omega (arith, u .inside, g .room, g .len) }
-
-    module _ (b : ℕ) (be : b ≡ bindersAt k j) (new′ : List ℕ) (r : ℕ)
-        (a : Renames calls (from src m) new new′ (at + m) (cut + b) by r) where
-      renamed : Does calls src (Renamed old new at cut by k j (m - 1)) (Renamed old new′ at cut by k (j + 1) (m + r - 1)) m r
-      unfolding traverseParts size encode
-      renamed t rest h part later holds q =
-          let w = a .told part (encodeAll later ++ rest) holds in
-          let f : raiseAt (cut + b) by ≡ underBy renaming (bindersAt k j) (raiseAt cut by) =
-          sym (raise-under b cut by) ∙ ap (λ (i : ℕ). underBy renaming i (raiseAt cut by)) be in
-          let y = rename part (underBy renaming (bindersAt k j) (raiseAt cut by)) in
-          let o : m - 1 + r ≡ m + r - 1 = omega (arith, g .going .low) in (
-            w .read-is,
-            subst (λ (i : ℕ). Renamed old new′ at cut by k i (m + r - 1) t later) (sym (add-one j))
-                (subst (λ (i : ℕ). Renamed old new′ at cut by k (suc j) i t later) o
-                (write-next (encode y) _ (at + m) r q (omega (arith, g .going .low))
-                (w .new-is ∙ ap (λ (x : ℕ → ℕ). sets new (at + m) (encode (rename part x))) f)
-                (w .read-is ∙ sym (size-rename part _)))),
-          )
-
-      pub rename-reached : m + r ≤ length src
-      rename-reached = reached calls src (Renamed old new′ at cut by k (j + 1) (m + r - 1)) r (g .going) lt renamed
-
-      -- a turn of the loop
-      pub rename-next : length new′ ≡ length new → Renaming calls src old new′ at cut by k n (m + r) (j + 1)
-      rename-next l =
-          let R = Renamed old new′ at cut by k (j + 1) (m + r - 1) in
-          record {
-            going = onward calls src R r (g .going) lt renamed;
-            room = subst (λ (s : Starts calls src). at + size (s .term) ≤ length old)
-                (sym (onward-start calls src R r (g .going) lt renamed)) (g .room);
-            len = l ∙ g .len;
-          }
+pub renames-one : {calls src old new : List ℕ} {at cut by r : ℕ} → RenamesAll calls src 1 old new at cut by r
+    → Renames calls src old new at cut by r
+unfolding encode traverse
+renames-one {old = old} {at = at} {cut = cut} {by = by} w = record {
+  told = λ t rest h.
+      let u = w .told (arg t done) rest (one-holds h) tt in
+      record {
+        read-is = omega (arith, u .read-is, size-arg t done, size-done);
+        new-is = u .new-is ∙ ap (λ (l : List ℕ). sets old at l) (append-nil (encode (rename t (raiseAt cut by))));
+      };
+}

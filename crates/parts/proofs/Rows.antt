@@ -29,7 +29,7 @@ one-holds {t = t} {rest = rest} h = record {
   many = refl;
 }
 
-pub one-starts : {calls words : List ℕ} → Starts calls words → StartsAll calls words 1
+abbrev pub one-starts : {calls words : List ℕ} → Starts calls words → StartsAll calls words 1
 one-starts s = record { terms = arg (s .term) done; rest = s .rest; holds = one-holds (s .holds) }
 
 -- a term has a word at least
@@ -192,11 +192,14 @@ module _ (calls words : List ℕ) where
         → PartsAt calls words at (joined (s .to-do .front) (s .to-do .later)) rest
     cut-here {rest = rest} s = subst (λ (l : Terms). PartsAt calls words at l rest) (s .to-do .is) (s .here)
 
-    -- they start a slice that can be handed on
+    -- they stand at the front of a slice that can be handed on
+    pub march-front : (ts : Terms) (rest : List ℕ) (h : HoldsAll calls words n ts rest)
+        → HoldsAll calls (from words at) a (g .stand ts rest h .to-do .front) (encodeAll (g .stand ts rest h .to-do .later) ++ rest)
+    march-front ts rest h = let s = g .stand ts rest h in row-front _ _ (cut-here s) a (s .to-do .many)
+
     pub march-starts : StartsAll calls (from words at) a
     march-starts =
-        let s = g .stand _ _ (g .start .holds) in
-        record { terms = s .to-do .front; rest = _; holds = row-front _ _ (cut-here s) a (s .to-do .many) }
+        record { terms = g .stand _ _ (g .start .holds) .to-do .front; rest = _; holds = march-front _ _ (g .start .holds) }
 
     -- past them, l words further
     module _ (l m : ℕ) (S : Terms → Terms → Type 0) (me : owed ≡ a + m)

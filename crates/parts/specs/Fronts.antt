@@ -18,6 +18,12 @@ pub record Starts (calls words : List ℕ) : Type 0 where
   pub rest : List ℕ
   pub holds : Holds calls words term rest
 
+-- the words are those of a term, and no more
+pub record Whole (calls words : List ℕ) : Type 0 where
+  pub term : Term
+  pub shaped : Shaped calls term
+  pub is : words ≡ encode term
+
 -- the words begin with the n terms ts, and rest follows
 pub record HoldsAll (calls words : List ℕ) (n : ℕ) (ts : Terms) (rest : List ℕ) : Type 0 where
   pub shaped : ShapedAll calls ts

@@ -1,11 +1,71 @@
 // A part with its variables raised, written into a buffer.
+ghost use mathlib.Core.Path.{_≡_};
 ghost use Prim.Native.Nat.{ℕ, _+_, _≤_};
 ghost use lib.ListN.{length};
-ghost use Rattle.parts.specs.Writes.{Room, Renames};
+ghost use Rattle.syntax.specs.Under.{raiseAt};
+ghost use Rattle.syntax.specs.Words.{kindOf, numberOf, pack};
+ghost use Rattle.parts.specs.Writes.{Room, Renames, RenameRoom, RenamesAll};
 use crate::fields::kind;
 use crate::fields::number;
-use crate::shape::binders;
+use crate::shape::outer_count;
 use crate::shape::part_count;
+
+// the word of a variable, raised from `cut` on
+fn raise_variable(w: u64, cut: usize, by: usize) -> u64
+    requires { ⌜ (kindOf w ≡ 0) × (w ≡ pack 0 (numberOf w) 0) × (by ≤ 65536) ⌝ }
+    ensures { λ r. ⌜ r ≡ pack 0 (raiseAt cut by (numberOf w)) 0 ⌝ }
+{
+    if (number(w) as usize) < cut {
+        return w;
+    }
+    w + by as u64 * 1073741824
+}
+
+// writes so many parts at the front of src to dst from `at` on, their variables from `cut` on raised by `by`; answers their size.
+// Only the parts that a binder reaches need a call of their own, and none if they are the last.
+fn rename_parts(
+    calls: &[u64],
+    src: &[u64],
+    parts: usize,
+    dst: &mut [u64],
+    at: usize,
+    cut: usize,
+    by: usize,
+) -> usize
+    requires { ⌜ RenameRoom (now calls) (now src) parts (length (now dst)) at cut by × (cut + length (now src) ≤ 65536) × (by ≤ 65536) ⌝ }
+    ensures { λ r. ⌜ RenamesAll (now (calls .entry)) (now (src .entry)) parts (now (dst .entry)) (now (dst .exit)) at cut by r ⌝ }
+{
+    let mut owed = parts;
+    let mut under = cut;
+    let mut i: usize = 0;
+    while 0 < owed {
+        let w = src[i];
+        let k = kind(w);
+        if k == 0 {
+            dst[at + i] = raise_variable(w, under, by);
+            i += 1;
+            owed -= 1;
+        } else {
+            dst[at + i] = w;
+            i += 1;
+            let n = part_count(calls, w);
+            let outer = outer_count(k, n);
+            if outer == n {
+                owed = owed - 1 + n;
+            } else {
+                i = i + rename_parts(calls, &src[i..], outer, dst, at + i, under, by);
+                if owed == 1 {
+                    owed = n - outer;
+                    under += 1;
+                } else {
+                    i = i + rename_parts(calls, &src[i..], n - outer, dst, at + i, under + 1, by);
+                    owed -= 1;
+                }
+            }
+        }
+    }
+    i
+}
 
 // writes the part at the front of src to dst from `at` on, its variables from `cut` on raised by `by`; answers its size
 pub fn rename_into(
@@ -19,24 +79,5 @@ pub fn rename_into(
     requires { ⌜ Room (now calls) (now src) (length (now dst)) at × (cut + length (now src) ≤ 65536) × (by ≤ 65536) ⌝ }
     ensures { λ r. ⌜ Renames (now (calls .entry)) (now (src .entry)) (now (dst .entry)) (now (dst .exit)) at cut by r ⌝ }
 {
-    let w = src[0];
-    let k = kind(w);
-    if k == 0 {
-        if (number(w) as usize) < cut {
-            dst[at] = w;
-            return 1;
-        }
-        dst[at] = w + by as u64 * 1073741824;
-        return 1;
-    }
-    dst[at] = w;
-    let n = part_count(calls, w);
-    let mut m: usize = 1;
-    let mut j: usize = 0;
-    while j < n {
-        let inner = cut + binders(k, j);
-        m = m + rename_into(calls, &src[m..], dst, at + m, inner, by);
-        j += 1;
-    }
-    m
+    rename_parts(calls, src, 1, dst, at, cut, by)
 }

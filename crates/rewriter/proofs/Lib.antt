@@ -1,6 +1,5 @@
 pub mod Rows
 pub mod Measuring
-pub mod Copying
 pub mod LetOver
 pub mod Inserting
 pub mod Contracta

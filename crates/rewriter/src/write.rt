@@ -1,26 +1,14 @@
 // What a redex becomes, written into a buffer by its plan.
 ghost use mathlib.Core.Path.{_≡_};
 ghost use Prim.Native.Nat.{ℕ, _+_, _≤_};
-ghost use lib.ListN.{length, take, drop};
-ghost use lib.Seq.{sets};
+ghost use lib.ListN.{length};
 ghost use Rattle.rewriter.specs.declared.plan.Plan.the-variants.{Substitute, MoveLet, MoveCase, Insert};
 ghost use Rattle.rewriter.specs.Writers.{LetRoom, WritesLet, Planned, PlannedAs, Writes};
 use crate::insert::insert_node;
 use crate::plan::Plan;
+use parts::copy::copy_into;
 use parts::rename::rename_into;
 use parts::substitute::substitute_into;
-
-// n words of src from `start` on, to dst from `at` on
-fn copy_into(src: &[u64], start: usize, n: usize, dst: &mut [u64], at: usize)
-    requires { ⌜ (start + n ≤ length (now src)) × (at + n ≤ length (now dst)) ⌝ }
-    ensures { λ r. ⌜ now (dst .exit) ≡ sets (now (dst .entry)) at (take n (drop start (now (src .entry)))) ⌝ }
-{
-    let mut i: usize = 0;
-    while i < n {
-        dst[at + i] = src[start + i];
-        i += 1;
-    }
-}
 
 // a let that binds the part from `start` to `end`, over the body of another let that moves under it; answers its size
 fn let_over(

@@ -9,7 +9,7 @@ use Rattle.rewriter.proofs.write.insert_let.Tie as tie
 use Rattle.rewriter.proofs.write.insert_let.Reads as reads
 use Rattle.rewriter.proofs.write.insert_let.Lts as lts
 use Rattle.rewriter.proofs.insert.insert_node.Reads as insert-node-reads
-use Rattle.rewriter.proofs.write.copy_into.Reads as copy-into-reads
+use Rattle.parts.proofs.copy.copy_into.Reads as copy-into-reads
 
 pub insert-let-spec : {M : Type 1} → statement M
 insert-let-spec =

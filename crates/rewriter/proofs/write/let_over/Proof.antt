@@ -10,7 +10,7 @@ use Rattle.rewriter.proofs.write.let_over.Tie as tie
 use Rattle.rewriter.proofs.write.let_over.Reads as reads
 use Rattle.rewriter.proofs.write.let_over.Lts as lts
 use Rattle.parts.proofs.rename.rename_into.Reads as rename-into-reads
-use Rattle.rewriter.proofs.write.copy_into.Reads as copy-into-reads
+use Rattle.parts.proofs.copy.copy_into.Reads as copy-into-reads
 
 pub let-over-spec : {M : Type 1} → statement M
 let-over-spec =

@@ -8,7 +8,7 @@ use Rattle.rewriter.proofs.write.move_let.Statement.{statement}
 use Rattle.rewriter.proofs.write.move_let.Tie as tie
 use Rattle.rewriter.proofs.write.move_let.Reads as reads
 use Rattle.rewriter.proofs.write.move_let.Lts as lts
-use Rattle.rewriter.proofs.write.copy_into.Reads as copy-into-reads
+use Rattle.parts.proofs.copy.copy_into.Reads as copy-into-reads
 use Rattle.rewriter.proofs.write.let_over.Reads as let-over-reads
 
 pub move-let-spec : {M : Type 1} → statement M

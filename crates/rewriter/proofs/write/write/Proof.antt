@@ -6,7 +6,7 @@ use Rattle.rewriter.proofs.write.write.Statement.{statement}
 use Rattle.rewriter.proofs.write.write.Tie as tie
 use Rattle.rewriter.proofs.write.write.Reads as reads
 use Rattle.rewriter.proofs.write.write.Lts as lts
-use Rattle.rewriter.proofs.write.copy_into.Reads as copy-into-reads
+use Rattle.parts.proofs.copy.copy_into.Reads as copy-into-reads
 use Rattle.rewriter.proofs.write.insert_let.Reads as insert-let-reads
 use Rattle.rewriter.proofs.write.move_case.Reads as move-case-reads
 use Rattle.rewriter.proofs.write.move_let.Reads as move-let-reads

@@ -1,0 +1,15 @@
+-- One part is a row of one.
+use Rattle.parts.proofs.Renaming.{rename-one-room, renames-one}
+use borrow.Author.Needs.{needs}
+use Rattle.parts.proofs.rename.rename_into.Statement.{statement}
+use Rattle.parts.proofs.rename.rename_into.Tie as tie
+use Rattle.parts.proofs.rename.rename_into.Reads as reads
+use Rattle.parts.proofs.rename.rename_into.Lts as lts
+use Rattle.parts.proofs.rename.rename_parts.Reads as rename-parts-reads
+
+pub rename-into-spec : {M : Type 1} → statement M
+rename-into-spec = tie.close (tie.spec (λ c κs.
+    let pre = c .before .before .before .before .pre in
+    (rename-one-room _ _ (pre .0), pre .1, pre .2)) (λ c. search needs) (λ c.
+    let rename-parts = c .before .before .rename-parts in
+    renames-one (rename-parts .ensures)))
