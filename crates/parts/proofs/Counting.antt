@@ -4,6 +4,7 @@ use Prim.Native.Nat.{ℕ, suc, _+_, _-_, _≤_, _<_}
 use native.Mathlib.Omega.{arith}
 use native.Mathlib.Numerals.{add-one}
 use mathlib.Core.Path.{_≡_, refl, sym, _∙_, ap, subst}
+use mathlib.Core.Bool.{true, _&&_}
 use mathlib.Core.List.{List, _++_}
 use lib.Dec.{eqb}
 use lib.ListN.{length, getD}
@@ -22,7 +23,7 @@ use Rattle.parts.specs.Binding.{outer, inner, outerCount}
 use Rattle.parts.specs.Counts.{Counted, Counts, CountsAll}
 use Rattle.parts.specs.declared.uses.Uses.{Uses}
 use Rattle.parts.proofs.Joined.{uses-joined, joined-done, count-joined, none-left}
-use Rattle.parts.proofs.Binding.{uses-binding}
+use Rattle.parts.proofs.Binding.{inner-only, uses-binding}
 use Rattle.parts.proofs.Variables.{kind-0}
 use Rattle.parts.proofs.Rows.{Cut, Marching, Visit, march, march-inside, march-end, march-said, visit, march-on, march-past}
 use Rattle.parts.proofs.Rows.{one-holds}
@@ -182,6 +183,29 @@ module _ {calls words : List ℕ} {n d owed under at u i : ℕ} (g : Inside call
     going = march-past calls words (g .going) (r .end) m (Counting d under (u + r .uses)) e λ ts bs cs rest h f.
         let t = c .told bs rest h in (t .0, omega (arith, f, t .1, ap (usesAll bs) (add-one under)));
   }
+
+-- of no term
+counts-none : (calls words : List ℕ) (o d : ℕ) → o ≡ 0 → CountsAll calls words o d (record { end = 0; uses = 0 })
+unfolding uses encode
+counts-none calls words o d z = record {
+  few = omega arith;
+  within = omega arith;
+  told = λ ts rest h. none-left (λ x. (0 ≡ length (encodeAll x)) × (0 ≡ usesAll x d)) ts (h .many ∙ z) (refl, refl);
+}
+
+-- a node with inner parts only, which are all that is owed
+pub count-only : {calls words : List ℕ} {n d owed under at u : ℕ} (g : Tally calls words n d owed under at u) (lt : 1 ≤ owed) (k : ℕ)
+    (ke : k ≡ kindOf (getD words at 0)) (z : k ≡ 0 → ⊥) (m o : ℕ) (me : m ≡ partCount calls (getD words at 0)) (oe : o ≡ outerCount k m)
+    → (eqb owed 1 && eqb o 0) ≡ true → Tally calls words n d m (under + 1) (at + 1) u
+count-only {calls} {words} {n} {d} {owed} {under} {at} {u} g lt k ke z m o me oe b =
+    let e = inner-only owed o b in
+    let i : m - o ≡ m = omega (arith, e .1) in
+    let j : at + 1 + 0 ≡ at + 1 = omega arith in
+    let v : u + 0 ≡ u = omega arith in
+    let w = count-within g lt k ke z m o me oe (record { end = 0; uses = 0 }) (counts-none calls (from words (at + 1)) o under (e .1)) in
+    subst (λ (x : ℕ). Tally calls words n d x (under + 1) (at + 1) u) i
+    (subst (λ (x : ℕ). Tally calls words n d (m - o) (under + 1) x u) j
+    (subst (Tally calls words n d (m - o) (under + 1) (at + 1 + 0)) v (count-last w (omega (arith, e .0)))))
 
 -- of one term
 pub counts-one : {calls words : List ℕ} {d : ℕ} {r : Uses} → CountsAll calls words 1 d r → Counts calls words d r

@@ -3,20 +3,26 @@ use Prim.Native.Nat.{ℕ, suc, _+_, _-_, _≤_, _<_}
 use native.Mathlib.Omega.{arith}
 use native.Mathlib.Numerals.{add-one}
 use mathlib.Core.Path.{_≡_, refl, sym, _∙_, ap, subst}
+use mathlib.Core.Bool.{true, _&&_}
 use mathlib.Core.List.{List, [], _∷_, _++_, append-nil}
-use lib.ListN.{length}
+use lib.Dec.{eqb}
+use lib.ListN.{length, getD, set}
 use lib.Seq.{sets}
+use Rattle.syntax.specs.Words.{kindOf}
 use Rattle.syntax.specs.Term.{Terms, done}
 use Rattle.syntax.specs.Encoding.{encode, encodeAll}
+use Rattle.syntax.specs.Parts.{partCount}
 use Rattle.syntax.specs.Shaped.{count}
 use Rattle.syntax.specs.Substitution.{Kit, traverse}
 use Rattle.parts.specs.Fronts.{from}
 use Rattle.parts.specs.Joined.{joined}
-use Rattle.parts.specs.Writes.{put, RoomAll, WritesAll}
+use Rattle.parts.specs.Binding.{outerCount}
+use Rattle.parts.specs.Writes.{put, RoomAll, WrittenAll, WritesAll}
 use Rattle.parts.proofs.Joined.{joined-done, count-joined, none-left}
 use Rattle.parts.proofs.Writing.{Writing, write-next}
 use Rattle.parts.proofs.Rows.{Cut, Marching, march-said, march-front, march-past}
-use Rattle.parts.proofs.Tracing.{Ahead, Trace, Entered, Inside, stretch-room}
+use Rattle.parts.proofs.Binding.{inner-only}
+use Rattle.parts.proofs.Tracing.{Ahead, Trace, Entered, Inside, stretch-room, trace-enter}
 
 module _ {X A : Type 0} {kit : Kit X} {f : A → ℕ → X} {calls words old : List ℕ} {n d at : ℕ} {new : List ℕ} where
   module _ {owed under i o p q : ℕ} (g : Entered kit f calls words old n d at new owed under i o p q) where
@@ -109,3 +115,30 @@ module _ {X A : Type 0} {kit : Kit X} {f : A → ℕ → X} {calls words old : L
             (append-nil (put kit f a (suc under) (c .front))
             ∙ ap (put kit f a (suc under)) (sym (x ∙ joined-done (c .front)))
             ∙ ap (λ (u : ℕ). put kit f a u us) (sym (add-one under))) w) (c .is) (c .facts a)
+
+-- of no term
+writes-none : {X A : Type 0} (kit : Kit X) (f : A → ℕ → X) (calls src new : List ℕ) (c e under : ℕ) → c ≡ 0
+    → WritesAll kit f calls src c new new e under 0 0
+unfolding traverse encode
+writes-none kit f calls src new c e under z = record {
+  told = λ ts rest h a. none-left (λ x. WrittenAll kit f new new e under 0 0 x a) ts (h .many ∙ z)
+      (record { read-is = refl; wrote-is = refl; new-is = refl });
+}
+
+-- a node with inner parts only, which are all that is owed
+pub trace-only : {X A : Type 0} {kit : Kit X} {f : A → ℕ → X} {calls words old : List ℕ} {n d at : ℕ} {new : List ℕ} {owed under i o : ℕ}
+    (g : Trace kit f calls words old n d at new owed under i o) (lt : 1 ≤ owed) (k : ℕ) (ke : k ≡ kindOf (getD words i 0)) (z : k ≡ 0 → ⊥)
+    (m c : ℕ) (me : m ≡ partCount calls (getD words i 0)) (ce : c ≡ outerCount k m) (p : ℕ) (pe : p ≡ at + o)
+    → (eqb owed 1 && eqb c 0) ≡ true
+    → Trace kit f calls words old n d at (set new p (getD words i 0)) m (under + 1) (i + 1) (o + 1)
+trace-only {kit = kit} {f} {calls} {words} {old} {n} {d} {at} {new} {owed} {under} {i} {o} g lt k ke z m c me ce p pe b =
+    let e = inner-only owed c b in
+    let new′ = set new p (getD words i 0) in
+    let w = trace-outer (trace-enter kit f g lt k ke z m c me ce p pe) new′ (at + (o + 1)) 0 0 (m - c) refl (omega (arith, e .0, e .1)) refl
+    (writes-none kit f calls (from words (i + 1)) new′ c (at + (o + 1)) under (e .1)) in
+    let a : m - c ≡ m = omega (arith, e .1) in
+    let x : i + 1 + 0 ≡ i + 1 = omega arith in
+    let y : o + 1 + 0 ≡ o + 1 = omega arith in
+    subst (λ (j : ℕ). Trace kit f calls words old n d at new′ j (under + 1) (i + 1) (o + 1)) a
+    (subst (λ (j : ℕ). Trace kit f calls words old n d at new′ (m - c) (under + 1) j (o + 1)) x
+    (subst (Trace kit f calls words old n d at new′ (m - c) (under + 1) (i + 1 + 0)) y (trace-last w refl)))

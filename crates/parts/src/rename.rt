@@ -7,6 +7,7 @@ ghost use Rattle.syntax.specs.Words.{kindOf, numberOf, pack};
 ghost use Rattle.parts.specs.Writes.{Room, Renames, RenameRoom, RenamesAll};
 use crate::fields::kind;
 use crate::fields::number;
+use crate::shape::only_inner;
 use crate::shape::outer_count;
 use crate::shape::part_count;
 
@@ -52,6 +53,9 @@ fn rename_parts(
             let outer = outer_count(k, n);
             if outer == n {
                 owed = owed - 1 + n;
+            } else if only_inner(owed, outer) {
+                owed = n;
+                under += 1;
             } else {
                 i = i + rename_parts(calls, &src[i..], outer, dst, at + i, under, by);
                 if owed == 1 {

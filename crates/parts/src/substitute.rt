@@ -11,6 +11,7 @@ use crate::ends::part_size;
 use crate::fields::kind;
 use crate::fields::number;
 use crate::rename::rename_into;
+use crate::shape::only_inner;
 use crate::shape::outer_count;
 use crate::shape::part_count;
 
@@ -82,6 +83,9 @@ fn substitute_parts(
             let outer = outer_count(k, n);
             if outer == n {
                 owed = owed - 1 + n;
+            } else if only_inner(owed, outer) {
+                owed = n;
+                under += 1;
             } else {
                 let first = substitute_parts(calls, &body[i..], outer, value, dst, at + o, under);
                 i = i + first.read;

@@ -8,6 +8,7 @@ ghost use Rattle.parts.specs.Fronts.{Starts, StartsAll};
 ghost use Rattle.parts.specs.Counts.{Counts, CountsAll};
 use crate::fields::kind;
 use crate::fields::number;
+use crate::shape::only_inner;
 use crate::shape::outer_count;
 use crate::shape::part_count;
 
@@ -50,6 +51,9 @@ fn count_parts(calls: &[u64], t: &[u64], parts: usize, depth: usize) -> Uses
             at += 1;
             if outer == n {
                 owed = owed - 1 + n;
+            } else if only_inner(owed, outer) {
+                owed = n;
+                under += 1;
             } else {
                 let first = count_parts(calls, &t[at..], outer, under);
                 at = at + first.end;

@@ -7,7 +7,7 @@ use lib.ListN.{length}
 use Rattle.parts.proofs.Traversal.{from-length}
 use Rattle.parts.proofs.Rows.{march-inside}
 use Rattle.parts.proofs.Tracing.{trace-begin, trace-end, trace-inside, trace-room, variable-word, trace-flat, trace-enter, outer-few}
-use Rattle.parts.proofs.TraceParts.{outer-room, inner-room, trace-inner, trace-last}
+use Rattle.parts.proofs.TraceParts.{outer-room, inner-room, trace-inner, trace-last, trace-only}
 use Rattle.parts.proofs.Substituting.{Substituting, value-room, substitute-value, substitute-other, substitute-within}
 use Prim.Native.Nat.{ℕ, _<_}
 use borrow.Fn.Kinds.{In}
@@ -17,6 +17,7 @@ use Rattle.parts.proofs.substitute.substitute_parts.Kinds as substitute
 use Rattle.parts.proofs.substitute.+substitute_parts.Lts-substitute_parts as substitute-parts-lts
 use Rattle.parts.proofs.fields.kind.Reads as kind-reads
 use Rattle.parts.proofs.fields.number.Reads as number-reads
+use Rattle.parts.proofs.shape.only_inner.Reads as only-inner-reads
 use Rattle.parts.proofs.shape.outer_count.Reads as outer-count-reads
 use Rattle.parts.proofs.shape.part_count.Reads as part-count-reads
 use Rattle.parts.proofs.substitute.lower_variable.Reads as lower-variable-reads
@@ -64,6 +65,8 @@ pub +substitute-parts-spec : {M : Type 1} → statement M
   part-count-reads.Learnt,
   outer-count-reads.Asked,
   outer-count-reads.Learnt,
+  only-inner-reads.Asked,
+  only-inner-reads.Learnt,
   substitute-parts-below t,
   substitute-parts.Post,
 )
@@ -206,130 +209,69 @@ pub +substitute-parts-spec : {M : Type 1} → statement M
     let if1 = c .before .before .before .if1 in
     let part-count = c .before .before .part-count in
     trace-flat _ _ (loop .inv) (loop-test .taken) _ (kind .ensures) (if1 .left) _ _ (part-count .ensures .0) (c .before .outer-count .ensures) _ refl (c .if3 .taken))
+    (λ c κs. search needs)
     (λ c.
-    let loop = c .before .before .before .before .before .before .before .loop in
-    let pre = c .before .before .before .before .before .before .before .before .before .before .before .before .pre in
-    omega (arith, march-inside _ _ (loop .inv .going), pre .1 .1 .0))
-    (λ c.
-    let loop = c .before .before .before .before .before .before .before .loop in
-    let loop-test = c .before .before .before .before .before .before .loop-test in
-    omega (arith, march-inside _ _ (loop .inv .going), loop-test .taken))
-    (λ c.
-    let loop = c .before .before .before .before .before .before .before .loop in
-    let loop-test = c .before .before .before .before .before .before .loop-test in
-    omega (arith, march-inside _ _ (loop .inv .going), loop-test .taken))
-    (λ c.
-    let loop = c .before .before .before .before .before .before .before .loop in
-    let loop-test = c .before .before .before .before .before .before .loop-test in
-    omega (arith, march-inside _ _ (loop .inv .going), loop-test .taken))
+    let loop = c .before .before .before .before .before .before .before .before .before .loop in
+    let pre = c .before .before .before .before .before .before .before .before .before .before .before .before .before .before .pre in
+    omega (arith, loop .inv .near, march-inside _ _ (loop .inv .going), pre .1 .1 .0))
     (λ c.
     let loop = c .before .before .before .before .before .before .before .before .before .loop in
     let loop-test = c .before .before .before .before .before .before .before .before .loop-test in
-    let good = c .before .before .before .before .before .before .before .before .before .before .before .before .before .before .good in
-    omega (arith, trace-room _ _ (loop .inv) (loop-test .taken), loop .inv .len, good))
-    (λ c κs.
+    omega (arith, march-inside _ _ (loop .inv .going), loop-test .taken))
+    (λ c.
     let loop = c .before .before .before .before .before .before .before .before .before .loop in
     let loop-test = c .before .before .before .before .before .before .before .before .loop-test in
     let kind = c .before .before .before .before .before .before .kind in
     let if1 = c .before .before .before .before .before .if1 in
     let part-count = c .before .before .before .before .part-count in
     let outer-count = c .before .before .before .outer-count in
-    let args = c .before .before .before .before .before .before .before .before .before .before .before .before .before .before .args in
+    trace-only (loop .inv) (loop-test .taken) _ (kind .ensures) (if1 .left) _ _ (part-count .ensures .0) (outer-count .ensures) _ refl (sym (c .before .only-inner .ensures) ∙ c .if4 .taken))
+    (λ c.
+    let loop = c .before .before .before .before .before .before .before .before .before .loop in
     let pre = c .before .before .before .before .before .before .before .before .before .before .before .before .before .before .pre in
+    omega (arith, march-inside _ _ (loop .inv .going), pre .1 .1 .0))
+    (λ c.
+    let loop = c .before .before .before .before .before .before .before .before .before .loop in
+    let loop-test = c .before .before .before .before .before .before .before .before .loop-test in
+    omega (arith, march-inside _ _ (loop .inv .going), loop-test .taken))
+    (λ c.
+    let loop = c .before .before .before .before .before .before .before .before .before .loop in
+    let loop-test = c .before .before .before .before .before .before .before .before .loop-test in
+    omega (arith, march-inside _ _ (loop .inv .going), loop-test .taken))
+    (λ c.
+    let loop = c .before .before .before .before .before .before .before .before .before .loop in
+    let loop-test = c .before .before .before .before .before .before .before .before .loop-test in
+    omega (arith, march-inside _ _ (loop .inv .going), loop-test .taken))
+    (λ c.
+    let loop = c .before .before .before .before .before .before .before .before .before .before .before .loop in
+    let loop-test = c .before .before .before .before .before .before .before .before .before .before .loop-test in
+    let good = c .before .before .before .before .before .before .before .before .before .before .before .before .before .before .before .before .good in
+    omega (arith, trace-room _ _ (loop .inv) (loop-test .taken), loop .inv .len, good))
+    (λ c κs.
+    let loop = c .before .before .before .before .before .before .before .before .before .before .before .loop in
+    let loop-test = c .before .before .before .before .before .before .before .before .before .before .loop-test in
+    let kind = c .before .before .before .before .before .before .before .before .kind in
+    let if1 = c .before .before .before .before .before .before .before .if1 in
+    let part-count = c .before .before .before .before .before .before .part-count in
+    let outer-count = c .before .before .before .before .before .outer-count in
+    let args = c .before .before .before .before .before .before .before .before .before .before .before .before .before .before .before .before .args in
+    let pre = c .before .before .before .before .before .before .before .before .before .before .before .before .before .before .before .before .pre in
     let e = trace-enter _ _ (loop .inv) (loop-test .taken) _ (kind .ensures) (if1 .left) _ _ (part-count .ensures .0) (outer-count .ensures) _ refl in
     (
     omega (arith, from-length (args .body .now) (loop .i + 1), march-inside _ _ (loop .inv .going), loop-test .taken),
     (outer-room e _ refl, (omega (arith, from-length (args .body .now) (loop .i + 1), e .near, march-inside _ _ (e .going), pre .1 .1 .0), pre .1 .1 .1)),
     ))
     (λ c.
-    let loop = c .before .before .before .before .before .before .before .before .before .before .before .before .before .loop in
-    let loop-test = c .before .before .before .before .before .before .before .before .before .before .before .before .loop-test in
-    let kind = c .before .before .before .before .before .before .before .before .before .before .kind in
-    let if1 = c .before .before .before .before .before .before .before .before .before .if1 in
-    let part-count = c .before .before .before .before .before .before .before .before .part-count in
-    let outer-count = c .before .before .before .before .before .before .before .outer-count in
+    let loop = c .before .before .before .before .before .before .before .before .before .before .before .before .before .before .before .loop in
+    let loop-test = c .before .before .before .before .before .before .before .before .before .before .before .before .before .before .loop-test in
+    let kind = c .before .before .before .before .before .before .before .before .before .before .before .before .kind in
+    let if1 = c .before .before .before .before .before .before .before .before .before .before .before .if1 in
+    let part-count = c .before .before .before .before .before .before .before .before .before .before .part-count in
+    let outer-count = c .before .before .before .before .before .before .before .before .before .outer-count in
     let substitute-parts = c .before .before .before .substitute-parts in
-    let pre = c .before .before .before .before .before .before .before .before .before .before .before .before .before .before .before .before .before .before .pre in
-    let w = substitute-within _ (loop .inv) (loop-test .taken) _ (kind .ensures) (if1 .left) _ _ (part-count .ensures .0) (outer-count .ensures) _ _ (substitute-parts .kept .1 .1 .1 .1 .0) (substitute-parts .ensures) in
-    omega (arith, march-inside _ _ (w .going), pre .1 .1 .0))
-    (λ c.
-    let loop = c .before .before .before .before .before .before .before .before .before .before .before .before .before .before .loop in
-    let loop-test = c .before .before .before .before .before .before .before .before .before .before .before .before .before .loop-test in
-    let kind = c .before .before .before .before .before .before .before .before .before .before .before .kind in
-    let if1 = c .before .before .before .before .before .before .before .before .before .before .if1 in
-    let part-count = c .before .before .before .before .before .before .before .before .before .part-count in
-    let outer-count = c .before .before .before .before .before .before .before .before .outer-count in
-    let substitute-parts = c .before .before .before .before .substitute-parts in
-    let good = c .before .before .before .before .before .before .before .before .before .before .before .before .before .before .before .before .before .before .before .good in
-    let w = substitute-within _ (loop .inv) (loop-test .taken) _ (kind .ensures) (if1 .left) _ _ (part-count .ensures .0) (outer-count .ensures) _ _ (substitute-parts .kept .1 .1 .1 .1 .0) (substitute-parts .ensures) in
-    omega (arith, inner-room w _ refl .room, w .len, good))
-    (λ c.
-    let loop = c .before .before .before .before .before .before .before .before .before .before .before .before .before .before .before .loop in
-    let loop-test = c .before .before .before .before .before .before .before .before .before .before .before .before .before .before .loop-test in
-    let kind = c .before .before .before .before .before .before .before .before .before .before .before .before .kind in
-    let if1 = c .before .before .before .before .before .before .before .before .before .before .before .if1 in
-    let part-count = c .before .before .before .before .before .before .before .before .before .before .part-count in
-    let outer-count = c .before .before .before .before .before .before .before .before .before .outer-count in
-    outer-few _ _ (loop .inv) (loop-test .taken) _ (kind .ensures) (if1 .left) _ _ (part-count .ensures .0) (outer-count .ensures) _ refl)
-    (λ c.
-    let loop = c .before .before .before .before .before .before .before .before .before .before .before .before .before .before .before .loop in
-    let pre = c .before .before .before .before .before .before .before .before .before .before .before .before .before .before .before .before .before .before .before .before .pre in
-    omega (arith, loop .inv .near, march-inside _ _ (loop .inv .going), pre .1 .1 .0))
-    (λ c.
-    let loop = c .before .before .before .before .before .before .before .before .before .before .before .before .before .before .before .loop in
-    let loop-test = c .before .before .before .before .before .before .before .before .before .before .before .before .before .before .loop-test in
-    omega (arith, march-inside _ _ (loop .inv .going), loop-test .taken))
-    (λ c.
-    let loop = c .before .before .before .before .before .before .before .before .before .before .before .before .before .before .before .loop in
-    let loop-test = c .before .before .before .before .before .before .before .before .before .before .before .before .before .before .loop-test in
-    let kind = c .before .before .before .before .before .before .before .before .before .before .before .before .kind in
-    let if1 = c .before .before .before .before .before .before .before .before .before .before .before .if1 in
-    let part-count = c .before .before .before .before .before .before .before .before .before .before .part-count in
-    let outer-count = c .before .before .before .before .before .before .before .before .before .outer-count in
-    let substitute-parts = c .before .before .before .before .before .substitute-parts in
-    let w = substitute-within _ (loop .inv) (loop-test .taken) _ (kind .ensures) (if1 .left) _ _ (part-count .ensures .0) (outer-count .ensures) _ _ (substitute-parts .kept .1 .1 .1 .1 .0) (substitute-parts .ensures) in
-    trace-last w (omega (arith, c .if4 .taken)))
-    (λ c.
-    let loop = c .before .before .before .before .before .before .before .before .before .before .before .before .before .before .before .loop in
-    let loop-test = c .before .before .before .before .before .before .before .before .before .before .before .before .before .before .loop-test in
-    let kind = c .before .before .before .before .before .before .before .before .before .before .before .before .kind in
-    let if1 = c .before .before .before .before .before .before .before .before .before .before .before .if1 in
-    let part-count = c .before .before .before .before .before .before .before .before .before .before .part-count in
-    let outer-count = c .before .before .before .before .before .before .before .before .before .outer-count in
-    let substitute-parts = c .before .before .before .before .before .substitute-parts in
     let pre = c .before .before .before .before .before .before .before .before .before .before .before .before .before .before .before .before .before .before .before .before .pre in
     let w = substitute-within _ (loop .inv) (loop-test .taken) _ (kind .ensures) (if1 .left) _ _ (part-count .ensures .0) (outer-count .ensures) _ _ (substitute-parts .kept .1 .1 .1 .1 .0) (substitute-parts .ensures) in
     omega (arith, march-inside _ _ (w .going), pre .1 .1 .0))
-    (λ c.
-    let loop = c .before .before .before .before .before .before .before .before .before .before .before .before .before .before .before .loop in
-    let loop-test = c .before .before .before .before .before .before .before .before .before .before .before .before .before .before .loop-test in
-    let kind = c .before .before .before .before .before .before .before .before .before .before .before .before .kind in
-    let if1 = c .before .before .before .before .before .before .before .before .before .before .before .if1 in
-    let part-count = c .before .before .before .before .before .before .before .before .before .before .part-count in
-    let outer-count = c .before .before .before .before .before .before .before .before .before .outer-count in
-    let substitute-parts = c .before .before .before .before .before .substitute-parts in
-    let w = substitute-within _ (loop .inv) (loop-test .taken) _ (kind .ensures) (if1 .left) _ _ (part-count .ensures .0) (outer-count .ensures) _ _ (substitute-parts .kept .1 .1 .1 .1 .0) (substitute-parts .ensures) in
-    omega (arith, march-inside _ _ (w .going)))
-    (λ c.
-    let loop = c .before .before .before .before .before .before .before .before .before .before .before .before .before .before .before .loop in
-    let loop-test = c .before .before .before .before .before .before .before .before .before .before .before .before .before .before .loop-test in
-    let kind = c .before .before .before .before .before .before .before .before .before .before .before .before .kind in
-    let if1 = c .before .before .before .before .before .before .before .before .before .before .before .if1 in
-    let part-count = c .before .before .before .before .before .before .before .before .before .before .part-count in
-    let outer-count = c .before .before .before .before .before .before .before .before .before .outer-count in
-    let substitute-parts = c .before .before .before .before .before .substitute-parts in
-    let w = substitute-within _ (loop .inv) (loop-test .taken) _ (kind .ensures) (if1 .left) _ _ (part-count .ensures .0) (outer-count .ensures) _ _ (substitute-parts .kept .1 .1 .1 .1 .0) (substitute-parts .ensures) in
-    omega (arith, march-inside _ _ (w .going)))
-    (λ c.
-    let loop = c .before .before .before .before .before .before .before .before .before .before .before .before .before .before .before .loop in
-    let loop-test = c .before .before .before .before .before .before .before .before .before .before .before .before .before .before .loop-test in
-    let kind = c .before .before .before .before .before .before .before .before .before .before .before .before .kind in
-    let if1 = c .before .before .before .before .before .before .before .before .before .before .before .if1 in
-    let part-count = c .before .before .before .before .before .before .before .before .before .before .part-count in
-    let outer-count = c .before .before .before .before .before .before .before .before .before .outer-count in
-    let substitute-parts = c .before .before .before .before .before .substitute-parts in
-    let w = substitute-within _ (loop .inv) (loop-test .taken) _ (kind .ensures) (if1 .left) _ _ (part-count .ensures .0) (outer-count .ensures) _ _ (substitute-parts .kept .1 .1 .1 .1 .0) (substitute-parts .ensures) in
-    omega (arith, march-inside _ _ (w .going)))
     (λ c.
     let loop = c .before .before .before .before .before .before .before .before .before .before .before .before .before .before .before .before .loop in
     let loop-test = c .before .before .before .before .before .before .before .before .before .before .before .before .before .before .before .loop-test in
@@ -337,32 +279,110 @@ pub +substitute-parts-spec : {M : Type 1} → statement M
     let if1 = c .before .before .before .before .before .before .before .before .before .before .before .before .if1 in
     let part-count = c .before .before .before .before .before .before .before .before .before .before .before .part-count in
     let outer-count = c .before .before .before .before .before .before .before .before .before .before .outer-count in
-    outer-few _ _ (loop .inv) (loop-test .taken) _ (kind .ensures) (if1 .left) _ _ (part-count .ensures .0) (outer-count .ensures) _ refl)
-    (λ c.
-    let loop = c .before .before .before .before .before .before .before .before .before .before .before .before .before .before .before .before .before .loop in
-    let loop-test = c .before .before .before .before .before .before .before .before .before .before .before .before .before .before .before .before .loop-test in
-    let kind = c .before .before .before .before .before .before .before .before .before .before .before .before .before .before .kind in
-    let if1 = c .before .before .before .before .before .before .before .before .before .before .before .before .before .if1 in
-    let part-count = c .before .before .before .before .before .before .before .before .before .before .before .before .part-count in
-    let outer-count = c .before .before .before .before .before .before .before .before .before .before .before .outer-count in
-    let substitute-parts = c .before .before .before .before .before .before .before .substitute-parts in
-    let good = c .before .before .before .before .before .before .before .before .before .before .before .before .before .before .before .before .before .before .before .before .before .before .good in
+    let substitute-parts = c .before .before .before .before .substitute-parts in
+    let good = c .before .before .before .before .before .before .before .before .before .before .before .before .before .before .before .before .before .before .before .before .before .good in
     let w = substitute-within _ (loop .inv) (loop-test .taken) _ (kind .ensures) (if1 .left) _ _ (part-count .ensures .0) (outer-count .ensures) _ _ (substitute-parts .kept .1 .1 .1 .1 .0) (substitute-parts .ensures) in
     omega (arith, inner-room w _ refl .room, w .len, good))
     (λ c.
     let loop = c .before .before .before .before .before .before .before .before .before .before .before .before .before .before .before .before .before .loop in
+    let loop-test = c .before .before .before .before .before .before .before .before .before .before .before .before .before .before .before .before .loop-test in
+    let kind = c .before .before .before .before .before .before .before .before .before .before .before .before .before .before .kind in
+    let if1 = c .before .before .before .before .before .before .before .before .before .before .before .before .before .if1 in
+    let part-count = c .before .before .before .before .before .before .before .before .before .before .before .before .part-count in
+    let outer-count = c .before .before .before .before .before .before .before .before .before .before .before .outer-count in
+    outer-few _ _ (loop .inv) (loop-test .taken) _ (kind .ensures) (if1 .left) _ _ (part-count .ensures .0) (outer-count .ensures) _ refl)
+    (λ c.
+    let loop = c .before .before .before .before .before .before .before .before .before .before .before .before .before .before .before .before .before .loop in
     let pre = c .before .before .before .before .before .before .before .before .before .before .before .before .before .before .before .before .before .before .before .before .before .before .pre in
     omega (arith, loop .inv .near, march-inside _ _ (loop .inv .going), pre .1 .1 .0))
-    (λ c κs.
+    (λ c.
+    let loop = c .before .before .before .before .before .before .before .before .before .before .before .before .before .before .before .before .before .loop in
+    let loop-test = c .before .before .before .before .before .before .before .before .before .before .before .before .before .before .before .before .loop-test in
+    omega (arith, march-inside _ _ (loop .inv .going), loop-test .taken))
+    (λ c.
     let loop = c .before .before .before .before .before .before .before .before .before .before .before .before .before .before .before .before .before .loop in
     let loop-test = c .before .before .before .before .before .before .before .before .before .before .before .before .before .before .before .before .loop-test in
     let kind = c .before .before .before .before .before .before .before .before .before .before .before .before .before .before .kind in
     let if1 = c .before .before .before .before .before .before .before .before .before .before .before .before .before .if1 in
     let part-count = c .before .before .before .before .before .before .before .before .before .before .before .before .part-count in
     let outer-count = c .before .before .before .before .before .before .before .before .before .before .before .outer-count in
-    let substitute-parts = c .before .before .before .before .before .before .before .substitute-parts in
-    let args = c .before .before .before .before .before .before .before .before .before .before .before .before .before .before .before .before .before .before .before .before .before .before .args in
+    let substitute-parts = c .before .before .before .before .before .substitute-parts in
+    let w = substitute-within _ (loop .inv) (loop-test .taken) _ (kind .ensures) (if1 .left) _ _ (part-count .ensures .0) (outer-count .ensures) _ _ (substitute-parts .kept .1 .1 .1 .1 .0) (substitute-parts .ensures) in
+    trace-last w (omega (arith, c .if5 .taken)))
+    (λ c.
+    let loop = c .before .before .before .before .before .before .before .before .before .before .before .before .before .before .before .before .before .loop in
+    let loop-test = c .before .before .before .before .before .before .before .before .before .before .before .before .before .before .before .before .loop-test in
+    let kind = c .before .before .before .before .before .before .before .before .before .before .before .before .before .before .kind in
+    let if1 = c .before .before .before .before .before .before .before .before .before .before .before .before .before .if1 in
+    let part-count = c .before .before .before .before .before .before .before .before .before .before .before .before .part-count in
+    let outer-count = c .before .before .before .before .before .before .before .before .before .before .before .outer-count in
+    let substitute-parts = c .before .before .before .before .before .substitute-parts in
     let pre = c .before .before .before .before .before .before .before .before .before .before .before .before .before .before .before .before .before .before .before .before .before .before .pre in
+    let w = substitute-within _ (loop .inv) (loop-test .taken) _ (kind .ensures) (if1 .left) _ _ (part-count .ensures .0) (outer-count .ensures) _ _ (substitute-parts .kept .1 .1 .1 .1 .0) (substitute-parts .ensures) in
+    omega (arith, march-inside _ _ (w .going), pre .1 .1 .0))
+    (λ c.
+    let loop = c .before .before .before .before .before .before .before .before .before .before .before .before .before .before .before .before .before .loop in
+    let loop-test = c .before .before .before .before .before .before .before .before .before .before .before .before .before .before .before .before .loop-test in
+    let kind = c .before .before .before .before .before .before .before .before .before .before .before .before .before .before .kind in
+    let if1 = c .before .before .before .before .before .before .before .before .before .before .before .before .before .if1 in
+    let part-count = c .before .before .before .before .before .before .before .before .before .before .before .before .part-count in
+    let outer-count = c .before .before .before .before .before .before .before .before .before .before .before .outer-count in
+    let substitute-parts = c .before .before .before .before .before .substitute-parts in
+    let w = substitute-within _ (loop .inv) (loop-test .taken) _ (kind .ensures) (if1 .left) _ _ (part-count .ensures .0) (outer-count .ensures) _ _ (substitute-parts .kept .1 .1 .1 .1 .0) (substitute-parts .ensures) in
+    omega (arith, march-inside _ _ (w .going)))
+    (λ c.
+    let loop = c .before .before .before .before .before .before .before .before .before .before .before .before .before .before .before .before .before .loop in
+    let loop-test = c .before .before .before .before .before .before .before .before .before .before .before .before .before .before .before .before .loop-test in
+    let kind = c .before .before .before .before .before .before .before .before .before .before .before .before .before .before .kind in
+    let if1 = c .before .before .before .before .before .before .before .before .before .before .before .before .before .if1 in
+    let part-count = c .before .before .before .before .before .before .before .before .before .before .before .before .part-count in
+    let outer-count = c .before .before .before .before .before .before .before .before .before .before .before .outer-count in
+    let substitute-parts = c .before .before .before .before .before .substitute-parts in
+    let w = substitute-within _ (loop .inv) (loop-test .taken) _ (kind .ensures) (if1 .left) _ _ (part-count .ensures .0) (outer-count .ensures) _ _ (substitute-parts .kept .1 .1 .1 .1 .0) (substitute-parts .ensures) in
+    omega (arith, march-inside _ _ (w .going)))
+    (λ c.
+    let loop = c .before .before .before .before .before .before .before .before .before .before .before .before .before .before .before .before .before .loop in
+    let loop-test = c .before .before .before .before .before .before .before .before .before .before .before .before .before .before .before .before .loop-test in
+    let kind = c .before .before .before .before .before .before .before .before .before .before .before .before .before .before .kind in
+    let if1 = c .before .before .before .before .before .before .before .before .before .before .before .before .before .if1 in
+    let part-count = c .before .before .before .before .before .before .before .before .before .before .before .before .part-count in
+    let outer-count = c .before .before .before .before .before .before .before .before .before .before .before .outer-count in
+    let substitute-parts = c .before .before .before .before .before .substitute-parts in
+    let w = substitute-within _ (loop .inv) (loop-test .taken) _ (kind .ensures) (if1 .left) _ _ (part-count .ensures .0) (outer-count .ensures) _ _ (substitute-parts .kept .1 .1 .1 .1 .0) (substitute-parts .ensures) in
+    omega (arith, march-inside _ _ (w .going)))
+    (λ c.
+    let loop = c .before .before .before .before .before .before .before .before .before .before .before .before .before .before .before .before .before .before .loop in
+    let loop-test = c .before .before .before .before .before .before .before .before .before .before .before .before .before .before .before .before .before .loop-test in
+    let kind = c .before .before .before .before .before .before .before .before .before .before .before .before .before .before .before .kind in
+    let if1 = c .before .before .before .before .before .before .before .before .before .before .before .before .before .before .if1 in
+    let part-count = c .before .before .before .before .before .before .before .before .before .before .before .before .before .part-count in
+    let outer-count = c .before .before .before .before .before .before .before .before .before .before .before .before .outer-count in
+    outer-few _ _ (loop .inv) (loop-test .taken) _ (kind .ensures) (if1 .left) _ _ (part-count .ensures .0) (outer-count .ensures) _ refl)
+    (λ c.
+    let loop = c .before .before .before .before .before .before .before .before .before .before .before .before .before .before .before .before .before .before .before .loop in
+    let loop-test = c .before .before .before .before .before .before .before .before .before .before .before .before .before .before .before .before .before .before .loop-test in
+    let kind = c .before .before .before .before .before .before .before .before .before .before .before .before .before .before .before .before .kind in
+    let if1 = c .before .before .before .before .before .before .before .before .before .before .before .before .before .before .before .if1 in
+    let part-count = c .before .before .before .before .before .before .before .before .before .before .before .before .before .before .part-count in
+    let outer-count = c .before .before .before .before .before .before .before .before .before .before .before .before .before .outer-count in
+    let substitute-parts = c .before .before .before .before .before .before .before .substitute-parts in
+    let good = c .before .before .before .before .before .before .before .before .before .before .before .before .before .before .before .before .before .before .before .before .before .before .before .before .good in
+    let w = substitute-within _ (loop .inv) (loop-test .taken) _ (kind .ensures) (if1 .left) _ _ (part-count .ensures .0) (outer-count .ensures) _ _ (substitute-parts .kept .1 .1 .1 .1 .0) (substitute-parts .ensures) in
+    omega (arith, inner-room w _ refl .room, w .len, good))
+    (λ c.
+    let loop = c .before .before .before .before .before .before .before .before .before .before .before .before .before .before .before .before .before .before .before .loop in
+    let pre = c .before .before .before .before .before .before .before .before .before .before .before .before .before .before .before .before .before .before .before .before .before .before .before .before .pre in
+    omega (arith, loop .inv .near, march-inside _ _ (loop .inv .going), pre .1 .1 .0))
+    (λ c κs.
+    let loop = c .before .before .before .before .before .before .before .before .before .before .before .before .before .before .before .before .before .before .before .loop in
+    let loop-test = c .before .before .before .before .before .before .before .before .before .before .before .before .before .before .before .before .before .before .loop-test in
+    let kind = c .before .before .before .before .before .before .before .before .before .before .before .before .before .before .before .before .kind in
+    let if1 = c .before .before .before .before .before .before .before .before .before .before .before .before .before .before .before .if1 in
+    let part-count = c .before .before .before .before .before .before .before .before .before .before .before .before .before .before .part-count in
+    let outer-count = c .before .before .before .before .before .before .before .before .before .before .before .before .before .outer-count in
+    let substitute-parts = c .before .before .before .before .before .before .before .substitute-parts in
+    let args = c .before .before .before .before .before .before .before .before .before .before .before .before .before .before .before .before .before .before .before .before .before .before .before .before .args in
+    let pre = c .before .before .before .before .before .before .before .before .before .before .before .before .before .before .before .before .before .before .before .before .before .before .before .before .pre in
     let w = substitute-within _ (loop .inv) (loop-test .taken) _ (kind .ensures) (if1 .left) _ _ (part-count .ensures .0) (outer-count .ensures) _ _ (substitute-parts .kept .1 .1 .1 .1 .0) (substitute-parts .ensures) in
     (
     omega (arith, from-length (args .body .now) (loop .i + 1 + substitute-parts .result .read), march-inside _ _ (w .going), loop-test .taken),
@@ -372,45 +392,45 @@ pub +substitute-parts-spec : {M : Type 1} → statement M
     ),
     ))
     (λ c.
-    let loop = c .before .before .before .before .before .before .before .before .before .before .before .before .before .before .before .before .before .before .before .before .before .loop in
-    let loop-test = c .before .before .before .before .before .before .before .before .before .before .before .before .before .before .before .before .before .before .before .before .loop-test in
-    let kind = c .before .before .before .before .before .before .before .before .before .before .before .before .before .before .before .before .before .before .kind in
-    let if1 = c .before .before .before .before .before .before .before .before .before .before .before .before .before .before .before .before .before .if1 in
-    let part-count = c .before .before .before .before .before .before .before .before .before .before .before .before .before .before .before .before .part-count in
-    let outer-count = c .before .before .before .before .before .before .before .before .before .before .before .before .before .before .before .outer-count in
+    let loop = c .before .before .before .before .before .before .before .before .before .before .before .before .before .before .before .before .before .before .before .before .before .before .before .loop in
+    let loop-test = c .before .before .before .before .before .before .before .before .before .before .before .before .before .before .before .before .before .before .before .before .before .before .loop-test in
+    let kind = c .before .before .before .before .before .before .before .before .before .before .before .before .before .before .before .before .before .before .before .before .kind in
+    let if1 = c .before .before .before .before .before .before .before .before .before .before .before .before .before .before .before .before .before .before .before .if1 in
+    let part-count = c .before .before .before .before .before .before .before .before .before .before .before .before .before .before .before .before .before .before .part-count in
+    let outer-count = c .before .before .before .before .before .before .before .before .before .before .before .before .before .before .before .before .before .outer-count in
     let substitute-parts = c .before .before .before .before .before .before .before .before .before .before .before .substitute-parts in
     let substitute-parts2 = c .before .before .before .substitute-parts2 in
-    let pre = c .before .before .before .before .before .before .before .before .before .before .before .before .before .before .before .before .before .before .before .before .before .before .before .before .before .before .pre in
+    let pre = c .before .before .before .before .before .before .before .before .before .before .before .before .before .before .before .before .before .before .before .before .before .before .before .before .before .before .before .before .pre in
     let w = substitute-within _ (loop .inv) (loop-test .taken) _ (kind .ensures) (if1 .left) _ _ (part-count .ensures .0) (outer-count .ensures) _ _ (substitute-parts .kept .1 .1 .1 .1 .0) (substitute-parts .ensures) in
     let t = trace-inner w _ _ _ _ (loop .owed - 1) refl refl (substitute-parts2 .kept .1 .1 .1 .1 .0) (substitute-parts2 .ensures) in
     omega (arith, march-inside _ _ (t .going), pre .1 .1 .0))
     (λ c.
-    let loop = c .before .before .before .before .before .before .before .before .before .before .before .before .before .before .before .before .before .before .before .before .before .before .loop in
-    let loop-test = c .before .before .before .before .before .before .before .before .before .before .before .before .before .before .before .before .before .before .before .before .before .loop-test in
-    let kind = c .before .before .before .before .before .before .before .before .before .before .before .before .before .before .before .before .before .before .before .kind in
-    let if1 = c .before .before .before .before .before .before .before .before .before .before .before .before .before .before .before .before .before .before .if1 in
-    let part-count = c .before .before .before .before .before .before .before .before .before .before .before .before .before .before .before .before .before .part-count in
-    let outer-count = c .before .before .before .before .before .before .before .before .before .before .before .before .before .before .before .before .outer-count in
+    let loop = c .before .before .before .before .before .before .before .before .before .before .before .before .before .before .before .before .before .before .before .before .before .before .before .before .loop in
+    let loop-test = c .before .before .before .before .before .before .before .before .before .before .before .before .before .before .before .before .before .before .before .before .before .before .before .loop-test in
+    let kind = c .before .before .before .before .before .before .before .before .before .before .before .before .before .before .before .before .before .before .before .before .before .kind in
+    let if1 = c .before .before .before .before .before .before .before .before .before .before .before .before .before .before .before .before .before .before .before .before .if1 in
+    let part-count = c .before .before .before .before .before .before .before .before .before .before .before .before .before .before .before .before .before .before .before .part-count in
+    let outer-count = c .before .before .before .before .before .before .before .before .before .before .before .before .before .before .before .before .before .before .outer-count in
     let substitute-parts = c .before .before .before .before .before .before .before .before .before .before .before .before .substitute-parts in
     let substitute-parts2 = c .before .before .before .before .substitute-parts2 in
-    let good = c .before .before .before .before .before .before .before .before .before .before .before .before .before .before .before .before .before .before .before .before .before .before .before .before .before .before .before .good in
+    let good = c .before .before .before .before .before .before .before .before .before .before .before .before .before .before .before .before .before .before .before .before .before .before .before .before .before .before .before .before .before .good in
     let w = substitute-within _ (loop .inv) (loop-test .taken) _ (kind .ensures) (if1 .left) _ _ (part-count .ensures .0) (outer-count .ensures) _ _ (substitute-parts .kept .1 .1 .1 .1 .0) (substitute-parts .ensures) in
     let t = trace-inner w _ _ _ _ (loop .owed - 1) refl refl (substitute-parts2 .kept .1 .1 .1 .1 .0) (substitute-parts2 .ensures) in
     omega (arith, trace-inside _ _ t, t .len, good))
     (λ c.
-    let loop-test = c .before .before .before .before .before .before .before .before .before .before .before .before .before .before .before .before .before .before .before .before .before .loop-test in
+    let loop-test = c .before .before .before .before .before .before .before .before .before .before .before .before .before .before .before .before .before .before .before .before .before .before .before .loop-test in
     loop-test .taken)
     (λ c.
-    let loop = c .before .before .before .before .before .before .before .before .before .before .before .before .before .before .before .before .before .before .before .before .before .before .loop in
-    let loop-test = c .before .before .before .before .before .before .before .before .before .before .before .before .before .before .before .before .before .before .before .before .before .loop-test in
+    let loop = c .before .before .before .before .before .before .before .before .before .before .before .before .before .before .before .before .before .before .before .before .before .before .before .before .loop in
+    let loop-test = c .before .before .before .before .before .before .before .before .before .before .before .before .before .before .before .before .before .before .before .before .before .before .before .loop-test in
     omega (arith, march-inside _ _ (loop .inv .going), loop-test .taken))
     (λ c.
-    let loop = c .before .before .before .before .before .before .before .before .before .before .before .before .before .before .before .before .before .before .before .before .before .before .loop in
-    let loop-test = c .before .before .before .before .before .before .before .before .before .before .before .before .before .before .before .before .before .before .before .before .before .loop-test in
-    let kind = c .before .before .before .before .before .before .before .before .before .before .before .before .before .before .before .before .before .before .before .kind in
-    let if1 = c .before .before .before .before .before .before .before .before .before .before .before .before .before .before .before .before .before .before .if1 in
-    let part-count = c .before .before .before .before .before .before .before .before .before .before .before .before .before .before .before .before .before .part-count in
-    let outer-count = c .before .before .before .before .before .before .before .before .before .before .before .before .before .before .before .before .outer-count in
+    let loop = c .before .before .before .before .before .before .before .before .before .before .before .before .before .before .before .before .before .before .before .before .before .before .before .before .loop in
+    let loop-test = c .before .before .before .before .before .before .before .before .before .before .before .before .before .before .before .before .before .before .before .before .before .before .before .loop-test in
+    let kind = c .before .before .before .before .before .before .before .before .before .before .before .before .before .before .before .before .before .before .before .before .before .kind in
+    let if1 = c .before .before .before .before .before .before .before .before .before .before .before .before .before .before .before .before .before .before .before .before .if1 in
+    let part-count = c .before .before .before .before .before .before .before .before .before .before .before .before .before .before .before .before .before .before .before .part-count in
+    let outer-count = c .before .before .before .before .before .before .before .before .before .before .before .before .before .before .before .before .before .before .outer-count in
     let substitute-parts = c .before .before .before .before .before .before .before .before .before .before .before .before .substitute-parts in
     let substitute-parts2 = c .before .before .before .before .substitute-parts2 in
     let w = substitute-within _ (loop .inv) (loop-test .taken) _ (kind .ensures) (if1 .left) _ _ (part-count .ensures .0) (outer-count .ensures) _ _ (substitute-parts .kept .1 .1 .1 .1 .0) (substitute-parts .ensures) in
