@@ -1,4 +1,4 @@
-//! The call `normalize` on case A of paper 01, with several budgets and buffers.
+//! The call `normalize`: case A of paper 01 with several budgets and buffers, and each refusal.
 
 use flatten::{normalize, Buffers, Refused, Tables};
 
@@ -51,6 +51,16 @@ fn accepted() {
     assert_eq!(outcome.answer, Ok((0, NORMAL_FORM.to_vec(), counts)));
     assert_eq!(outcome.output[..4], NORMAL_FORM);
     assert_eq!(outcome.output[4..], [BEFORE; 5]);
+}
+
+#[test]
+fn the_type_is_answered() {
+    let tables = Tables {
+        inputs: &[0, 1],
+        ..TABLES
+    };
+    let outcome = outcome(tables, &[1 << 30], 0, [1; 3]);
+    assert_eq!(outcome.answer, Ok((1, vec![1 << 30], [0; 10])));
 }
 
 #[test]
