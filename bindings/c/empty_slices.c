@@ -1,0 +1,40 @@
+/* A slice of length 0 may have a null pointer: both calls answer as docs/CONTRACTS.md says. */
+#include "flatten.h"
+
+#undef NDEBUG
+#include <assert.h>
+#include <string.h>
+
+/* One base type, one input of it, and the term that is this input: a normal form. */
+static const uint64_t base[] = {0}, input[] = {0}, variable[] = {0};
+
+static void no_term_is_refused_with_1(void) {
+    struct flatten_answer answer = flatten_normalize(
+        NULL, 0, NULL, 0, NULL, 0, NULL, 0, 1000, NULL, 0, NULL, 0, NULL, 0);
+    assert(answer.refusal == 1);
+}
+
+static void no_capacity_is_refused_with_11(void) {
+    struct flatten_answer answer = flatten_normalize(
+        base, 1, NULL, 0, input, 1, variable, 1, 1000, NULL, 0, NULL, 0, NULL, 0);
+    assert(answer.refusal == 11);
+}
+
+static void no_bundle_is_listed_as_refused_with_12(void) {
+    const char listing[] = "no 12 0 0 0 0 0 0 0 0 0 0\n";
+    uint8_t text[64];
+    assert(flatten_respond(NULL, 0, text, sizeof text) == strlen(listing));
+    assert(memcmp(text, listing, strlen(listing)) == 0);
+}
+
+static void no_text_is_answered_with_0(void) {
+    assert(flatten_respond(NULL, 0, NULL, 0) == 0);
+}
+
+int main(void) {
+    no_term_is_refused_with_1();
+    no_capacity_is_refused_with_11();
+    no_bundle_is_listed_as_refused_with_12();
+    no_text_is_answered_with_0();
+    return 0;
+}

@@ -1,0 +1,94 @@
+/*
+ * The verified normalizer for small typed functional terms, for C and C++ on x86-64 Linux.
+ * Link target/staticlib/libexports.a, which `rt staticlib exports` proves and writes.
+ * docs/CONTRACTS.md says in full what the two calls promise.
+ *
+ * What a caller owes, for each pointer and the length that follows it (in elements, not bytes):
+ * - The pointer is aligned for its type and valid for that many elements, for the whole call.
+ *   With length 0 it is not followed, and may be null.
+ * - Nothing else writes the elements during the call.
+ * - A slice that the call may write (its pointer is not const) overlaps no other slice.
+ *   Slices that are only read may overlap each other.
+ * Nothing tests this. Nothing else is owed: a slice may have any length and hold anything, and
+ * bad input is refused by number.
+ *
+ * What holds for both calls: they return, and read and write no memory but the slices and the
+ * stack. They keep nothing between calls, so threads may make them at the same time.
+ * They use the stack of their thread, the more the deeper a term nests: 4 MiB were enough for terms
+ * of over 8,000 levels (bindings/rust/tests/depth.rs). A stack that is too small is not refused by
+ * number: the process ends at the stack's guard page.
+ */
+#ifndef FLATTEN_H
+#define FLATTEN_H
+
+#include <stddef.h>
+#include <stdint.h>
+
+#ifdef __cplusplus
+extern "C" {
+#endif
+
+/* The most bytes that flatten_respond writes. */
+#define FLATTEN_MOST_WRITTEN 139393
+
+/* The number of rules, and so of counts in an answer. */
+#define FLATTEN_RULES 10
+
+/*
+ * The answer of flatten_normalize.
+ *
+ * refusal  0 where the term is accepted, else the reason:
+ *          1  over 1,024 types, 1,024 calls, 256 inputs or 4,096 term words, or no term word
+ *          2  a type word is malformed             3  a type word stands twice
+ *          4  a call word is malformed             5  an input's type is unknown
+ *          6  a term word is malformed             7  the term's words end early or are left over
+ *          8  a variable names no binder and no input
+ *          9  the term is not well typed
+ *         10  a rule fits and as many steps as the budget were taken
+ *         11  the term handed in, or the next term, is longer than the capacity
+ * type     the number of the term's type; 0 where it is refused
+ * length   the words of the normal form; 0 where it is refused
+ * counts   how often each rule was applied, in the order let, let of let, let of case, apply,
+ *          first, second, left case, right case, let value, drop; all zero where it is refused
+ *          with 1 to 9, and the steps taken where it is refused with 10 or 11
+ */
+struct flatten_answer {
+    uint32_t refusal;
+    uint64_t type;
+    size_t length;
+    uint32_t counts[FLATTEN_RULES];
+};
+
+/*
+ * Reads a bundle, normalizes its term with budget 1,000,000 and capacity 8,192, and writes the
+ * listing to the front of the text; the rest of the text stays as it was. Answers how many bytes
+ * were written. A bundle that cannot be read is listed as refused with 12.
+ *
+ * A text that is shorter than the listing stays as it was, and the answer is 0. A text of
+ * FLATTEN_MOST_WRITTEN bytes holds every listing.
+ */
+size_t flatten_respond(const uint8_t *bytes, size_t bytes_length, uint8_t *text, size_t text_length);
+
+/*
+ * Normalizes a term over its tables, in at most as many steps as the budget. The capacity is the
+ * length of the shortest of output, first and second, and 8,192 at most.
+ *
+ * output         accepted: the front holds the normal form and the rest stays as it was;
+ *                refused: all of it stays as it was
+ * first, second  scratch: all words are zero after every call, whatever they held before
+ */
+struct flatten_answer flatten_normalize(
+    const uint64_t *types, size_t types_length,
+    const uint64_t *calls, size_t calls_length,
+    const uint64_t *inputs, size_t inputs_length,
+    const uint64_t *term, size_t term_length,
+    uint32_t budget,
+    uint64_t *output, size_t output_length,
+    uint64_t *first, size_t first_length,
+    uint64_t *second, size_t second_length);
+
+#ifdef __cplusplus
+}
+#endif
+
+#endif
