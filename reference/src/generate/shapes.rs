@@ -100,6 +100,37 @@ pub fn drop_cascade(lets: usize) -> Sample {
     sample(&[], let_in(&bound, &call(C, &[])))
 }
 
+/// Lets of c whose variables are used only behind them all, by calls of two arguments, and so many
+/// unused lets between: each drop looks at the whole term. 6 words for each used let.
+pub fn late_uses(used: usize, unused: usize) -> Sample {
+    const E: u64 = 2;
+    let mut term = Phrase::new();
+    for _ in 0..used + unused {
+        term.push(pack_term(LET, 0, 0));
+        term.extend(call(C, &[]));
+    }
+    for later in 0..used {
+        let number = (used + unused - 1) as u64;
+        let last = if later == 0 { number } else { 0 };
+        term.push(pack_term(LET, 0, 0));
+        term.extend(call(E, &[&variable(number), &variable(last)]));
+    }
+    term.extend(variable(0));
+    let mut sample = sample(&[], term);
+    sample.calls.push(pack_call(2, B, [B, B, 0]));
+    sample
+}
+
+/// As many types as there can be, and a term of one word.
+pub fn many_types() -> Sample {
+    let mut sample = sample(&[B], variable(0));
+    while sample.types.len() < 1024 {
+        let last = sample.types.len() as u64 - 1;
+        sample.types.push(pack_type(PRODUCT, last, B));
+    }
+    sample
+}
+
 /// `let (case v0, d v0, d v0), …` with this many lets: each moves into both branches, so that the
 /// length doubles with each.
 pub fn branching(lets: usize) -> Sample {
@@ -161,6 +192,9 @@ pub fn largest_shapes() -> Vec<Shape> {
             prefixed_doubling(14, 1330),
         ),
         shape("drop cascade, 2,730 lets", drop_cascade(2730)),
+        shape("100 drops in 1,025 words, late uses", late_uses(137, 100)),
+        shape("100 drops in 4,091 words, late uses", late_uses(648, 100)),
+        shape("1,024 types, a term of one word", many_types()),
         shape("branching, 8 lets", branching(8)),
         shape("branching, 30 lets: no capacity", branching(30)),
         shape("1,019 functions applied", applied_functions(1019)),
