@@ -12,6 +12,7 @@ pub mod Fundamental
 pub mod Grammar
 pub mod GrammarNormal
 pub mod GrammarTest
+pub mod KnownTypes
 pub mod NextInsertion
 pub mod NextReduction
 pub mod Operands
