@@ -1,6 +1,6 @@
 -- Whatever the program reads, what it writes fits 139,393 bytes: a refusal is at most 12, a type number below 1,024, a normal form at most
 -- 8,192 words, and each of the ten counts at most the budget. So a text of that length gets the whole response.
-use Prim.Native.Nat.{ℕ, zero, suc, _^_, _≤_, _<_}
+use Prim.Native.Nat.{ℕ, zero, suc, _≤_, _<_}
 use native.Mathlib.Omega.{arith}
 use mathlib.Core.Path.{_≡_, refl}
 use mathlib.Core.Bool.{Bool, true, false}
@@ -19,7 +19,7 @@ use Rattle.reduction.specs.Reduction.{Progress, stopped, reached, reduce}
 use Rattle.reduction.proofs.Exact.{Exact, reduce-exact, reached-fits, refusal-number}
 use Rattle.reduction.proofs.CountsBounded.{zeros, countsOf, ten-counts, count-budget}
 use Rattle.outcomes.specs.Buffers.{overwrite}
-use Rattle.outcomes.specs.Listing.{listingOf, Written, writtenTo}
+use Rattle.outcomes.specs.Listing.{listingOf, writtenTo}
 use Rattle.outcomes.specs.Normalize.{Normalized, reducedTo, checkedTo, normalizeWithin, maxCapacity}
 use Rattle.outcomes.specs.ReadBundle.{Reading, readBundleOutcome, readable, unreadable, lengthsOf, headerOf, wordsAfter}
 use Rattle.outcomes.specs.Respond.{programSettings, bundleWords, tablesOf, termOf, unread, listed, respondTo, response, respondOutcome}

@@ -16,17 +16,13 @@ use Rattle.syntax.specs.Shaped.{count, Shaped, ShapedAll}
 use Rattle.typing.specs.Infer.{Context}
 use Rattle.typing.specs.TableChecks.{every, wellFormedCall, wellFormedCalls, lengthsFit}
 use Rattle.syntax.proofs.Options.{and-left, and-right}
-use Rattle.typing.proofs.Typing.{Of, Signed, At, here, there, Typed, TypedAll, t-var, t-call, t-lam, t-app, t-bind, t-pair, t-fst, t-snd}
+use Rattle.typing.proofs.Typing.{Of, Signed, at-below, Typed, TypedAll, t-var, t-call, t-lam, t-app, t-bind, t-pair, t-fst, t-snd}
 use Rattle.typing.proofs.Typing.{t-inl, t-inr, t-case, t-done, t-arg}
 
 pub below : {X : Type 0} (xs : List X) (n : ℕ) {x : X} → getElem? xs n ≡ some x → n < length xs
 below [] n {x} e = absurd (Option·none-ne-some x e)
 below (y ∷ ys) zero e = omega arith
 below (y ∷ ys) (suc n) e = let h = below ys n e in omega (arith, h)
-
-pub at-below : {Γ : Context} {n A : ℕ} → At Γ n A → n < length Γ
-at-below here = omega arith
-at-below (there x) = let h = at-below x in omega (arith, h)
 
 pub bind-some : {X Y : Type 0} (o : Option X) (f : X → Option Y) {y : Y} → (o >>= f) ≡ some y → (x : X) × (o ≡ some x) × (f x ≡ some y)
 bind-some none f {y} e = absurd (Option·none-ne-some y e)

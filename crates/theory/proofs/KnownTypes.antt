@@ -2,12 +2,12 @@
 -- there, and a type's parts are earlier entries.
 use mathlib.Core.Path.{_≡_, ap}
 use mathlib.Core.List.{List, [], _∷_}
-use mathlib.Core.Option.{Option, some, Option·some-injective}
+use mathlib.Core.Option.{some, Option·some-injective}
 use lib.Dec.{T, ltb, ltb→lt}
 use lib.ListN.{length, getElem?}
 use Prim.Native.Nat.{ℕ, suc, _<_}
 use native.Mathlib.Omega.{arith}
-use Rattle.syntax.specs.Tables.{Tables, arrow, product, sum, Signature, signatureOf}
+use Rattle.syntax.specs.Tables.{Tables, Signature, signatureOf}
 use Rattle.syntax.specs.Term.{Term}
 use Rattle.syntax.proofs.Options.{and-left, and-right}
 use Rattle.typing.specs.Infer.{Context}
