@@ -24,7 +24,6 @@ pub mod Relation
 pub mod RuledOut
 pub mod SameRuns
 pub mod SoundCall
-pub mod ScanReduction
 pub mod SoundInsert
 pub mod SoundReduce
 pub mod SoundStep
