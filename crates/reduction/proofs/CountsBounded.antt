@@ -12,7 +12,8 @@ use Rattle.reduction.specs.Sequence.{tally}
 use Rattle.reduction.proofs.Exact.{budget-spent, next-too-long, first-too-long, Exact, refused, normal, reduce-exact}
 use Rattle.reduction.proofs.Path.{steps}
 
-raised : (counts : Counts) (j i : ℕ) → getD (set counts j (getD counts j 0 + 1)) i 0 ≤ suc (getD counts i 0)
+-- one count raised
+pub raised : (counts : Counts) (j i : ℕ) → getD (set counts j (getD counts j 0 + 1)) i 0 ≤ suc (getD counts i 0)
 raised [] j i = omega arith
 raised (x ∷ xs) zero zero = omega arith
 raised (x ∷ xs) zero (suc i) = omega arith
