@@ -5,6 +5,7 @@ use native.Mathlib.Nat.{pow-suc}
 use mathlib.Core.Path.{_≡_, refl}
 use mathlib.Core.List.{List, [], _∷_}
 use lib.ListN.{length, getD, length-append}
+use Rattle.outcomes.specs.Text.{ascii}
 use Rattle.outcomes.specs.declared.Answer.{Answer}
 use Rattle.outcomes.specs.Listing.{decimal, decimalThen, lines, listingOf}
 use Rattle.bundles.specs.FirstLine.{acceptedLine}
@@ -37,6 +38,14 @@ sizes-short : (ns : List ℕ) → ((k : ℕ) → getD ns k 0 < 2 ^ 32) → sizeO
 unfolding sizeOf
 sizes-short [] h = omega arith
 sizes-short (n ∷ ns) h = omega (arith, decimal-short 9 n (omega (arith, h 0)), sizes-short ns (λ k. h (suc k)))
+
+-- a listing is never empty
+pub listing-some : (a : Answer) (ws : List ℕ) → 0 < length (listingOf a ws)
+unfolding ascii
+listing-some a ws = by-refusal (a .refusal) refl where
+  by-refusal : (m : ℕ) → a .refusal ≡ m → 0 < length (listingOf a ws)
+  by-refusal zero e = rw (listing-accepted a ws (omega arith)) (omega arith)
+  by-refusal (suc m) e = rw (listing-refused a ws (omega arith)) (omega arith)
 
 -- the listing of an answer of the program fits
 pub listing-fits : (a : Answer) (ws : List ℕ) → a .refusal < 2 ^ 32 → a .ty < 2 ^ 32 → a .length ≤ 8192 → length ws ≤ 8192

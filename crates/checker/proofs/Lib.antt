@@ -1,7 +1,6 @@
 pub mod Every
 pub mod Lookups
 pub mod Variables
-pub mod ScopedNode
 pub mod Scoping
 pub mod TypeParts
 pub mod PartTypes

@@ -19,7 +19,7 @@ use Rattle.parts.proofs.Traversal.{Going, front-of, enter, next, leave, reached
 use Rattle.typing.specs.TermChecks.{scopedAt}
 use Rattle.checker.specs.Answers.{Scopes}
 use Rattle.checker.proofs.Variables.{is-var, not-var}
-use Rattle.checker.proofs.ScopedNode.{scopedParts, scoped-node}
+use Rattle.typing.proofs.ScopedNode.{scopedParts, scoped-node}
 
 -- what the answer for one term tells
 pub scoped-if : (b : Bool) (u : Term) (l : ℕ) → l ≡ cond b (size u) 0 → (l ≡ 0 → ⊥) → (b ≡ true) × (l ≡ size u)

@@ -20,10 +20,11 @@ pub fn word_fits(types: &[u64], calls: &[u64], w: u64) -> bool
     }
     let s = parts::shape::shape_of(k);
     let fits = field_fits(s.ty, types.len(), parts::fields::ty(w));
+    // a variable's number is looked at in 8
     if k == 0 {
         return fits;
     }
-    if field_fits(k == 1, calls.len(), parts::fields::number(w)) {
+    if field_fits(s.number, calls.len(), parts::fields::number(w)) {
         return fits;
     }
     false

@@ -1,35 +1,28 @@
 -- The call's answer and output, for each way it can go, as the code has them.
-use Prim.Native.Nat.{ℕ, suc, _+_, _≤_, _<_, min}
+use Prim.Native.Nat.{ℕ, suc, _≤_, _<_, min}
 use native.Mathlib.Omega.{arith}
-use mathlib.Core.Path.{_≡_, refl, sym, _∙_, ap, subst}
+use mathlib.Core.Path.{_≡_, sym, ap, subst}
 use mathlib.Core.List.{List}
-use lib.ListN.{length, take, length-take}
+use lib.ListN.{length, length-take}
 use lib.Seq.{paste}
 use Rattle.syntax.specs.Tables.{over}
-use Rattle.syntax.specs.Term.{Term}
-use Rattle.syntax.specs.Encoding.{encode, size}
-use Rattle.typing.specs.Refusals.{Typed, elaborate, normalizeLimit}
+use Rattle.syntax.specs.Encoding.{size}
+use Rattle.typing.specs.Refusals.{elaborate, normalizeLimit}
 use Rattle.typing.proofs.Accepted.{Passed}
 use Rattle.reduction.specs.Rules.{allPure}
-use Rattle.reduction.specs.Reduction.{Counts, zeroCounts, Progress, stopped, reached, reduce}
-use Rattle.reduction.proofs.Bounded.{Reduced as Bound, reduced, reduce-sequence}
+use Rattle.reduction.specs.Reduction.{zeroCounts, Progress, stopped, reached, reduce}
+use Rattle.reduction.proofs.Exact.{Exact, reduce-exact, reached-fits}
 use Rattle.outcomes.specs.Check.{checkedOf}
-use Rattle.outcomes.specs.Normalize.{Buffers, capacityOf}
+use Rattle.outcomes.specs.Normalize.{capacityOf}
 use Rattle.outcomes.specs.declared.Answer.{Answer}
 use Rattle.outcomes.specs.declared.Checked.{Checked}
 use Rattle.checker.proofs.Verdicts.{Accepts, accepted-of, refused-of}
-use Rattle.normalizer.specs.Currents.{Front, Current}
+use Rattle.normalizer.specs.Currents.{Current}
 use Rattle.normalizer.specs.Reductions.{Reducible, Comes, refusal, ended, Reduces}
 use Rattle.normalizer.specs.Runs.{Runs}
 use Rattle.normalizer.specs.declared.reduce.Reduced.{Reduced}
 use Rattle.normalizer.proofs.Running.{runs-refused, runs-too-long, runs-stopped, runs-ended}
 use Rattle.normalizer.proofs.Reducing.{term-size, copied, reducible}
-
--- what was reached fits the capacity
-reached-fits : (capacity budget : ℕ) (t : Term) {left : ℕ} {u : Term} {counts : Counts}
-    → Bound allPure capacity budget t (reached left u counts)
-    → size u ≤ capacity
-reached-fits capacity budget t (reduced q c l f) = f
 
 module _ (types calls inputs words output first second : List ℕ) (budget : ℕ) (checked : Checked)
     (ce : checked ≡ checkedOf (elaborate normalizeLimit (over types calls inputs) words)) where
@@ -102,12 +95,12 @@ module _ (types calls inputs words output first second : List ℕ) (budget : ℕ
         pub run-room : r .refusal ≡ 0 → (r .length ≤ length after) × (r .length ≤ length output)
         unfolding size
         run-room n = go (reduce allPure capacity (record { budget = budget }) (accepted .typed .term))
-            (reduce-sequence allPure capacity (record { budget = budget }) (accepted .typed .term)) comes
+            (reduce-exact allPure capacity (record { budget = budget }) (accepted .typed .term)) comes
           where
-            go : (p : Progress) → Bound allPure capacity budget (accepted .typed .term) p → Comes after r p
+            go : (p : Progress) → Exact allPure capacity budget (accepted .typed .term) p → Comes after r p
                 → (r .length ≤ length after) × (r .length ≤ length output)
             go (stopped (suc k) counts) b (refusal re c) = absurd (omega (arith, n, re))
             go (reached left u counts) b (ended re c f) = (
               omega (arith, f .length-is, ap (λ (l : List ℕ). length l) (f .words-are), length-take (r .length) after),
-              omega (arith, f .length-is, reached-fits capacity budget (accepted .typed .term) b, ke),
+              omega (arith, f .length-is, reached-fits allPure capacity b, ke),
             )

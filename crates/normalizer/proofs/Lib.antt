@@ -5,7 +5,8 @@ pub mod InPlace
 pub mod Seeking
 pub mod Turning
 pub mod Standing
-pub mod Looping
+pub mod StepLoop
+pub mod PhaseLoop
 pub mod Running
 pub mod Reducing
 pub mod Deciding

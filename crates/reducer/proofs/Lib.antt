@@ -3,7 +3,6 @@ pub mod Inserting
 pub mod Finding
 pub mod Fitting
 pub mod Scanning
-pub mod Naming
 pub mod Marking
 pub mod UnusedParts
 pub mod SeenParts

@@ -1,10 +1,10 @@
--- Each count is at most the number of steps taken, since a step raises one count by one; so it is at most the budget.
-use mathlib.Core.Path.{_≡_, refl, ap}
+-- There are ten counts, and each is at most the number of steps taken, since a step raises one count by one; so it is at most the budget.
+use mathlib.Core.Path.{_≡_, refl, sym, _∙_, ap}
 use mathlib.Core.Bool.{Bool}
 use mathlib.Core.List.{List, [], _∷_}
 use Prim.Native.Nat.{ℕ, zero, suc, _+_, _≤_}
 use native.Mathlib.Omega.{arith}
-use lib.ListN.{length, getD, set, replicate}
+use lib.ListN.{length, getD, set, replicate, length-set}
 use Rattle.syntax.specs.Term.{Term}
 use Rattle.reduction.specs.Redex.{Step}
 use Rattle.reduction.specs.Reduction.{Counts, index, raise, zeroCounts, Settings, Progress, stopped, reached, reduce}
@@ -12,7 +12,8 @@ use Rattle.reduction.specs.Sequence.{tally}
 use Rattle.reduction.proofs.Exact.{budget-spent, next-too-long, first-too-long, Exact, refused, normal, reduce-exact}
 use Rattle.reduction.proofs.Path.{steps}
 
-raised : (counts : Counts) (j i : ℕ) → getD (set counts j (getD counts j 0 + 1)) i 0 ≤ suc (getD counts i 0)
+-- one count raised
+pub raised : (counts : Counts) (j i : ℕ) → getD (set counts j (getD counts j 0 + 1)) i 0 ≤ suc (getD counts i 0)
 raised [] j i = omega arith
 raised (x ∷ xs) zero zero = omega arith
 raised (x ∷ xs) zero (suc i) = omega arith
@@ -23,6 +24,12 @@ tally-bound : (ss : List Step) (counts : Counts) (i : ℕ) → getD (tally ss co
 unfolding tally
 tally-bound [] counts i = omega arith
 tally-bound (s ∷ ss) counts i = omega (arith, tally-bound ss (raise (s .rule) counts) i, raised counts (index (s .rule)) i)
+
+tally-ten : (ss : List Step) (counts : Counts) → length counts ≡ 10 → length (tally ss counts) ≡ 10
+unfolding tally
+tally-ten [] counts h = h
+tally-ten (s ∷ ss) counts h =
+    tally-ten ss (raise (s .rule) counts) (length-set counts (index (s .rule)) (getD counts (index (s .rule)) 0 + 1) ∙ h)
 
 pub zeros : (n i : ℕ) → _≡_ {A = ℕ} (getD (replicate n 0) i 0) 0
 zeros zero i = refl
@@ -47,6 +54,15 @@ module _ (pure : Term → Bool) (capacity : ℕ) where
   exact-count (refused (first-too-long l)) i = omega (arith, zeros 10 i)
   exact-count (normal q h l d) i =
       omega (arith, count-steps (steps pure q) i, l, ap (λ (c : Counts). getD c i 0) d)
+
+  exact-ten : {budget : ℕ} {t : Term} {x : Progress} → Exact pure capacity budget t x → length (countsOf x) ≡ 10
+  exact-ten (refused (budget-spent {ss = ss} p h e l d)) = ap length (sym d) ∙ tally-ten ss zeroCounts refl
+  exact-ten (refused (next-too-long {ss = ss} p h e l k d)) = ap length (sym d) ∙ tally-ten ss zeroCounts refl
+  exact-ten (refused (first-too-long l)) = refl
+  exact-ten (normal q h l d) = ap length (sym d) ∙ tally-ten (steps pure q) zeroCounts refl
+
+  pub ten-counts : (settings : Settings) (t : Term) → length (countsOf (reduce pure capacity settings t)) ≡ 10
+  ten-counts settings t = exact-ten (reduce-exact pure capacity settings t)
 
   -- each count is at most the budget
   pub count-budget : (settings : Settings) (t : Term) (i : ℕ)

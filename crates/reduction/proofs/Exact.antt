@@ -17,7 +17,7 @@ use Rattle.reduction.specs.Reduction.{Counts, zeroCounts, Settings, Prog
 use Rattle.reduction.specs.Sequence.{tally, Sequence, terms}
 use Rattle.reduction.proofs.Remaining.{reduce-begins, reduce-too-long}
 use Rattle.reduction.proofs.Path.{Within, fits, nexts, Path, steps, sequence-path, sequence-end, Finished}
-use Rattle.reduction.proofs.Path.{inserted, path-finished}
+use Rattle.reduction.proofs.Path.{inserted, path-finished, path-fits}
 use Rattle.reduction.proofs.Halting.{from, path-from, Halt, spent, full, over, halt-from, insertion-comes}
 
 module _ (pure : Term → Bool) (capacity : ℕ) where
@@ -84,6 +84,16 @@ module _ (pure : Term → Bool) (capacity : ℕ) where
           (begun (h tt))
       go false h k = subst⁻¹ (λ (x : Progress). Exact (settings .budget) t x)
           (reduce-too-long pure capacity (settings .budget) t (k tt)) (refused (first-too-long (k tt)))
+
+  -- what is reached fits the capacity
+  pub reached-fits : {budget : ℕ} {t u : Term} {left : ℕ} {counts : Counts} → Exact budget t (reached left u counts) → size u ≤ capacity
+  reached-fits (normal q h l d) = path-fits pure (sequence-path pure q) h
+
+  -- a refusal is by 10 or 11
+  pub refusal-number : {budget : ℕ} {t : Term} {n : ℕ} {counts : Counts} → Exact budget t (stopped n counts) → (10 ≤ n) × (n ≤ 11)
+  refusal-number (refused (budget-spent p h e l d)) = (omega arith, omega arith)
+  refusal-number (refused (next-too-long p h e l k d)) = (omega arith, omega arith)
+  refusal-number (refused (first-too-long l)) = (omega arith, omega arith)
 
   -- A sequence within the budget and the capacity is come through (demand 1).
   pub sequence-reduce : (settings : Settings) (t u : Term) (q : Sequence pure t u) → Within capacity (terms pure q)

@@ -1,7 +1,6 @@
 pub mod FirstRedex
 pub mod Structure
 pub mod Disjoint
-pub mod Bounded
 pub mod Unique
 pub mod Roots
 pub mod Fires

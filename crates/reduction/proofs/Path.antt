@@ -103,3 +103,10 @@ module _ (pure : Term → Bool) where
   path-finished here e = dropped (ended e)
   path-finished (taken d p) e = one-more d (path-finished p e)
   path-finished (onward d f p) e = next-phase d f (path-finished p e)
+
+  -- where a run through terms that fit has come, the term fits
+  pub path-fits : {capacity : ℕ} {phase last : Phase} {t w : Term} {ss : List Step} → Path phase t ss last w
+      → Within capacity (t ∷ nexts ss) → size w ≤ capacity
+  path-fits here (fits h k) = h
+  path-fits (taken e p) (fits h k) = path-fits p k
+  path-fits (onward e f p) k = path-fits p k

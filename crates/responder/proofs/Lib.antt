@@ -1,1 +1,2 @@
 mod Responding
+pub mod ResponseBound

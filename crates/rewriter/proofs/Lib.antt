@@ -6,4 +6,3 @@ pub mod Contracta
 pub mod NamedPart
 pub mod MeasuringInsertion
 pub mod ByRule
-pub mod Rewritten

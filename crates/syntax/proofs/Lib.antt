@@ -16,6 +16,5 @@ pub mod Uses
 pub mod Agreement
 pub mod Sublists
 pub mod Sites
-pub mod Nested
 pub mod Inherited
 pub mod Subterms

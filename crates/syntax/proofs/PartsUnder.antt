@@ -14,7 +14,6 @@ use Rattle.syntax.specs.Under.{underBy}
 use Rattle.syntax.specs.PartsUnder.{traverseParts, usesParts}
 use Rattle.syntax.specs.Values.{uses, usesAll}
 use Rattle.syntax.proofs.Nodes.{encode-node}
-use Rattle.syntax.proofs.Under.{underBy-underBy}
 
 module _ {X : Type 0} (kit : Kit X) where
   -- the arguments of a call stand under no binder
@@ -51,15 +50,6 @@ module _ {X : Type 0} (kit : Kit X) where
       → encode (traverse kit t f) ≡ wordOf t ∷ encodeAll (traverseParts kit (node t .kind) 0 (node t .parts) f)
   encode-traverse t f h = encode-node (traverse kit t f)
       ∙ ap {B = List ℕ} (λ (n : Node). pack (n .kind) (n .number) (n .type) ∷ encodeAll (n .parts)) (node-traverse t f h)
-
-  -- a part of a node that itself stands under c binders stands under its own more
-  pub traverseParts-arg : (k j : ℕ) (t : Term) (ts : Terms) (c : ℕ) (f : ℕ → X)
-      → traverseParts kit k j (arg t ts) (underBy kit c f)
-      ≡ arg (traverse kit t (underBy kit (bindersAt k j + c) f)) (traverseParts kit k (suc j) ts (underBy kit c f))
-  unfolding traverseParts
-  traverseParts-arg k j t ts c f =
-      let us = traverseParts kit k (suc j) ts (underBy kit c f) in
-      ap (λ (g : ℕ → X). arg (traverse kit t g) us) (underBy-underBy kit (bindersAt k j) c f)
 
 -- uses in a part that no binder stands over, and in one that a binder stands over
 outer : (t : Term) (n : ℕ) → uses t n ≡ uses t (n + 0)

@@ -166,9 +166,6 @@ module _ {t : Term} {i : ℕ} {p : Position Term} (s : Site t i p) where
   pub drop-site : drop i (encode t) ≡ encode (p .subterm) ++ s .after
   drop-site = ap (drop i) (s .whole) ∙ drop-at (s .before) _ i (s .index)
 
-  pub drop-plugged : (u : Term) → drop i (encode (p .plug u)) ≡ encode u ++ s .after
-  drop-plugged u = ap (drop i) (s .plugged u) ∙ drop-at (s .before) _ i (s .index)
-
   pub size-site : size t ≡ i + (size (p .subterm) + length (s .after))
   unfolding size
   size-site = let a = ap length (s .whole) in let b = length-append (s .before) (encode (p .subterm) ++ s .after) in
@@ -178,9 +175,6 @@ module _ {t : Term} {i : ℕ} {p : Position Term} (s : Site t i p) where
   unfolding size
   size-plugged u = let a = ap length (s .plugged u) in let b = length-append (s .before) (encode u ++ s .after) in
       let c = length-append (encode u) (s .after) in let d = s .index in omega arith
-
-  pub size-plug : (u : Term) → size (p .plug u) + size (p .subterm) ≡ size t + size u
-  size-plug u = let a = size-site in let b = size-plugged u in omega arith
 
 pub size-positive : (t : Term) → 1 ≤ size t
 unfolding size encode

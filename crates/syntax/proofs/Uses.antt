@@ -1,7 +1,7 @@
 -- How often a renamed or substituted term uses a variable, for the renamings and substitutions of the rules: each is a traversal whose
 -- variables are counted one by one.
 use mathlib.Core.Path.{_≡_, refl, sym, _∙_, ap, ap₂}
-use Prim.Native.Nat.{ℕ, zero, suc, _+_, _*_, _≤_, _<_}
+use Prim.Native.Nat.{ℕ, zero, suc, _+_, _*_, _≤_}
 use native.Mathlib.Omega.{arith}
 use native.Mathlib.Nat.{zero-add, suc-add, add-suc}
 use lib.Dec.{eqb, eqb·zero-suc, eqb·suc-zero, eqb·suc-suc}
@@ -25,12 +25,6 @@ counts-zero-suc n = ap counts (eqb·zero-suc n)
 counts-add : (k m n : ℕ) → counts (eqb (k + m) (k + n)) ≡ counts (eqb m n)
 counts-add zero m n = rw (zero-add m, zero-add n)
 counts-add (suc k) m n = rw (suc-add k m, suc-add k n) (counts-suc (k + m) (k + n) ∙ counts-add k m n)
-
--- a variable is not one below it
-counts-past : (k m n : ℕ) → n < k → counts (eqb (k + m) n) ≡ 0
-counts-past zero m n h = absurd (omega (arith, h))
-counts-past (suc k) m zero h = rw (suc-add k m) (counts-suc-zero (k + m))
-counts-past (suc k) m (suc n) h = rw (suc-add k m) (counts-suc (k + m) n ∙ counts-past k m n (omega (arith, h)))
 
 -- renaming
 pub renaming-weakens : Weakens renaming
@@ -65,23 +59,6 @@ uses-weakens-suc done n = refl
 uses-weakens-suc (arg t ts) n = ap₂ _+_ (uses-weaken-suc t n) (uses-weakens-suc ts n)
 
 -- variables raised under c binders
-raised-below : (c by n : ℕ) → n < c → (m : ℕ) → counts (eqb (raiseAt c by m) n) ≡ counts (eqb m n)
-unfolding underBy
-raised-below zero by n h m = absurd (omega (arith, h))
-raised-below (suc c) by zero h zero = refl
-raised-below (suc c) by zero h (suc m) = counts-suc-zero (raiseAt c by m) ∙ sym (counts-suc-zero m)
-raised-below (suc c) by (suc n) h zero = refl
-raised-below (suc c) by (suc n) h (suc m) =
-    counts-suc (raiseAt c by m) n ∙ raised-below c by n (omega (arith, h)) m ∙ sym (counts-suc m n)
-
-raised-between : (c by n : ℕ) → c ≤ n → n < by + c → (m : ℕ) → counts (eqb (raiseAt c by m) n) ≡ 0
-unfolding underBy
-raised-between zero by n h k m = counts-past by m n (omega (arith, k))
-raised-between (suc c) by zero h k m = absurd (omega (arith, h))
-raised-between (suc c) by (suc n) h k zero = counts-zero-suc n
-raised-between (suc c) by (suc n) h k (suc m) =
-    counts-suc (raiseAt c by m) n ∙ raised-between c by n (omega (arith, h)) (omega (arith, k)) m
-
 raised-above : (c by n : ℕ) → c ≤ n → (m : ℕ) → counts (eqb (raiseAt c by m) (by + n)) ≡ counts (eqb m n)
 unfolding underBy
 raised-above zero by n h m = counts-add by m n
@@ -89,12 +66,6 @@ raised-above (suc c) by zero h m = absurd (omega (arith, h))
 raised-above (suc c) by (suc n) h zero = rw (add-suc by n) (counts-zero-suc (by + n) ∙ sym (counts-zero-suc n))
 raised-above (suc c) by (suc n) h (suc m) = rw (add-suc by n)
     (counts-suc (raiseAt c by m) (by + n) ∙ raised-above c by n (omega (arith, h)) m ∙ sym (counts-suc m n))
-
-pub uses-raiseAt-below : (t : Term) (c by n : ℕ) → n < c → uses (rename t (raiseAt c by)) n ≡ uses t n
-uses-raiseAt-below t c by n h = uses-rename t (raiseAt c by) n n (raised-below c by n h)
-
-pub uses-raiseAt-between : (t : Term) (c by n : ℕ) → c ≤ n → n < by + c → uses (rename t (raiseAt c by)) n ≡ 0
-uses-raiseAt-between t c by n h k = uses-rename-none t (raiseAt c by) n (raised-between c by n h k)
 
 pub uses-raiseAt-above : (t : Term) (c by n : ℕ) → c ≤ n → uses (rename t (raiseAt c by)) (by + n) ≡ uses t n
 uses-raiseAt-above t c by n h = uses-rename t (raiseAt c by) (by + n) n (raised-above c by n h)
@@ -117,24 +88,12 @@ puts-past v (suc d) n zero e m = absurd (omega (arith, e))
 puts-past v (suc d) n (suc n′) e m = puts-under substitution substitution-weakens 1 (uses v n) (onlyAt d v) n′ (suc n′) d
     (puts-past v d n n′ (omega (arith, e))) m
 
-puts-below : (v : Term) (d n : ℕ) → n < d → Puts substitution 1 0 (onlyAt d v) n n n
-unfolding underBy uses
-puts-below v zero n h m = absurd (omega (arith, h))
-puts-below v (suc d) zero h zero = refl
-puts-below v (suc d) zero h (suc m) = omega (arith, uses-weaken-zero (onlyAt d v m), counts-suc-zero m)
-puts-below v (suc d) (suc n) h m = puts-under substitution substitution-weakens 1 0 (onlyAt d v) n n n
-    (puts-below v d n (omega (arith, h))) m
-
 pub uses-onlyAt-past : (b : Term) (d : ℕ) (v : Term) (n : ℕ)
     → uses (substitute b (onlyAt d v)) (d + n) ≡ uses b (suc (d + n)) + uses b d * uses v n
 uses-onlyAt-past b d v n =
     let e = uses-traverse substitution substitution-weakens 1 (uses v n) b (onlyAt d v) (d + n) (suc (d + n)) d
     (puts-past v d n (d + n) refl) in
     omega (arith, e)
-
-pub uses-onlyAt-below : (b : Term) (d : ℕ) (v : Term) (n : ℕ) → n < d → uses (substitute b (onlyAt d v)) n ≡ uses b n
-uses-onlyAt-below b d v n h =
-    let e = uses-traverse substitution substitution-weakens 1 0 b (onlyAt d v) n n n (puts-below v d n h) in omega (arith, e)
 
 pub uses-substitute : (b v : Term) (n : ℕ) → uses (b ⟦ v ⟧) n ≡ uses b (suc n) + uses b 0 * uses v n
 unfolding underBy

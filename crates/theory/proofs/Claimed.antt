@@ -24,7 +24,7 @@ use Rattle.reduction.specs.Redex.{Step as Stepped, step}
 use Rattle.reduction.specs.Reduction.{Counts, Settings, reached, reduce}
 use Rattle.reduction.specs.Sequence.{Steps, ended, stepped, Sequence}
 use Rattle.reduction.specs.NormalForm.{isNormal, Normal}
-use Rattle.reduction.proofs.Bounded.{Reduced, reduced, reduce-sequence}
+use Rattle.reduction.proofs.Exact.{Exact, normal, reduce-exact, reached-fits}
 use Rattle.syntax.specs.Lists.{_∈_}
 use Rattle.syntax.specs.Calls.{callsIn}
 use Rattle.semantics.specs.Claim.{Subformula, Claim}
@@ -126,9 +126,9 @@ record Came (capacity : ℕ) (t u : Term) : Type 0 where
   sequence : Sequence allPure t u
   fits : size u ≤ capacity
 
-came : {capacity budget : ℕ} {t : Term} {left : ℕ} {u : Term} {c : Counts} → Reduced allPure capacity budget t (reached left u c)
+came : {capacity budget : ℕ} {t : Term} {left : ℕ} {u : Term} {c : Counts} → Exact allPure capacity budget t (reached left u c)
     → Came capacity t u
-came (reduced q _ _ h) = record { sequence = q; fits = h }
+came {capacity = capacity} (normal q h l d) = record { sequence = q; fits = reached-fits allPure capacity (normal q h l d) }
 
 passed-at : (limit : ℕ) (tables : Tables) (words : List ℕ) {x : Checked} → Verdicts (Passed limit tables words) (accepted x)
     → Passed limit tables words x
@@ -142,7 +142,7 @@ pub claim : (tables : Tables) (words : List ℕ) (capacity : ℕ) (settings : Se
 claim tables words capacity settings x left u counts h e r =
     let p = passed-at normalizeLimit tables words
     (subst (Verdicts (Passed normalizeLimit tables words)) e (elaborated normalizeLimit tables words)) in
-    let g = came (subst (Reduced allPure capacity (settings .budget) (x .term)) r (reduce-sequence allPure capacity settings (x .term))) in
+    let g = came (subst (Exact allPure capacity (settings .budget) (x .term)) r (reduce-exact allPure capacity settings (x .term))) in
     claim-of-sequence tables words (x .type) (x .term) u (earlier tables (p .types))
     (fitting normalizeLimit tables words (p .lengths) (p .calls)) (p .words′) (p .term) (p .type) (omega (arith, h, g .fits))
     (g .sequence)

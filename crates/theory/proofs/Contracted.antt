@@ -9,7 +9,7 @@ use Rattle.syntax.specs.Encoding.{encode, size}
 use Rattle.typing.specs.Refusals.{Verdict, refused, accepted, Typed as Checked, elaborate, normalizeLimit}
 use Rattle.reduction.specs.Rules.{allPure}
 use Rattle.reduction.specs.Reduction.{Settings, Progress, stopped, reached, reduce}
-use Rattle.reduction.proofs.Bounded.{Reduced, refusal as no-reduction, reduce-sequence}
+use Rattle.reduction.proofs.Exact.{Exact, reduce-exact, refusal-number}
 use Rattle.semantics.specs.Claim.{Claim}
 use Rattle.outcomes.specs.Normalize.{Normalized, reducedTo, checkedTo, normalizeWithin, maxCapacity, Buffers, capacityOf, Outcome}
 use Rattle.outcomes.specs.Normalize.{normalizeOutcome}
@@ -33,10 +33,10 @@ module _ (settings : Settings) (tables : Tables) (words : List ℕ) (before : Bu
   Claims r = r .answer .refusal ≡ 0 → Claim tables words (r .answer .ty) (take (r .answer .length) (overwrite (r .words) (before .output)))
 
   reduced-claims : (x : Checked) → elaborate normalizeLimit tables words ≡ accepted x → (p : Progress)
-      → Reduced allPure (capacityOf before) (settings .budget) (x .term) p
+      → Exact allPure (capacityOf before) (settings .budget) (x .term) p
       → reduce allPure (capacityOf before) settings (x .term) ≡ p → Claims (reducedTo (x .type) p)
   unfolding reducedTo overwrite size
-  reduced-claims x e (stopped n c) (no-reduction m) r z = absurd (omega (arith, z))
+  reduced-claims x e (stopped n c) f r z = absurd (omega (arith, z, refusal-number allPure (capacityOf before) f .0))
   reduced-claims x e (reached left u c) f r z =
       subst (λ (ws : List ℕ). Claim tables words (x .type) ws) (sym (take-front (encode u) (drop (length (encode u)) (before .output))))
       (claim tables words (capacityOf before) settings x left u c (capacity-bounded before) e r)
@@ -46,7 +46,7 @@ module _ (settings : Settings) (tables : Tables) (words : List ℕ) (before : Bu
   unfolding checkedTo
   checked-claims (refused n) (refusal m) e z = absurd (omega (arith, z))
   checked-claims (accepted x) p e z = reduced-claims x e (reduce allPure (capacityOf before) settings (x .term))
-      (reduce-sequence allPure (capacityOf before) settings (x .term)) refl z
+      (reduce-exact allPure (capacityOf before) settings (x .term)) refl z
 
   normalized-claims : Claims (normalizeWithin (capacityOf before) settings tables words)
   unfolding normalizeWithin

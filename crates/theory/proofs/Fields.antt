@@ -3,7 +3,7 @@ use mathlib.Core.Path.{_≡_, refl, sym, _∙_, ap, subst}
 use mathlib.Core.Bool.{Bool, _&&_}
 use mathlib.Core.List.{List, [], _∷_, _++_}
 use mathlib.Core.Option.{Option, some, none, Option·some-injective, Option·none-ne-some}
-use lib.Dec.{T, leb, ltb, eqb, leb→le}
+use lib.Dec.{T, leb, ltb, eqb, leb→le, ltb→lt}
 use lib.ListN.{length, length-append, length-take, getElem?, getD, take, drop}
 use Prim.Native.Nat.{ℕ, zero, suc, _+_, _^_, _≤_, _<_, min}
 use native.Mathlib.Omega.{arith}
@@ -16,7 +16,7 @@ use Rattle.syntax.specs.Shaped.{count, Shaped, ShapedAll}
 use Rattle.typing.specs.Infer.{Context}
 use Rattle.typing.specs.TableChecks.{every, wellFormedCall, wellFormedCalls, lengthsFit}
 use Rattle.syntax.proofs.Options.{and-left, and-right}
-use Rattle.typing.proofs.Typing.{Of, Signed, At, here, there, Typed, TypedAll, t-var, t-call, t-lam, t-app, t-bind, t-pair, t-fst, t-snd}
+use Rattle.typing.proofs.Typing.{Of, Signed, at-below, Typed, TypedAll, t-var, t-call, t-lam, t-app, t-bind, t-pair, t-fst, t-snd}
 use Rattle.typing.proofs.Typing.{t-inl, t-inr, t-case, t-done, t-arg}
 
 pub below : {X : Type 0} (xs : List X) (n : ℕ) {x : X} → getElem? xs n ≡ some x → n < length xs
@@ -24,11 +24,7 @@ below [] n {x} e = absurd (Option·none-ne-some x e)
 below (y ∷ ys) zero e = omega arith
 below (y ∷ ys) (suc n) e = let h = below ys n e in omega (arith, h)
 
-pub at-below : {Γ : Context} {n A : ℕ} → At Γ n A → n < length Γ
-at-below here = omega arith
-at-below (there x) = let h = at-below x in omega (arith, h)
-
-bind-some : {X Y : Type 0} (o : Option X) (f : X → Option Y) {y : Y} → (o >>= f) ≡ some y → (x : X) × (o ≡ some x) × (f x ≡ some y)
+pub bind-some : {X Y : Type 0} (o : Option X) (f : X → Option Y) {y : Y} → (o >>= f) ≡ some y → (x : X) × (o ≡ some x) × (f x ≡ some y)
 bind-some none f {y} e = absurd (Option·none-ne-some y e)
 bind-some (some x) f e = (x, refl, e)
 
@@ -38,6 +34,7 @@ pub record Fitting (tables : Tables) : Type 0 where
   pub calls : length (tables .calls) ≤ 1024
   pub inputs : length (tables .inputs) ≤ 256
   pub counts : (k w : ℕ) → getElem? (tables .calls) k ≡ some w → countOf w ≤ 3
+  pub results : (k w : ℕ) → getElem? (tables .calls) k ≡ some w → resultOf w < length (tables .types)
 
 module _ (tables : Tables) (fit : Fitting tables) (ok : ℕ → Type 0) where
   type-below : {k F A B : ℕ} → Of tables k F A B → F < 2 ^ 30
@@ -101,18 +98,23 @@ module _ (tables : Tables) (fit : Fitting tables) (ok : ℕ → Type 0) where
     shapedAll (t-arg {t = t} {ts = ts} x xs) h = let i = length-append (encode t) (encodeAll ts)
         in (shaped x (omega (arith, h, i)), shapedAll xs (omega (arith, h, i)))
 
+-- an entry of a list passes a test that all of them pass
+entry-passes : (test : ℕ → Bool) (ws : List ℕ) → T (every test ws) → (k w : ℕ) → getElem? ws k ≡ some w → T (test w)
+entry-passes test [] h k w e = absurd (Option·none-ne-some w e)
+entry-passes test (x ∷ ws) h zero w e = subst (λ (y : ℕ). T (test y)) (Option·some-injective x w e) (and-left (test x) (every test ws) h)
+entry-passes test (x ∷ ws) h (suc k) w e = entry-passes test ws (and-right (test x) (every test ws) h) k w e
+
+-- what check 4 asks of a call's argument count and result
+call-passes : (types w : ℕ) → T (wellFormedCall types w) → (countOf w ≤ 3) × (resultOf w < types)
+call-passes types w h =
+    let a = leb (countOf w) 3 in
+    let b = ltb (resultOf w) types in
+    let c = every (λ A. ltb A types) (take (countOf w) (argumentFields w)) in
+    let d = every (λ A. eqb A 0) (drop (countOf w) (argumentFields w)) in
+    let x = and-left (a && b) c (and-left (a && b && c) d h) in
+    (leb→le (countOf w) 3 (and-left a b x), ltb→lt (resultOf w) types (and-right a b x))
+
 -- checks 1 and 4 say that the tables fit
-first-of-four : (a b c d : Bool) → T (a && b && c && d) → T a
-first-of-four a b c d h = and-left a b (and-left (a && b) c (and-left (a && b && c) d h))
-
-counts-of : (n : ℕ) (ws : List ℕ) → T (every (wellFormedCall n) ws) → (k w : ℕ) → getElem? ws k ≡ some w → countOf w ≤ 3
-counts-of n [] h k w e = absurd (Option·none-ne-some w e)
-counts-of n (x ∷ ws) h zero w e = subst (λ (y : ℕ). countOf y ≤ 3) (Option·some-injective x w e)
-    (leb→le (countOf x) 3 (first-of-four (leb (countOf x) 3) (ltb (resultOf x) n)
-    (every (λ A. ltb A n) (take (countOf x) (argumentFields x))) (every (λ A. eqb A 0) (drop (countOf x) (argumentFields x)))
-    (and-left (wellFormedCall n x) (every (wellFormedCall n) ws) h)))
-counts-of n (x ∷ ws) h (suc k) w e = counts-of n ws (and-right (wellFormedCall n x) (every (wellFormedCall n) ws) h) k w e
-
 pub fitting : (limit : ℕ) (tables : Tables) (words : List ℕ) → T (lengthsFit limit tables words) → T (wellFormedCalls tables)
     → Fitting tables
 unfolding lengthsFit wellFormedCalls
@@ -124,9 +126,12 @@ fitting limit tables words h k =
     let x = and-left (a && b && c && d) (leb 1 (length words)) h in
     let y = and-left (a && b && c) d x in
     let z = and-left (a && b) c y in
+    let passes : (j w : ℕ) → getElem? (tables .calls) j ≡ some w → (countOf w ≤ 3) × (resultOf w < length (tables .types)) =
+    λ j w e. call-passes (length (tables .types)) w (entry-passes (wellFormedCall (length (tables .types))) (tables .calls) k j w e) in
     record {
       types = leb→le (length (tables .types)) 1024 (and-left a b z);
       calls = leb→le (length (tables .calls)) 1024 (and-right a b z);
       inputs = leb→le (length (tables .inputs)) 256 (and-right (a && b) c y);
-      counts = counts-of (length (tables .types)) (tables .calls) k;
+      counts = λ j w e. passes j w e .0;
+      results = λ j w e. passes j w e .1;
     }

@@ -12,6 +12,7 @@ pub mod Fundamental
 pub mod Grammar
 pub mod GrammarNormal
 pub mod GrammarTest
+pub mod KnownTypes
 pub mod NextInsertion
 pub mod NextReduction
 pub mod Operands
@@ -23,7 +24,6 @@ pub mod Relation
 pub mod RuledOut
 pub mod SameRuns
 pub mod SoundCall
-pub mod ScanReduction
 pub mod SoundInsert
 pub mod SoundReduce
 pub mod SoundStep

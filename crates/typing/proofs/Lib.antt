@@ -7,3 +7,5 @@ pub mod Order
 pub mod Accepted
 pub mod Trees
 pub mod TypeNumbers
+pub mod ScopedNode
+pub mod TypedScoped

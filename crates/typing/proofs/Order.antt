@@ -1,13 +1,16 @@
 -- The refusals come in paper 01's order: the number of a refusal is that of the first place, in the list of places, that fails.
-use mathlib.Core.Path.{_≡_, refl}
+use mathlib.Core.Path.{_≡_, refl, subst⁻¹}
 use mathlib.Core.Bool.{Bool, true, false}
 use mathlib.Core.List.{List, [], _∷_}
 use mathlib.Core.Option.{Option, some, none}
-use Prim.Native.Nat.{ℕ, suc}
+use Prim.Native.Nat.{ℕ, suc, _+_, _≤_, _<_}
+use native.Mathlib.Omega.{arith}
+use lib.ListN.{length}
 use Rattle.syntax.specs.Maybe.{isSome}
 use Rattle.syntax.specs.Tables.{Tables}
 use Rattle.syntax.specs.Term.{Term}
 use Rattle.syntax.specs.Decoding.{decode}
+use Rattle.syntax.proofs.Options.{Every, every-none, every-some, every-to}
 use Rattle.typing.specs.Infer.{infer}
 use Rattle.typing.specs.TableChecks.{lengthsFit, wellFormedTypes, distinct, wellFormedCalls, wellFormedInputs}
 use Rattle.typing.specs.TermChecks.{wellFormedWords, scoped}
@@ -70,3 +73,13 @@ refusal-order limit tables words =
     (λ o. holds (scoped tables) o ∷ holds (λ t. isSome (infer tables t (tables .inputs))) o ∷ [])
     (λ t. required 8 (scoped tables t) _
     (provided 9 (infer tables t (tables .inputs)) _ (λ o. []) (λ A. record { told = refl })))))))))
+
+-- there are nine places, so the number is at most 9
+failure-below : (n : ℕ) (bs : List Bool) → Every (λ m. m < n + length bs) (firstFailure n bs)
+failure-below n [] = every-none
+failure-below n (true ∷ bs) = every-to (λ m h. omega (arith, h)) (failure-below (suc n) bs)
+failure-below n (false ∷ bs) = every-some {x = n} (omega arith)
+
+pub refusal-below : (limit : ℕ) (tables : Tables) (words : List ℕ) → Every (λ n. n ≤ 9) (refusalOf (elaborate limit tables words))
+refusal-below limit tables words = subst⁻¹ (Every (λ n. n ≤ 9)) (refusal-order limit tables words .told)
+    (every-to (λ n h. omega (arith, h)) (failure-below 1 (places limit tables words)))

@@ -4,8 +4,9 @@ use mathlib.Core.List.{List, [], _∷_}
 use mathlib.Core.Option.{Option, some, none, Option·some-injective, Option·none-ne-some}
 use mathlib.Core.Bool.{Bool, true, false}
 use lib.Dec.{T, eqb, eqb→eq}
-use lib.ListN.{getElem?}
-use Prim.Native.Nat.{ℕ, zero, suc}
+use lib.ListN.{length, getElem?}
+use Prim.Native.Nat.{ℕ, zero, suc, _<_}
+use native.Mathlib.Omega.{arith}
 use Rattle.syntax.specs.Maybe.{_>>=_, given}
 use Rattle.syntax.specs.Words.{kindOf, leftOf, rightOf}
 use Rattle.syntax.specs.Tables.{Tables, arrow, product, sum, components, Signature, signature}
@@ -16,6 +17,10 @@ use Rattle.typing.specs.Infer.{Context}
 pub data At : Context → ℕ → ℕ → Type 0 where
   here : {A : ℕ} {Γ : Context} → At (A ∷ Γ) zero A
   there : {A B : ℕ} {Γ : Context} {n : ℕ} → At Γ n A → At (B ∷ Γ) (suc n) A
+
+pub at-below : {Γ : Context} {n A : ℕ} → At Γ n A → n < length Γ
+at-below here = omega arith
+at-below (there x) = let h = at-below x in omega (arith, h)
 
 -- F is of the kind k and has the parts A and B
 pub record Of (tables : Tables) (k F A B : ℕ) : Type 0 where

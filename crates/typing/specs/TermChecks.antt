@@ -5,7 +5,7 @@ use mathlib.Core.List.{List, [], _∷_}
 use mathlib.Core.Option.{Option, some, none}
 use lib.Dec.{leb, ltb, eqb}
 use lib.ListN.{length}
-use Rattle.syntax.specs.Kinds.{usesType}
+use Rattle.syntax.specs.Kinds.{usesNumber, usesType}
 use Rattle.syntax.specs.Words.{kindOf, numberOf, typeOf}
 use Rattle.syntax.specs.Tables.{Tables}
 use Rattle.syntax.specs.Term.{Term, asVar}
@@ -17,10 +17,10 @@ abbrev pub fieldFits : Bool → ℕ → ℕ → Bool
 fieldFits true bound x = ltb x bound
 fieldFits false bound x = eqb x 0
 
--- 6: a kind up to 10; a known call and, but for a variable, no other number; a known type where one is used
+-- 6: a kind up to 10; a number or type that the kind does not use is zero, and one that it does is known; a variable's number is left to 8
 abbrev pub wellFormedFields : Tables → ℕ → ℕ → ℕ → Bool
 wellFormedFields tables k n A =
-    leb k 10 && (eqb k 0 || fieldFits (eqb k 1) (length (tables .calls)) n) && fieldFits (usesType k) (length (tables .types)) A
+    leb k 10 && (eqb k 0 || fieldFits (usesNumber k) (length (tables .calls)) n) && fieldFits (usesType k) (length (tables .types)) A
 
 abbrev pub wellFormedWord : Tables → ℕ → Bool
 wellFormedWord tables w = wellFormedFields tables (kindOf w) (numberOf w) (typeOf w)

@@ -3,12 +3,11 @@ use mathlib.Core.Path.{_≡_, sym, _∙_, ap}
 use mathlib.Core.Bool.{Bool, true, false}
 use mathlib.Core.List.{[]}
 use Prim.Native.Nat.{ℕ, _≤_, _<_}
-use lib.Dec.{eqb}
 use lib.ListN.{length}
 use borrow.Author.Needs.{needs}
 use borrow.Author.Tests.{le-leb, lt-leb, eq-eqb, ne-eqb}
 use Rattle.syntax.specs.Words.{kindOf, numberOf, typeOf}
-use Rattle.syntax.specs.Kinds.{usesType}
+use Rattle.syntax.specs.Kinds.{usesNumber, usesType}
 use Rattle.syntax.specs.Tables.{Tables, over}
 use Rattle.typing.specs.TermChecks.{fieldFits, wellFormedFields, wellFormedWord}
 use Rattle.checker.proofs.words.word_fits.Statement.{statement}
@@ -35,10 +34,10 @@ module _ (tables : Tables) (w k : ℕ) (e : k ≡ kindOf w) where
   variable : {f : Bool} → Typed f → k ≡ 0 → f ≡ wellFormedWord tables w
   variable t z = of-kind _ (t .told ∙ simp (le-leb k 10 (t .known), eq-eqb k 0 z))
 
-  module _ {f : Bool} (t : Typed f) (z : k ≡ 0 → ⊥) (g : Bool) (n : ℕ) (ne : n ≡ numberOf w)
-      (ge : g ≡ fieldFits (eqb k 1) (length (tables .calls)) n) where
-    numbered : g ≡ fieldFits (eqb k 1) (length (tables .calls)) (numberOf w)
-    numbered = ge ∙ ap (fieldFits (eqb k 1) (length (tables .calls))) ne
+  module _ {f : Bool} (t : Typed f) (z : k ≡ 0 → ⊥) (u g : Bool) (n : ℕ) (ue : u ≡ usesNumber k) (ne : n ≡ numberOf w)
+      (ge : g ≡ fieldFits u (length (tables .calls)) n) where
+    numbered : g ≡ fieldFits (usesNumber k) (length (tables .calls)) (numberOf w)
+    numbered = ge ∙ ap (λ (x : Bool). fieldFits x (length (tables .calls)) n) ue ∙ ap (fieldFits (usesNumber k) (length (tables .calls))) ne
 
     fits : g ≡ true → f ≡ wellFormedWord tables w
     fits p = of-kind _ (t .told ∙ simp (le-leb k 10 (t .known), ne-eqb k 0 z, sym numbered ∙ p))
@@ -79,10 +78,12 @@ word-fits-spec =
     (λ c.
     let n = c .before .before in
     let d = n .before .before in
-    fits (tables d) (word d) _ (kinded d) (typing d) (n .before .if2 .left) _ _ (n .number .ensures) (c .before .field-fits2 .ensures)
+    fits (tables d) (word d) _ (kinded d) (typing d) (n .before .if2 .left) _ _ _
+    (d .before .before .shape-of .ensures .number) (n .number .ensures) (c .before .field-fits2 .ensures)
     (c .if3 .taken))
     (λ c.
     let n = c .before .before in
     let d = n .before .before in
-    fails (tables d) (word d) _ (kinded d) (typing d) (n .before .if2 .left) _ _ (n .number .ensures) (c .before .field-fits2 .ensures)
+    fails (tables d) (word d) _ (kinded d) (typing d) (n .before .if2 .left) _ _ _
+    (d .before .before .shape-of .ensures .number) (n .number .ensures) (c .before .field-fits2 .ensures)
     (c .if3 .left)))

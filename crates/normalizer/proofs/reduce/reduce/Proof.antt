@@ -1,22 +1,17 @@
 -- The inner loop carries what the reduction stands for from turn to turn, the outer one from phase to phase.
 use borrow.Author.Needs.{needs}
 use native.Mathlib.Omega.{arith}
-use Prim.Native.Nat.{ℕ, _≤_, _<_, _+_, _-_}
-use mathlib.Core.Path.{_≡_, refl, sym, _∙_, ap, subst}
+use Prim.Native.Nat.{ℕ}
+use mathlib.Core.Path.{_≡_, refl, ap, subst}
 use mathlib.Core.List.{List}
-use lib.ListN.{length, getD}
-use Rattle.syntax.specs.Tables.{over}
-use Rattle.reduction.specs.Reduction.{Counts, Progress}
-use Rattle.reduction.specs.declared.Rule.{Rule}
+use lib.ListN.{length}
 use Rattle.reduction.specs.declared.Phase.{Phase}
 use Rattle.reduction.specs.declared.Phase.the-variants.{Insertion, Reduction, Dropping}
 use Rattle.normalizer.specs.Turns.{Turns}
 use Rattle.normalizer.specs.declared.turn.Turn.{Turn}
-use Rattle.normalizer.specs.declared.turn.Turn.the-variants.{Stop, Refused, Step as Stepped}
-use Rattle.normalizer.proofs.Standing.{standing-inserted, standing-reduced}
-use Rattle.normalizer.proofs.Looping.{Inner, Outer, inner-begins, inner-ready, inner-positive, inner-below, inner-next, outer-begins}
-use Rattle.normalizer.proofs.Looping.{outer-refused, phasesAfter}
-use Rattle.normalizer.proofs.Looping.{leaves-insertion, leaves-reduction, leave, end}
+use Rattle.normalizer.proofs.StepLoop.{Inner, inner-ready, inner-positive, inner-below, inner-next}
+use Rattle.normalizer.proofs.PhaseLoop.{Outer, inner-begins, outer-begins, outer-refused, leaves-insertion, leaves-reduction, leave, end}
+use Rattle.normalizer.proofs.PhaseLoop.{phasesAfter}
 use Rattle.normalizer.proofs.reduce.reduce.Statement.{statement}
 use Rattle.normalizer.proofs.reduce.reduce.Tie as tie
 use Rattle.normalizer.proofs.reduce.reduce.Reads as reads

@@ -1,143 +1,45 @@
--- The loops' invariants: whatever the reduction stood for where a loop began, it stands for now.
-use Prim.Native.Nat.{ℕ, zero, suc, _+_, _-_, _≤_, _<_}
+-- The loop over the phases: a phase that is over is followed by the next at the same term, so it comes to what the whole reduction comes to.
+use Prim.Native.Nat.{ℕ, suc, _≤_}
 use native.Mathlib.Omega.{arith}
 use mathlib.Core.Path.{_≡_, refl, sym, _∙_, ap, subst}
-use mathlib.Core.List.{List, [], _∷_}
+use mathlib.Core.List.{List}
 use mathlib.Core.Option.{some, Option·some-injective}
-use lib.ListN.{length, getD, set, replicate}
-use Rattle.syntax.specs.Tables.{Tables, over}
+use lib.ListN.{length}
+use Rattle.syntax.specs.Tables.{over}
 use Rattle.syntax.specs.Term.{Term}
-use Rattle.syntax.specs.Encoding.{encode, size}
+use Rattle.syntax.specs.Encoding.{size}
 use Rattle.syntax.specs.Decoding.{decode}
 use Rattle.syntax.proofs.Decoding.{decode-words}
 use Rattle.typing.specs.Infer.{infer}
 use Rattle.reduction.specs.Rules.{allPure}
-use Rattle.reduction.specs.Reduction.{Counts, index, raise, zeroCounts, Progress, stopped, reached, reduce}
-use Rattle.reduction.specs.declared.Rule.{Rule}
+use Rattle.reduction.specs.Reduction.{Counts, zeroCounts, Progress, stopped, reduce}
 use Rattle.reduction.specs.declared.Phase.{Phase}
 use Rattle.reduction.specs.declared.Phase.the-variants.{Insertion, Reduction, Dropping}
 use Rattle.reduction.proofs.Clear.{clear-zero}
-use Rattle.theory.proofs.Fields.{Fitting, fitting}
+use Rattle.reduction.proofs.Remaining.{reduce-begins}
+use Rattle.reduction.proofs.CountsBounded.{zeros}
+use Rattle.theory.proofs.Fields.{fitting}
 use Rattle.normalizer.specs.Currents.{Front, Current}
-use Rattle.normalizer.specs.Turns.{Ready, Turned, spent, full, Turns, nextFrom}
+use Rattle.normalizer.specs.Turns.{Turned, spent, full, Turns}
 use Rattle.normalizer.specs.declared.turn.Turn.{Turn}
-use Rattle.normalizer.specs.declared.turn.Turn.the-variants.{Stop, Refused, Step as Stepped}
+use Rattle.normalizer.specs.declared.turn.Turn.the-variants.{Stop, Refused}
 use Rattle.normalizer.specs.Reductions.{Reducible, Comes, refusal, ended, Reduces}
 use Rattle.normalizer.specs.declared.reduce.Reduced.{Reduced}
-use Rattle.reduction.proofs.Remaining.{reduce-begins}
-use Rattle.normalizer.proofs.Standing.{Standing, Ended, standing-ready, standing-stops, standing-refused, standing-steps}
-use Rattle.normalizer.proofs.Standing.{standing-inserted, standing-reduced, standing-ended}
+use Rattle.normalizer.proofs.Standing.{Standing, standing-refused, standing-inserted, standing-reduced, standing-ended}
+use Rattle.normalizer.proofs.StepLoop.{Stands, Carries, Bounded, Inner}
 
 -- words are those of one term
-pub current-unique : {calls words : List ℕ} {len : ℕ} {t u : Term} → Current calls words len t → Current calls words len u → t ≡ u
+current-unique : {calls words : List ℕ} {len : ℕ} {t u : Term} → Current calls words len t → Current calls words len u → t ≡ u
 current-unique {calls} {t = t} {u = u} c d =
     Option·some-injective t u (sym (decode-words calls t (c .shaped))
     ∙ ap (decode calls) (sym (c .front .words-are) ∙ d .front .words-are) ∙ decode-words calls u (d .shaped))
 
--- one count raised
-one-more : (cs : Counts) (k i : ℕ) → getD (set cs k (getD cs k 0 + 1)) i 0 ≤ getD cs i 0 + 1
-one-more [] k i = omega arith
-one-more (c ∷ cs) zero zero = omega arith
-one-more (c ∷ cs) zero (suc i) = omega arith
-one-more (c ∷ cs) (suc k) zero = omega arith
-one-more (c ∷ cs) (suc k) (suc i) = one-more cs k i
-
 module _ (calls : List ℕ) (capacity : ℕ) where
-  -- the reduction stands here, over some tables
-  pub record Stands (phase : Phase) (words : List ℕ) (len from left : ℕ) (counts : Counts) : Type 0 where
-    pub types : List ℕ
-    pub inputs : List ℕ
-    pub whole : Progress
-    pub fit : Fitting (over types calls inputs)
-    pub standing : Standing (over types calls inputs) capacity whole phase words len from left counts
-
-  -- whatever it stood for there, it stands for here
-  abbrev pub Carries : (phase₀ phase : Phase) (words₀ words : List ℕ) (len₀ len from₀ from left₀ left : ℕ) (counts₀ counts : Counts)
-      → Type 0
-  Carries phase₀ phase words₀ words len₀ len from₀ from left₀ left counts₀ counts =
-      (types inputs : List ℕ) (whole : Progress) → Fitting (over types calls inputs)
-      → Standing (over types calls inputs) capacity whole phase₀ words₀ len₀ from₀ left₀ counts₀
-      → Standing (over types calls inputs) capacity whole phase words len from left counts
-
-  -- the counts and what is left of the budget stay within 32 bits
-  abbrev pub Bounded : (left : ℕ) (counts : Counts) → Type 0
-  Bounded left counts = (i : ℕ) → getD counts i 0 + left ≤ 4294967295
-
-  -- the inner loop's invariant
-  pub record Inner (phase : Phase) (words₀ words : List ℕ) (len₀ len from₀ from left₀ left : ℕ) (counts₀ counts : Counts)
-      (second₀ second : List ℕ) (refused : ℕ) : Type 0 where
-    pub begun : Stands phase words₀ len₀ from₀ left₀ counts₀
-    pub carries : Carries phase phase words₀ words len₀ len from₀ from left₀ left counts₀ counts
-    pub bounded : Bounded left counts
-    pub limit : capacity ≤ 8192
-    pub room : capacity ≤ length words₀
-    pub scratch : capacity ≤ length second₀
-    pub same : length words ≡ length words₀
-    pub same-second : length second ≡ length second₀
-    pub none-yet : refused ≡ 0
-
-  module _ {phase : Phase} {words₀ words : List ℕ} {len₀ len from₀ from left₀ left : ℕ} {counts₀ counts : Counts}
-      {second₀ second : List ℕ} {refused : ℕ}
-      (v : Inner phase words₀ words len₀ len from₀ from left₀ left counts₀ counts second₀ second refused) where
-    now : Standing (over (v .begun .types) calls (v .begun .inputs)) capacity (v .begun .whole) phase words len from left counts
-    now = v .carries _ _ _ (v .begun .fit) (v .begun .standing)
-
-    pub inner-ready : Ready phase calls words len from capacity second
-    inner-ready = standing-ready (over (v .begun .types) calls (v .begun .inputs)) capacity (v .begun .whole) now second (v .limit)
-        (omega (arith, v .room, v .same)) (omega (arith, v .scratch, v .same-second))
-
-    -- a step is taken only while there is budget, so no count overflows
-    pub inner-positive : {after : List ℕ} {r : Turn} {rule : Rule} {place n : ℕ} → Turns phase calls words len from left capacity after r
-        → r ≡ Stepped rule place n → 0 < left
-    inner-positive {after} {r} {rule} {place} {n} x e =
-        standing-steps _ capacity _ now rule place n (v .begun .fit) (v .limit)
-        (subst (λ (t : Turn). Turns phase calls words len from left capacity after t) e x) .0
-
-    pub inner-below : 0 < left → (i : ℕ) → getD counts i 0 < 4294967295
-    inner-below h i = omega (arith, h, v .bounded i)
-
-    module _ (after second′ : List ℕ) (a : length after ≡ length words) (b : length second′ ≡ length second) where
-      -- a turn that takes a step
-      pub record InnerStep (rule : Rule) (place n : ℕ) : Type 0 where
-        pub next : Inner phase words₀ after len₀ n from₀ (nextFrom phase place) left₀ (left - 1) counts₀
-            (raise rule counts) second₀ second′ refused
-
-      pub inner-steps : {rule : Rule} {place n : ℕ} → Turns phase calls words len from left capacity after (Stepped rule place n)
-          → InnerStep rule place n
-      inner-steps {rule} {place} {n} x =
-          let h : 0 < left = standing-steps _ capacity _ now rule place n (v .begun .fit) (v .limit) x .0 in
-          record {
-            next = record {
-              begun = v .begun;
-              carries = λ types inputs whole fit s. standing-steps _ capacity _ (v .carries types inputs whole fit s) rule place n fit
-                  (v .limit) x .1;
-              bounded = λ i. omega (arith, h, v .bounded i, one-more counts (index rule) i);
-              limit = v .limit;
-              room = v .room;
-              scratch = v .scratch;
-              same = a ∙ v .same;
-              same-second = b ∙ v .same-second;
-              none-yet = v .none-yet;
-            };
-          }
-
-      -- the same, as the code answers it
-      pub inner-next : {r : Turn} {rule : Rule} {place n : ℕ} (counts′ : Counts) (from′ : ℕ)
-          → Turns phase calls words len from left capacity after r
-          → r ≡ Stepped rule place n → counts′ ≡ raise rule counts → from′ ≡ nextFrom phase place
-          → Inner phase words₀ after len₀ n from₀ from′ left₀ (left - 1) counts₀ counts′ second₀ second′ refused
-      inner-next {rule = rule} {place = place} {n = n} counts′ from′ x e ce fe =
-          let y = inner-steps {rule = rule} {place = place} {n = n}
-          (subst (λ (t : Turn). Turns phase calls words len from left capacity after t) e x) .next in
-          subst (λ (cs : Counts). Inner phase words₀ after len₀ n from₀ from′ left₀ (left - 1) counts₀ cs second₀ second′ refused) (sym ce)
-          (subst (λ (i : ℕ). Inner phase words₀ after len₀ n from₀ i left₀ (left - 1) counts₀ (raise rule counts) second₀ second′ refused)
-          (sym fe) y)
-
   -- the outer loop's invariant: where it begins, nothing is done
   pub record Outer (phase : Phase) (words₀ words : List ℕ) (len₀ len budget left : ℕ) (counts : Counts) (second₀ second : List ℕ)
       (refused : ℕ) : Type 0 where
-    pub begun : Stands Insertion words₀ len₀ 0 budget zeroCounts
-    pub carries : Carries Insertion phase words₀ words len₀ len 0 0 budget left zeroCounts counts
+    pub begun : Stands calls capacity Insertion words₀ len₀ 0 budget zeroCounts
+    pub carries : Carries calls capacity Insertion phase words₀ words len₀ len 0 0 budget left zeroCounts counts
     pub bounded : Bounded left counts
     pub limit : capacity ≤ 8192
     pub room : capacity ≤ length words₀
@@ -149,7 +51,7 @@ module _ (calls : List ℕ) (capacity : ℕ) where
   pub inner-begins : {phase : Phase} {words₀ words : List ℕ} {len₀ len budget left : ℕ} {counts : Counts} {second₀ second : List ℕ}
       {refused : ℕ}
       → Outer phase words₀ words len₀ len budget left counts second₀ second refused
-      → Inner phase words words len len 0 0 left left counts counts second second refused
+      → Inner calls capacity phase words words len len 0 0 left left counts counts second second refused
   inner-begins o = record {
     begun = record {
       types = o .begun .types;
@@ -171,7 +73,7 @@ module _ (calls : List ℕ) (capacity : ℕ) where
   module _ {phase : Phase} {words₀ words₁ words : List ℕ} {len₀ len₁ len budget from left₁ left : ℕ} {counts₁ counts : Counts}
       {second₀ second₁ second : List ℕ} {refused₁ refused : ℕ}
       (o : Outer phase words₀ words₁ len₀ len₁ budget left₁ counts₁ second₀ second₁ refused₁)
-      (v : Inner phase words₁ words len₁ len 0 from left₁ left counts₁ counts second₁ second refused) where
+      (v : Inner calls capacity phase words₁ words len₁ len 0 from left₁ left counts₁ counts second₁ second refused) where
     -- the phase is over and another begins
     pub outer-next : (after second′ : List ℕ) → length after ≡ length words → length second′ ≡ length second → (phase′ : Phase)
         → ((types inputs : List ℕ) (whole : Progress) → Standing (over types calls inputs) capacity whole phase words len from left counts
@@ -227,7 +129,7 @@ module _ (calls : List ℕ) (capacity : ℕ) where
   pub outer-ended : {words₀ words₁ words after : List ℕ} {len₀ len₁ len budget from left₁ left : ℕ} {counts₁ counts : Counts}
       {second₀ second₁ second : List ℕ} {refused₁ refused : ℕ}
       (o : Outer Dropping words₀ words₁ len₀ len₁ budget left₁ counts₁ second₀ second₁ refused₁)
-      (v : Inner Dropping words₁ words len₁ len 0 from left₁ left counts₁ counts second₁ second refused)
+      (v : Inner calls capacity Dropping words₁ words len₁ len 0 from left₁ left counts₁ counts second₁ second refused)
       → (r : Reduced) → Turns Dropping calls words len from left capacity after Stop → r .refusal ≡ refused → r .counts ≡ counts
       → r .length ≡ len
       → Reduces calls words₀ len₀ budget capacity after r
@@ -245,7 +147,7 @@ module _ (calls : List ℕ) (capacity : ℕ) where
     Leaves phase phase′ =
         length after ≡ length words → length second′ ≡ length second
         → Outer phase words₀ words₁ len₀ len₁ budget left₁ counts₁ second₀ second₁ refused₁
-        → Inner phase words₁ words len₁ len 0 from left₁ left counts₁ counts second₁ second refused
+        → Inner calls capacity phase words₁ words len₁ len 0 from left₁ left counts₁ counts second₁ second refused
         → Turns phase calls words len from left capacity after Stop
         → Outer phase′ words₀ after len₀ len budget left counts second₀ second′ refused
 
@@ -259,7 +161,7 @@ module _ (calls : List ℕ) (capacity : ℕ) where
     abbrev Ends : Phase → Type 0
     Ends phase =
         Outer phase words₀ words₁ len₀ len₁ budget left₁ counts₁ second₀ second₁ refused₁
-        → Inner phase words₁ words len₁ len 0 from left₁ left counts₁ counts second₁ second refused
+        → Inner calls capacity phase words₁ words len₁ len 0 from left₁ left counts₁ counts second₁ second refused
         → (r : Reduced) → Turns phase calls words len from left capacity after Stop → r .refusal ≡ refused → r .counts ≡ counts
         → r .length ≡ len
         → Reduces calls words₀ len₀ budget capacity after r
@@ -270,7 +172,7 @@ module _ (calls : List ℕ) (capacity : ℕ) where
     -- as the code tells the phase and the turn
     module _ {phase : Phase} {t : Turn} (x : Turns phase calls words len from left capacity after t) (te : t ≡ Stop)
         (o : Outer phase words₀ words₁ len₀ len₁ budget left₁ counts₁ second₀ second₁ refused₁)
-        (v : Inner phase words₁ words len₁ len 0 from left₁ left counts₁ counts second₁ second refused) where
+        (v : Inner calls capacity phase words₁ words len₁ len 0 from left₁ left counts₁ counts second₁ second refused) where
       stopped-turn : Turns phase calls words len from left capacity after Stop
       stopped-turn = subst (λ (y : Turn). Turns phase calls words len from left capacity after y) te x
 
@@ -310,11 +212,6 @@ module _ (calls : List ℕ) (capacity : ℕ) where
     same-second = refl;
     none-yet = refl;
   }
-    where
-      zeros : (n i : ℕ) → _≡_ {A = ℕ} (getD (replicate n 0) i 0) 0
-      zeros zero i = refl
-      zeros (suc n) zero = refl
-      zeros (suc n) (suc i) = zeros n i
 
 -- how many phases come after a phase
 abbrev pub phasesAfter : Phase → ℕ
