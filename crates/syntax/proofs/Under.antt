@@ -10,6 +10,11 @@ use Rattle.syntax.specs.Under.{underBy, raiseAt, onlyAt}
 use Rattle.syntax.proofs.Algebra.{rename-id, rename-rename}
 
 module _ {X : Type 0} (kit : Kit X) where
+  -- one binder more
+  pub under-underBy : (n : ℕ) (f : ℕ → X) → under kit (underBy kit n f) ≡ underBy kit (suc n) f
+  unfolding underBy
+  under-underBy n f = refl
+
   pub underBy-underBy : (m n : ℕ) (f : ℕ → X) → underBy kit m (underBy kit n f) ≡ underBy kit (m + n) f
   unfolding underBy
   underBy-underBy zero n f = ap (λ (k : ℕ). underBy kit k f) (sym (zero-add n))
