@@ -29,7 +29,7 @@ fn names_and_counts() {
 before: 5 words of type b0
   (λx0: b0. c1(x0)) c0()
 steps: 2
-  let insertion 1
+  let 1
   apply 1
 after: 4 words
   let x0 = c0() in

@@ -7,22 +7,9 @@ use crate::bundle::read_bundle;
 use crate::checks::{examine, Checked, Refusal, LONGEST_TO_EXAMINE, LONGEST_TO_NORMALIZE};
 use crate::generate::limits::Limits;
 use crate::reduction::{walk, Counts};
+use crate::rules::RULE_NAMES;
 use crate::tables::Tables;
 use crate::term::Term;
-
-/// The names of the counts, in their order.
-const COUNTED: [&str; 10] = [
-    "let insertion",
-    "let of let",
-    "let of case",
-    "apply",
-    "first",
-    "second",
-    "left case",
-    "right case",
-    "let value",
-    "drop",
-];
 
 /// A bundle's term before and after normalizing.
 pub struct Shown {
@@ -87,7 +74,7 @@ impl Shown {
         );
         let steps: u32 = self.counts.iter().sum();
         text += &format!("steps: {steps}\n");
-        for (name, count) in COUNTED.iter().zip(self.counts) {
+        for (name, count) in RULE_NAMES.iter().zip(self.counts) {
             if count > 0 {
                 text += &format!("  {name} {count}\n");
             }
