@@ -7,11 +7,13 @@ use reference::corpus::corpus;
 use reference::deep_stack::with_deep_stack;
 use reference::definitions::check::run_check;
 use reference::definitions::repository::write_repository;
+use reference::examples::files;
 use reference::lines::bundles::bundle_line;
 use reference::lines::cases::case_line;
 use reference::lines::runs::run_line;
 use reference::listing::respond;
 use reference::random::Random;
+use reference::show::legend::Legend;
 use reference::show::report::show;
 use std::env;
 use std::fs;
@@ -31,6 +33,7 @@ const USAGE: &str = "usage: reference SUBCOMMAND
                       the definitions of REPOSITORY/crates checked against such lines by rt, in a
                       repository written into DIR: COUNT cases, a fifth as many bundles, a quarter
                       as many runs
+  examples REPOSITORY the examples written into REPOSITORY/examples and REPOSITORY/docs/pictures
   corpus STDIN STDOUT the records of a test program, and what it writes
   bench [--plot FILE] times on the named shapes as a table, and as an SVG plot (release build)
 ";
@@ -65,6 +68,7 @@ fn dispatch(arguments: &[String]) -> io::Result<bool> {
         ["cases", seed, count] => print_lines(seed, count, case_line),
         ["bundles", seed, count] => print_lines(seed, count, bundle_line),
         ["runs", seed, count] => print_lines(seed, count, run_line),
+        ["examples", repository] => write_examples(Path::new(repository)),
         ["corpus", input, output] => write_corpus(Path::new(input), Path::new(output)),
         ["bench"] => bench(None),
         ["bench", "--plot", file] => bench(Some(Path::new(file))),
@@ -87,7 +91,7 @@ fn respond_to_standard_input() -> io::Result<bool> {
 }
 
 fn show_standard_input(files: Option<(&Path, &Path)>) -> io::Result<bool> {
-    let shown = match show(&read_standard_input()?) {
+    let shown = match show(&read_standard_input()?, Legend::default()) {
         Ok(shown) => shown,
         Err(refusal) => {
             println!("refused with {}", refusal.number());
@@ -115,6 +119,13 @@ fn print_lines(seed: &str, count: &str, line: fn(&mut Random) -> String) -> io::
         writeln!(output, "{}", line(&mut random))?;
     }
     output.flush()?;
+    Ok(true)
+}
+
+fn write_examples(repository: &Path) -> io::Result<bool> {
+    for file in files() {
+        fs::write(repository.join(file.path), file.contents)?;
+    }
     Ok(true)
 }
 

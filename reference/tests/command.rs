@@ -89,6 +89,7 @@ fn anything_else_prints_the_usage() {
         &["cases", "1"],
         &["cases", "x", "1"],
         &["show", "--svg", "file"],
+        &["examples"],
         &["corpus", "file"],
         &["bench", "--plot"],
         &["definitions", "repository", "folder", "x", "1"],

@@ -4,6 +4,7 @@ pub mod boundaries;
 pub mod bundles;
 pub mod damage;
 pub mod deep;
+pub mod examples;
 pub mod ill_typed;
 pub mod limits;
 pub mod phrases;

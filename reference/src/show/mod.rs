@@ -3,6 +3,7 @@
 pub mod drawing;
 pub mod labels;
 pub mod layout;
+pub mod legend;
 pub mod report;
 pub mod terms;
 pub mod types;

@@ -1,19 +1,20 @@
 //! What `show` writes: the tables, the term, and after normalizing the counts and the normal form.
 
 use super::drawing::tree_drawing;
+use super::legend::Legend;
 use super::terms::term_text;
-use super::types::{formula, short};
+use super::types::Formulas;
 use crate::bundle::read_bundle;
 use crate::checks::{examine, Checked, Refusal, LONGEST_TO_EXAMINE, LONGEST_TO_NORMALIZE};
 use crate::generate::limits::Limits;
 use crate::reduction::{walk, Counts};
 use crate::rules::RULE_NAMES;
-use crate::tables::Tables;
 use crate::term::Term;
 
 /// A bundle's term before and after normalizing.
 pub struct Shown {
     checked: Checked,
+    legend: Legend,
     /// The normal form, or why there is none, with the steps taken.
     outcome: Result<Term, Refusal>,
     counts: Counts,
@@ -21,7 +22,7 @@ pub struct Shown {
 
 /// Reads a bundle and normalizes its term within the program's limits; the refusal by 1 to 9 or 12
 /// otherwise.
-pub fn show(bytes: &[u8]) -> Result<Shown, Refusal> {
+pub fn show(bytes: &[u8], legend: Legend) -> Result<Shown, Refusal> {
     let mut words = vec![0; LONGEST_TO_EXAMINE];
     let lengths = read_bundle(bytes, &mut words);
     if lengths.refusal != 0 {
@@ -40,6 +41,7 @@ pub fn show(bytes: &[u8]) -> Result<Shown, Refusal> {
     let (outcome, counts) = normal_form(&checked.term);
     Ok(Shown {
         checked,
+        legend,
         outcome,
         counts,
     })
@@ -65,12 +67,16 @@ impl Shown {
             term,
             type_number,
         } = &self.checked;
-        let mut text = tables_text(tables);
+        let formulas = Formulas {
+            tables,
+            legend: self.legend,
+        };
+        let mut text = tables_text(formulas);
         text += &format!(
             "before: {} words of type {}\n{}",
             term.size(),
-            short(tables, *type_number),
-            term_text(tables, term)
+            formulas.short(*type_number),
+            term_text(formulas, term)
         );
         let steps: u32 = self.counts.iter().sum();
         text += &format!("steps: {steps}\n");
@@ -80,7 +86,11 @@ impl Shown {
             }
         }
         text += &match &self.outcome {
-            Ok(term) => format!("after: {} words\n{}", term.size(), term_text(tables, term)),
+            Ok(term) => format!(
+                "after: {} words\n{}",
+                term.size(),
+                term_text(formulas, term)
+            ),
             Err(refusal) => format!("refused with {}\n", refusal.number()),
         };
         text
@@ -88,27 +98,34 @@ impl Shown {
 
     /// The term and its normal form drawn as trees; the term alone if there is no normal form.
     pub fn drawings(&self) -> (String, Option<String>) {
-        let before = tree_drawing(&self.checked.term, "before");
+        let drawing = |term: &Term, when: &str| {
+            let title = format!("{when}: {} words", term.size());
+            tree_drawing(term, self.legend, &title)
+        };
+        let before = drawing(&self.checked.term, "before");
         let after = self.outcome.as_ref().ok();
-        (before, after.map(|term| tree_drawing(term, "after")))
+        (before, after.map(|term| drawing(term, "after")))
     }
 }
 
-fn tables_text(tables: &Tables) -> String {
+fn tables_text(formulas: Formulas) -> String {
+    let Formulas { tables, legend } = formulas;
     let mut text = String::from("types\n");
     for number in 0..tables.types.len() as u32 {
-        text += &format!("  t{number} = {}\n", formula(tables, number));
+        text += &format!("  t{number} = {}\n", formulas.formula(number));
     }
     text += "calls\n";
     for (number, signature) in tables.signatures.iter().enumerate() {
         let arguments = signature.arguments.iter();
-        let arguments: Vec<String> = arguments.map(|&t| short(tables, t)).collect();
-        let result = short(tables, signature.result);
-        text += &format!("  c{number}({}): {result}\n", arguments.join(", "));
+        let arguments: Vec<String> = arguments.map(|&t| formulas.short(t)).collect();
+        let result = formulas.short(signature.result);
+        let call = legend.call_entry(number);
+        text += &format!("  {call}({}): {result}\n", arguments.join(", "));
     }
     text += "inputs\n";
     for (number, &input) in tables.inputs.iter().enumerate() {
-        text += &format!("  i{number}: {}\n", short(tables, input));
+        let name = legend.input_entry(number);
+        text += &format!("  {name}: {}\n", formulas.short(input));
     }
     text
 }

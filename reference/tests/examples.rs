@@ -1,0 +1,121 @@
+//! The shipped examples: the committed files are the generated ones, and the listings are what both
+//! implementations respond and what the README quotes.
+
+use reference::api::is_normal;
+use reference::coding::encode;
+use reference::examples::files;
+use reference::generate::examples::{examples, Example};
+use reference::generate::limits::Limits;
+use reference::listing::respond;
+use reference::on_words;
+use reference::reduction::{walk, Counts};
+use reference::words::*;
+use std::fs;
+use std::path::{Path, PathBuf};
+
+fn repository() -> PathBuf {
+    Path::new(env!("CARGO_MANIFEST_DIR")).join("..")
+}
+
+fn committed(path: &str) -> Vec<u8> {
+    fs::read(repository().join(path)).unwrap_or_else(|error| panic!("{path}: {error}"))
+}
+
+fn example(name: &str) -> Example {
+    let found = examples().into_iter().find(|example| example.name == name);
+    found.expect("an example of this name")
+}
+
+/// The words of the normal form, and the counts.
+fn normal_form(example: &Example) -> (Vec<u64>, Counts) {
+    let term = example.sample.examine().expect("a well-typed term").term;
+    let limits = Limits::OF_PROGRAM;
+    let (term, counts) = walk(term, limits.budget, limits.lengths[0]).expect("a normal form");
+    (encode(&term), counts)
+}
+
+/// How many words have this kind.
+fn nodes(words: &[u64], kind: u64) -> usize {
+    let of_kind = |&&word: &&u64| unpack_term(word).0 == kind;
+    words.iter().filter(of_kind).count()
+}
+
+/// How many words call this.
+fn calls(words: &[u64], name: &str, example: &Example) -> usize {
+    let named = example.legend.calls.iter().position(|&call| call == name);
+    let number = named.expect("a call of this name") as u64;
+    let word = pack_term(CALL, number, 0);
+    words.iter().filter(|&&found| found == word).count()
+}
+
+#[test]
+fn committed_files_are_the_generated_ones() {
+    let files = files();
+    assert_eq!(files.len(), 5 * examples().len());
+    for file in files {
+        let path = &file.path;
+        assert!(
+            committed(path) == file.contents,
+            "{path} is not what `reference examples` writes"
+        );
+    }
+}
+
+#[test]
+fn both_implementations_respond_with_the_listings() {
+    for Example { name, .. } in examples() {
+        let bundle = committed(&format!("examples/{name}.bundle"));
+        let listing = committed(&format!("examples/{name}.listing"));
+        assert!(listing.starts_with(b"ok "));
+        assert_eq!(respond(&bundle), listing);
+        assert_eq!(on_words::respond(&bundle), listing);
+    }
+}
+
+#[test]
+fn the_sample_is_what_the_program_is_run_on() {
+    assert_eq!(
+        committed("examples/sample.bundle"),
+        committed("crates/flatten/stdin")
+    );
+    assert_eq!(
+        committed("examples/sample.listing"),
+        committed("crates/flatten/stdout")
+    );
+}
+
+#[test]
+fn the_register_uses_one_answer_twice() {
+    let register = example("register");
+    let source = &register.sample.term;
+    assert_eq!(nodes(source, APPLICATION), 2);
+    let (words, counts) = normal_form(&register);
+    assert_eq!(counts, [5, 3, 0, 2, 0, 0, 0, 0, 1, 0]);
+    assert_eq!(nodes(&words, FUNCTION) + nodes(&words, APPLICATION), 0);
+    assert_eq!(calls(&words, "recognise", &register), 1);
+    assert_eq!(calls(&words, "transcribe", &register), 2);
+    assert_eq!(nodes(&words, FIRST) + nodes(&words, SECOND), 2);
+}
+
+#[test]
+fn the_tithe_map_keeps_one_case() {
+    let tithe = example("tithe");
+    assert_eq!(nodes(&tithe.sample.term, CASE), 2);
+    let (words, counts) = normal_form(&tithe);
+    assert_eq!(counts, [3, 2, 1, 1, 0, 0, 1, 1, 3, 0]);
+    assert_eq!(nodes(&words, CASE), 1);
+    assert_eq!(nodes(&words, LEFT) + nodes(&words, RIGHT), 0);
+    for call in ["inspect", "recognise", "clear", "store"] {
+        assert_eq!(calls(&words, call, &tithe), 1, "{call}");
+    }
+}
+
+#[test]
+fn only_the_listed_terms_are_normal() {
+    for example in examples() {
+        let sample = &example.sample;
+        let test = |term: &[u64]| is_normal(&sample.types, &sample.calls, &sample.inputs, term);
+        assert!(!test(&sample.term).normal);
+        assert!(test(&normal_form(&example).0).normal);
+    }
+}
