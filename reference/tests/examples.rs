@@ -1,11 +1,11 @@
 //! The shipped examples: the committed files are the generated ones, and the listings are what both
 //! implementations respond and what the README quotes.
 
-use reference::api::is_normal;
 use reference::coding::encode;
 use reference::examples::files;
 use reference::generate::examples::{examples, Example};
 use reference::generate::limits::Limits;
+use reference::generate::Sample;
 use reference::listing::respond;
 use reference::on_words;
 use reference::reduction::{walk, Counts};
@@ -113,9 +113,13 @@ fn the_tithe_map_keeps_one_case() {
 #[test]
 fn only_the_listed_terms_are_normal() {
     for example in examples() {
-        let sample = &example.sample;
-        let test = |term: &[u64]| is_normal(&sample.types, &sample.calls, &sample.inputs, term);
-        assert!(!test(&sample.term).normal);
-        assert!(test(&normal_form(&example).0).normal);
+        let source = &example.sample;
+        let (term, _) = normal_form(&example);
+        let normal_form = Sample {
+            term,
+            ..source.clone()
+        };
+        assert!(!source.is_normal().normal);
+        assert!(normal_form.is_normal().normal);
     }
 }

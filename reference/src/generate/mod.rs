@@ -2,8 +2,10 @@
 
 pub mod boundaries;
 pub mod bundles;
+pub mod calls;
 pub mod damage;
 pub mod deep;
+pub mod each;
 pub mod examples;
 pub mod ill_typed;
 pub mod limits;
