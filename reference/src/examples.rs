@@ -1,4 +1,4 @@
-//! The files of the shipped examples: bundle, listing, text and drawings.
+//! The files of the shipped examples: bundle, listing, texts and drawings.
 
 use crate::generate::examples::{examples, Example};
 use crate::listing::respond;
@@ -25,6 +25,7 @@ fn files_of(example: &Example) -> Vec<File> {
     if let Ok(shown) = show(&bundle, example.legend) {
         let (before, after) = shown.drawings();
         add(format!("examples/{name}.txt"), shown.text().into_bytes());
+        add(format!("examples/{name}.words"), shown.words().into_bytes());
         add(
             format!("docs/pictures/{name}-before.svg"),
             before.into_bytes(),

@@ -51,7 +51,7 @@ fn calls(words: &[u64], name: &str, example: &Example) -> usize {
 #[test]
 fn committed_files_are_the_generated_ones() {
     let files = files();
-    assert_eq!(files.len(), 5 * examples().len());
+    assert_eq!(files.len(), 6 * examples().len());
     for file in files {
         let path = &file.path;
         assert!(

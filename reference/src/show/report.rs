@@ -2,17 +2,20 @@
 
 use super::drawing::tree_drawing;
 use super::legend::Legend;
+use super::tables::tables_text;
 use super::terms::term_text;
 use super::types::Formulas;
-use crate::bundle::read_bundle;
-use crate::checks::{examine, Checked, Refusal, LONGEST_TO_EXAMINE, LONGEST_TO_NORMALIZE};
+use super::words::words_text;
+use crate::checks::{Checked, Refusal, LONGEST_TO_NORMALIZE};
 use crate::generate::limits::Limits;
+use crate::generate::Sample;
 use crate::reduction::{walk, Counts};
 use crate::rules::RULE_NAMES;
 use crate::term::Term;
 
 /// A bundle's term before and after normalizing.
 pub struct Shown {
+    sample: Sample,
     checked: Checked,
     legend: Legend,
     /// The normal form, or why there is none, with the steps taken.
@@ -23,23 +26,11 @@ pub struct Shown {
 /// Reads a bundle and normalizes its term within the program's limits; the refusal by 1 to 9 or 12
 /// otherwise.
 pub fn show(bytes: &[u8], legend: Legend) -> Result<Shown, Refusal> {
-    let mut words = vec![0; LONGEST_TO_EXAMINE];
-    let lengths = read_bundle(bytes, &mut words);
-    if lengths.refusal != 0 {
-        return Err(Refusal::Bundle);
-    }
-    let (types, rest) = words.split_at(lengths.types);
-    let (calls, rest) = rest.split_at(lengths.calls);
-    let (inputs, rest) = rest.split_at(lengths.inputs);
-    let checked = examine(
-        types,
-        calls,
-        inputs,
-        &rest[..lengths.term],
-        LONGEST_TO_EXAMINE,
-    )?;
+    let sample = Sample::from_bundle(bytes)?;
+    let checked = sample.examine()?;
     let (outcome, counts) = normal_form(&checked.term);
     Ok(Shown {
+        sample,
         checked,
         legend,
         outcome,
@@ -60,17 +51,24 @@ fn normal_form(term: &Term) -> (Result<Term, Refusal>, Counts) {
 }
 
 impl Shown {
-    /// Everything as text.
+    fn formulas(&self) -> Formulas<'_> {
+        Formulas {
+            tables: &self.checked.tables,
+            legend: self.legend,
+        }
+    }
+
+    /// The words of the bundle with their fields.
+    pub fn words(&self) -> String {
+        words_text(&self.sample, self.formulas(), &self.checked.term)
+    }
+
+    /// The tables, the term, the counts and the normal form as text.
     pub fn text(&self) -> String {
         let Checked {
-            tables,
-            term,
-            type_number,
+            term, type_number, ..
         } = &self.checked;
-        let formulas = Formulas {
-            tables,
-            legend: self.legend,
-        };
+        let formulas = self.formulas();
         let mut text = tables_text(formulas);
         text += &format!(
             "before: {} words of type {}\n{}",
@@ -106,26 +104,4 @@ impl Shown {
         let after = self.outcome.as_ref().ok();
         (before, after.map(|term| drawing(term, "after")))
     }
-}
-
-fn tables_text(formulas: Formulas) -> String {
-    let Formulas { tables, legend } = formulas;
-    let mut text = String::from("types\n");
-    for number in 0..tables.types.len() as u32 {
-        text += &format!("  t{number} = {}\n", formulas.formula(number));
-    }
-    text += "calls\n";
-    for (number, signature) in tables.signatures.iter().enumerate() {
-        let arguments = signature.arguments.iter();
-        let arguments: Vec<String> = arguments.map(|&t| formulas.short(t)).collect();
-        let result = formulas.short(signature.result);
-        let call = legend.call_entry(number);
-        text += &format!("  {call}({}): {result}\n", arguments.join(", "));
-    }
-    text += "inputs\n";
-    for (number, &input) in tables.inputs.iter().enumerate() {
-        let name = legend.input_entry(number);
-        text += &format!("  {name}: {}\n", formulas.short(input));
-    }
-    text
 }
