@@ -123,3 +123,40 @@ fn only_the_listed_terms_are_normal() {
         assert!(normal_form.is_normal().normal);
     }
 }
+
+/// The text, set in by so many spaces.
+fn set_in(spaces: usize, lines: &str) -> String {
+    let margin = " ".repeat(spaces);
+    let line = |line: &str| match line {
+        "" => String::from("\n"),
+        _ => format!("{margin}{line}\n"),
+    };
+    lines.lines().map(line).collect()
+}
+
+/// The lines of the term that stands under this heading.
+fn term_under<'a>(heading: &str, text: &'a str) -> &'a str {
+    let start = text.find(heading).expect("the heading");
+    let start = start + text[start..].find('\n').expect("a line") + 1;
+    let after = text[start..].find("\nsteps").map(|length| length + 1);
+    &text[start..after.map_or(text.len(), |length| start + length)]
+}
+
+#[test]
+fn the_readme_quotes_the_files() {
+    let text = |path: &str| String::from_utf8(committed(path)).expect("a text");
+    let readme = text("README.md");
+    let quotes = |lines: String| {
+        assert!(!lines.is_empty());
+        assert!(readme.contains(&lines), "not in README.md:\n{lines}");
+    };
+    for path in ["sample.listing", "register.listing", "register.words"] {
+        quotes(set_in(4, &text(&format!("examples/{path}"))));
+    }
+    for name in ["register", "tithe"] {
+        let shown = text(&format!("examples/{name}.txt"));
+        for heading in ["before: ", "after: "] {
+            quotes(set_in(2, term_under(heading, &shown)));
+        }
+    }
+}
