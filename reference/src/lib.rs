@@ -9,6 +9,7 @@ pub mod coding;
 pub mod corpus;
 pub mod deep_stack;
 pub mod definitions;
+pub mod examples;
 pub mod generate;
 pub mod lines;
 pub mod listing;

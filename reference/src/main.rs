@@ -7,12 +7,14 @@ use reference::corpus::corpus;
 use reference::deep_stack::with_deep_stack;
 use reference::definitions::check::run_check;
 use reference::definitions::repository::write_repository;
+use reference::examples::files;
 use reference::lines::bundles::bundle_line;
 use reference::lines::cases::case_line;
 use reference::lines::runs::run_line;
 use reference::listing::respond;
 use reference::random::Random;
-use reference::show::report::show;
+use reference::show::legend::Legend;
+use reference::show::report::{show, Shown};
 use std::env;
 use std::fs;
 use std::io::{self, BufWriter, Error, Read, Write};
@@ -24,6 +26,7 @@ const USAGE: &str = "usage: reference SUBCOMMAND
   show                a bundle on standard input as readable text, before and after normalizing
   show --svg BEFORE AFTER
                       the same, and both terms drawn as trees
+  show --words        the words of a bundle, each with its fields and what it stands for
   cases SEED COUNT    lines of small cases with their answers
   bundles SEED COUNT  lines of small bundles with their listings
   runs SEED COUNT     lines of small terms with a run of each
@@ -31,6 +34,7 @@ const USAGE: &str = "usage: reference SUBCOMMAND
                       the definitions of REPOSITORY/crates checked against such lines by rt, in a
                       repository written into DIR: COUNT cases, a fifth as many bundles, a quarter
                       as many runs
+  examples REPOSITORY the examples written into REPOSITORY/examples and REPOSITORY/docs/pictures
   corpus STDIN STDOUT the records of a test program, and what it writes
   bench [--plot FILE] times on the named shapes as a table, and as an SVG plot (release build)
 ";
@@ -58,13 +62,15 @@ fn dispatch(arguments: &[String]) -> io::Result<bool> {
     let arguments: Vec<&str> = arguments.iter().map(String::as_str).collect();
     match arguments[..] {
         ["respond"] => respond_to_standard_input(),
-        ["show"] => show_standard_input(None),
+        ["show"] => show_standard_input(print_text),
+        ["show", "--words"] => show_standard_input(print_words),
         ["show", "--svg", before, after] => {
-            show_standard_input(Some((Path::new(before), Path::new(after))))
+            show_standard_input(|shown| write_drawings(shown, before, after))
         }
         ["cases", seed, count] => print_lines(seed, count, case_line),
         ["bundles", seed, count] => print_lines(seed, count, bundle_line),
         ["runs", seed, count] => print_lines(seed, count, run_line),
+        ["examples", repository] => write_examples(Path::new(repository)),
         ["corpus", input, output] => write_corpus(Path::new(input), Path::new(output)),
         ["bench"] => bench(None),
         ["bench", "--plot", file] => bench(Some(Path::new(file))),
@@ -86,23 +92,32 @@ fn respond_to_standard_input() -> io::Result<bool> {
     Ok(true)
 }
 
-fn show_standard_input(files: Option<(&Path, &Path)>) -> io::Result<bool> {
-    let shown = match show(&read_standard_input()?) {
-        Ok(shown) => shown,
-        Err(refusal) => {
-            println!("refused with {}", refusal.number());
-            return Ok(true);
-        }
-    };
-    print!("{}", shown.text());
-    if let Some((before_file, after_file)) = files {
-        let (before, after) = shown.drawings();
-        fs::write(before_file, before)?;
-        if let Some(after) = after {
-            fs::write(after_file, after)?;
-        }
+/// Hands the bundle on standard input to `write`, or says with what it was refused.
+fn show_standard_input(write: impl FnOnce(Shown) -> io::Result<()>) -> io::Result<bool> {
+    match show(&read_standard_input()?, Legend::default()) {
+        Ok(shown) => write(shown)?,
+        Err(refusal) => println!("refused with {}", refusal.number()),
     }
     Ok(true)
+}
+
+fn print_text(shown: Shown) -> io::Result<()> {
+    print!("{}", shown.text());
+    Ok(())
+}
+
+fn print_words(shown: Shown) -> io::Result<()> {
+    print!("{}", shown.words());
+    Ok(())
+}
+
+fn write_drawings(shown: Shown, before_file: &str, after_file: &str) -> io::Result<()> {
+    let (before, after) = shown.drawings();
+    fs::write(before_file, before)?;
+    if let Some(after) = after {
+        fs::write(after_file, after)?;
+    }
+    print_text(shown)
 }
 
 fn print_lines(seed: &str, count: &str, line: fn(&mut Random) -> String) -> io::Result<bool> {
@@ -115,6 +130,13 @@ fn print_lines(seed: &str, count: &str, line: fn(&mut Random) -> String) -> io::
         writeln!(output, "{}", line(&mut random))?;
     }
     output.flush()?;
+    Ok(true)
+}
+
+fn write_examples(repository: &Path) -> io::Result<bool> {
+    for file in files() {
+        fs::write(repository.join(file.path), file.contents)?;
+    }
     Ok(true)
 }
 

@@ -19,6 +19,20 @@ pub enum Rule {
     Drop,
 }
 
+/// The names of the rules in the same order.
+pub const RULE_NAMES: [&str; 10] = [
+    "let",
+    "let of let",
+    "let of case",
+    "apply",
+    "first",
+    "second",
+    "left case",
+    "right case",
+    "let value",
+    "drop",
+];
+
 /// The three phases in order.
 #[derive(Clone, Copy, Debug, PartialEq, Eq)]
 pub enum Phase {

@@ -1,32 +1,24 @@
 //! Lengths at and just past their limits, and terms as deep as they can be.
 //! The calls are made from plain test threads: they see to a deep stack themselves.
 
-use reference::api::{check, is_normal, normalize, Answer};
+use reference::api::{normalize, Answer};
 use reference::bundle::{read_bundle, write_bundle};
 use reference::generate::boundaries::*;
 use reference::generate::Sample;
 use reference::listing::respond;
 
 fn check_refusal(sample: &Sample) -> u32 {
-    let checked = check(&sample.types, &sample.calls, &sample.inputs, &sample.term);
-    let normal = is_normal(&sample.types, &sample.calls, &sample.inputs, &sample.term);
+    let checked = sample.check();
+    let normal = sample.is_normal();
     assert_eq!(checked.refusal, normal.refusal);
     checked.refusal
 }
 
 /// Normalizes with slices of these lengths.
 fn normalize_with(sample: &Sample, budget: u32, lengths: [usize; 3]) -> Answer {
-    let [mut output, mut first, mut second] = lengths.map(|length| vec![3; length]);
-    let answer = normalize(
-        &sample.types,
-        &sample.calls,
-        &sample.inputs,
-        &sample.term,
-        budget,
-        &mut output,
-        &mut first,
-        &mut second,
-    );
+    let mut buffers = lengths.map(|length| vec![3; length]);
+    let answer = sample.normalize(normalize, budget, &mut buffers);
+    let [output, first, second] = buffers;
     assert!(output[answer.length..].iter().all(|&word| word == 3));
     assert!(first.iter().chain(&second).all(|&word| word == 0));
     answer
@@ -91,7 +83,7 @@ fn the_deepest_terms() {
     assert_eq!(check_refusal(&nested_calls(8192)), 0);
     let chain = normal_chain(2730);
     assert_eq!(chain.term.len(), 8191);
-    let normal = is_normal(&chain.types, &chain.calls, &chain.inputs, &chain.term);
+    let normal = chain.is_normal();
     assert!(normal.refusal == 0 && normal.normal);
 
     // The deepest input stops when it has no capacity for another let.

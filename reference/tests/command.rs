@@ -43,6 +43,30 @@ fn show_tells_why_there_is_nothing_to_show() {
 }
 
 #[test]
+fn show_writes_a_line_for_each_word() {
+    let header_and_base_type_and_variable = [1 << 51 | 1 << 25 | 1 << 12, 0, 0, 0];
+    let bundle = header_and_base_type_and_variable.map(u64::to_be_bytes);
+    let output = run_command(&["show", "--words"], &bundle.concat());
+    assert!(output.status.success());
+    let expected = "\
+header            types  calls  inputs  term
+0008000002001000      1      0       1     1
+
+types             kind  left  right
+0000000000000000     0     0      0  t0 = b0
+
+calls             arguments  result  their types
+
+inputs            type
+0000000000000000     0  i0: b0
+
+term              kind  number  type
+0000000000000000     0       0     0  i0
+";
+    assert_eq!(String::from_utf8(output.stdout), Ok(expected.to_owned()));
+}
+
+#[test]
 fn cases_cover_all_refusals() {
     let lines = lines(&["cases", "1", "1000"]);
     assert_eq!(lines.len(), 1000);
@@ -89,6 +113,7 @@ fn anything_else_prints_the_usage() {
         &["cases", "1"],
         &["cases", "x", "1"],
         &["show", "--svg", "file"],
+        &["examples"],
         &["corpus", "file"],
         &["bench", "--plot"],
         &["definitions", "repository", "folder", "x", "1"],

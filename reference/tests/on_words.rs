@@ -1,33 +1,22 @@
 //! The normalizer on words against the tree implementation: answers and all words of the buffers.
 
 use reference::api::{self, Answer, Normalize};
-use reference::deep_stack::with_deep_stack;
 use reference::generate::boundaries::*;
 use reference::generate::bundles::BUNDLE_DAMAGES;
 use reference::generate::damage::{apply_damages, DAMAGES};
 use reference::generate::deep::*;
+use reference::generate::each::each_random_sample;
 use reference::generate::ill_typed::broken_samples;
 use reference::generate::limits::{needs, Limits};
 use reference::generate::shapes::*;
-use reference::generate::terms::random_sample;
-use reference::generate::{Profile, Sample};
-use reference::random::Random;
+use reference::generate::Sample;
 use reference::{listing, on_words};
 
 /// The answer, and the output and scratch buffers afterwards.
 fn outcome(normalize: Normalize, sample: &Sample, limits: Limits) -> (Answer, [Vec<u64>; 3]) {
-    let [mut output, mut first, mut second] = limits.lengths.map(|length| vec![9; length]);
-    let answer = normalize(
-        &sample.types,
-        &sample.calls,
-        &sample.inputs,
-        &sample.term,
-        limits.budget,
-        &mut output,
-        &mut first,
-        &mut second,
-    );
-    (answer, [output, first, second])
+    let mut buffers = limits.lengths.map(|length| vec![9; length]);
+    let answer = sample.normalize(normalize, limits.budget, &mut buffers);
+    (answer, buffers)
 }
 
 /// Asserts that both implementations agree; answers the answer.
@@ -42,26 +31,10 @@ fn steps(answer: &Answer) -> u32 {
     answer.counts.iter().sum()
 }
 
-fn random_samples(
-    seed: u64,
-    count: usize,
-    fuel: usize,
-    mut test: impl FnMut(&mut Random, Sample) + Send,
-) {
-    with_deep_stack(|| {
-        let mut random = Random::new(seed);
-        for _ in 0..count {
-            let fuel = random.between(1, fuel);
-            let sample = random_sample(&mut random, &Profile::of_size(fuel));
-            test(&mut random, sample);
-        }
-    });
-}
-
 #[test]
 fn random_terms() {
     let mut totals = [0; 10];
-    random_samples(21, 4000, 150, |random, sample| {
+    each_random_sample(21, 4000, 150, |random, sample| {
         let limits = Limits::with_capacity(random, 5000, 1000);
         let answer = agree(&sample, limits, "random");
         for (total, count) in totals.iter_mut().zip(answer.counts) {
@@ -74,7 +47,7 @@ fn random_terms() {
 #[test]
 fn budgets_and_capacities_at_their_edge() {
     let mut refusals = [0; 3];
-    random_samples(22, 2500, 60, |random, sample| {
+    each_random_sample(22, 2500, 60, |random, sample| {
         let Some(needs) = needs(&sample, 2000) else {
             return;
         };
@@ -100,7 +73,7 @@ fn budgets_and_capacities_at_their_edge() {
 
 #[test]
 fn damaged_tables() {
-    random_samples(23, 4000, 40, |random, mut sample| {
+    each_random_sample(23, 4000, 40, |random, mut sample| {
         let damage = random.pick(DAMAGES);
         let refusal = apply_damages(random, &mut sample, &[damage]);
         let limits = Limits::with_capacity(random, 100, 100);
@@ -198,7 +171,7 @@ fn shapes_take_the_steps_they_are_named_for() {
 
 #[test]
 fn listings() {
-    random_samples(24, 1000, 60, |random, mut sample| {
+    each_random_sample(24, 1000, 60, |random, mut sample| {
         if random.chance(30) {
             let damage = random.pick(DAMAGES);
             if damage.is_small {

@@ -1,6 +1,6 @@
 //! Demands 1, 2 and 3 on random well-typed terms, inputs and answers.
 
-use reference::api::{is_normal, normalize, Answer};
+use reference::api::{normalize, Answer};
 use reference::checks::{Checked, Refusal};
 use reference::coding::{decode, encode};
 use reference::deep_stack::with_deep_stack;
@@ -87,7 +87,7 @@ fn grammar_agrees_with_no_rule_fits() {
     for_samples(3, 20_000, Profile::of_size(12), |_, sample, checked| {
         let is_normal_form = no_rule_fits(&checked.term);
         assert_eq!(in_grammar(&checked.term), is_normal_form);
-        let answer = is_normal(&sample.types, &sample.calls, &sample.inputs, &sample.term);
+        let answer = sample.is_normal();
         assert_eq!((answer.refusal, answer.normal), (0, is_normal_form));
         normal += usize::from(is_normal_form);
     });
@@ -215,18 +215,9 @@ fn check_normalize(
         words
     });
     slices[random.below(3)].truncate(capacity);
-    let [mut output, mut first, mut second] = slices;
-    let before = output.clone();
-    let answer = normalize(
-        &sample.types,
-        &sample.calls,
-        &sample.inputs,
-        &sample.term,
-        budget as u32,
-        &mut output,
-        &mut first,
-        &mut second,
-    );
+    let before = slices[0].clone();
+    let answer = sample.normalize(normalize, budget as u32, &mut slices);
+    let [output, first, second] = slices;
     assert_eq!(answer, expected.0);
     assert_eq!(output[..answer.length], expected.1);
     assert_eq!(output[answer.length..], before[answer.length..]);

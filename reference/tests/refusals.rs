@@ -1,43 +1,27 @@
 //! Every damaged input gives its refusal number, and the lower number of two.
 
-use reference::api::{check, is_normal, normalize, Answer};
+use reference::api::{normalize, Answer};
 use reference::bundle::{read_bundle, Lengths};
-use reference::deep_stack::with_deep_stack;
 use reference::generate::bundles::BUNDLE_DAMAGES;
 use reference::generate::damage::{apply_damages, Damage, DAMAGES};
+use reference::generate::each::each_random_sample;
 use reference::generate::ill_typed::broken_samples;
-use reference::generate::terms::random_sample;
-use reference::generate::{Profile, Sample};
+use reference::generate::Sample;
 use reference::listing::respond;
 use reference::random::Random;
 
 /// Asserts that all public calls on tables refuse with this number and leave the slices right.
 fn refused(sample: &Sample, refusal: u32, why: &str) {
-    let Sample {
-        types,
-        calls,
-        inputs,
-        term,
-    } = sample;
-    let checked = check(types, calls, inputs, term);
+    let checked = sample.check();
     assert_eq!(
         (checked.refusal, checked.type_number),
         (refusal, 0),
         "{why}"
     );
-    let normal = is_normal(types, calls, inputs, term);
+    let normal = sample.is_normal();
     assert_eq!((normal.refusal, normal.normal), (refusal, false), "{why}");
-    let [mut output, mut first, mut second] = [vec![7; 40], vec![8; 50], vec![9; 30]];
-    let answer = normalize(
-        types,
-        calls,
-        inputs,
-        term,
-        100,
-        &mut output,
-        &mut first,
-        &mut second,
-    );
+    let mut buffers = [vec![7; 40], vec![8; 50], vec![9; 30]];
+    let answer = sample.normalize(normalize, 100, &mut buffers);
     let expected = Answer {
         refusal,
         type_number: 0,
@@ -45,20 +29,11 @@ fn refused(sample: &Sample, refusal: u32, why: &str) {
         counts: [0; 10],
     };
     assert_eq!(answer, expected, "{why}");
-    assert_eq!(output, [7; 40]);
-    assert_eq!(first, [0; 50]);
-    assert_eq!(second, [0; 30]);
+    assert_eq!(buffers, [vec![7; 40], vec![0; 50], vec![0; 30]]);
 }
 
-fn random_samples(seed: u64, count: usize, mut test: impl FnMut(&mut Random, Sample) + Send) {
-    with_deep_stack(|| {
-        let mut random = Random::new(seed);
-        for _ in 0..count {
-            let fuel = random.between(1, 40);
-            let sample = random_sample(&mut random, &Profile::of_size(fuel));
-            test(&mut random, sample);
-        }
-    });
+fn random_samples(seed: u64, count: usize, test: impl FnMut(&mut Random, Sample) + Send) {
+    each_random_sample(seed, count, 40, test);
 }
 
 #[test]
@@ -189,23 +164,14 @@ fn respond_lists_what_normalize_answers() {
             let damage = *random.pick(&small);
             apply_damages(random, &mut sample, &[damage]);
         }
-        let [mut output, mut first, mut second] = [vec![0; 8192], vec![0; 8192], vec![0; 8192]];
-        let answer = normalize(
-            &sample.types,
-            &sample.calls,
-            &sample.inputs,
-            &sample.term,
-            1_000_000,
-            &mut output,
-            &mut first,
-            &mut second,
-        );
+        let mut buffers = [vec![0; 8192], vec![0; 8192], vec![0; 8192]];
+        let answer = sample.normalize(normalize, 1_000_000, &mut buffers);
         let counts: String = answer.counts.iter().map(|n| format!(" {n}")).collect();
         let mut expected = match answer.refusal {
             0 => format!("ok {} {}{counts}\n", answer.type_number, answer.length),
             refusal => format!("no {refusal}{counts}\n"),
         };
-        for word in &output[..answer.length] {
+        for word in &buffers[0][..answer.length] {
             expected += &format!("{word:016x}\n");
         }
         assert_eq!(String::from_utf8(respond(&sample.bundle())), Ok(expected));
@@ -226,27 +192,12 @@ fn flipped_bits_do_no_harm() {
             let index = random.below(words.len());
             *words[index] ^= 1 << random.below(64);
         }
-        let Sample {
-            types,
-            calls,
-            inputs,
-            term,
-        } = &sample;
-        let checked = check(types, calls, inputs, term);
-        let normal = is_normal(types, calls, inputs, term);
+        let checked = sample.check();
+        let normal = sample.is_normal();
         assert_eq!(checked.refusal, normal.refusal);
         assert!(checked.refusal <= 9);
-        let [mut output, mut first, mut second] = [vec![7; 90], vec![8; 80], vec![9; 70]];
-        let answer = normalize(
-            types,
-            calls,
-            inputs,
-            term,
-            100,
-            &mut output,
-            &mut first,
-            &mut second,
-        );
+        let mut buffers = [vec![7; 90], vec![8; 80], vec![9; 70]];
+        let answer = sample.normalize(normalize, 100, &mut buffers);
         match checked.refusal {
             0 => assert!(matches!(answer.refusal, 0 | 10 | 11)),
             refusal => assert_eq!(answer.refusal, refusal),

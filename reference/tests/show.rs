@@ -3,12 +3,16 @@
 use reference::deep_stack::with_deep_stack;
 use reference::generate::boundaries::normal_chain;
 use reference::generate::deep::named_deep_shapes;
+use reference::generate::examples::examples;
 use reference::generate::shapes::{branching, sample, typical, B, B_AND_B, B_OR_B};
 use reference::generate::{phrases, Sample};
+use reference::show::layout::layout;
+use reference::show::legend::Legend;
 use reference::show::report::{show, Shown};
 
 fn shown(sample: &Sample) -> Shown {
-    show(&sample.bundle()).unwrap_or_else(|refusal| panic!("refused with {refusal:?}"))
+    show(&sample.bundle(), Legend::default())
+        .unwrap_or_else(|refusal| panic!("refused with {refusal:?}"))
 }
 
 /// The lines from the term on.
@@ -29,7 +33,7 @@ fn names_and_counts() {
 before: 5 words of type b0
   (λx0: b0. c1(x0)) c0()
 steps: 2
-  let insertion 1
+  let 1
   apply 1
 after: 4 words
   let x0 = c0() in
@@ -81,11 +85,9 @@ inputs
 
 #[test]
 fn refusals() {
-    assert_eq!(
-        show(&[0; 7]).err().map(|refusal| refusal.number()),
-        Some(12)
-    );
-    assert_eq!(show(&[0; 8]).err().map(|refusal| refusal.number()), Some(1));
+    let refusal = |bytes: &[u8]| show(bytes, Legend::default()).err().map(|why| why.number());
+    assert_eq!(refusal(&[0; 7]), Some(12));
+    assert_eq!(refusal(&[0; 8]), Some(1));
     let shown = shown(&branching(30));
     assert!(shown.text().ends_with("refused with 11\n"));
     assert!(shown.drawings().1.is_none());
@@ -106,4 +108,25 @@ fn drawings_have_a_box_for_each_word() {
             assert!(shown.text().lines().all(|line| !line.ends_with(' ')));
         }
     });
+}
+
+#[test]
+fn boxes_do_not_overlap() {
+    let with_long_labels = examples().map(|example| (example.sample, example.legend));
+    let without_names = typical(5, 40).into_iter();
+    let without_names = without_names.map(|sample| (sample, Legend::default()));
+    for (sample, legend) in without_names.chain(with_long_labels) {
+        let term = sample.examine().expect("a well-typed term").term;
+        let mut nodes = layout(&term, legend);
+        nodes.sort_by(|one, other| {
+            (one.row, one.column)
+                .partial_cmp(&(other.row, other.column))
+                .expect("numbers")
+        });
+        for pair in nodes.windows(2).filter(|pair| pair[0].row == pair[1].row) {
+            let [one, other] = pair else { continue };
+            let distance = other.column - one.column;
+            assert!(distance >= (one.width + other.width) / 2.0 - 1e-6);
+        }
+    }
 }

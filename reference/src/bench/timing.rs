@@ -95,18 +95,8 @@ fn tree_estimate(workload: &Workload) -> Duration {
     let mut first_steps = 0;
     let started = processor_time();
     for sample in &workload.samples {
-        let limits = Limits::OF_PROGRAM;
-        let [mut output, mut first, mut second] = limits.lengths.map(|length| vec![0; length]);
-        let answer = normalize(
-            &sample.types,
-            &sample.calls,
-            &sample.inputs,
-            &sample.term,
-            FIRST_STEPS,
-            &mut output,
-            &mut first,
-            &mut second,
-        );
+        let mut buffers = Limits::OF_PROGRAM.lengths.map(|length| vec![0; length]);
+        let answer = sample.normalize(normalize, FIRST_STEPS, &mut buffers);
         first_steps += answer.counts.iter().sum::<u32>();
     }
     let elapsed = processor_time() - started;

@@ -4,7 +4,7 @@
 //! or 1. Call 3: `normalize REFUSAL TYPE LENGTH`, ten counts and a digest of the buffers.
 
 use super::records::Record;
-use crate::api::{check, is_normal, normalize, Normalize};
+use crate::api::{normalize, Normalize};
 use crate::generate::limits::Limits;
 use crate::generate::Sample;
 use crate::listing::respond;
@@ -14,11 +14,11 @@ pub fn answer(record: &Record) -> Vec<u8> {
     match record {
         Record::Respond(bundle) => respond(bundle),
         Record::Check(sample) => {
-            let answer = check(&sample.types, &sample.calls, &sample.inputs, &sample.term);
+            let answer = sample.check();
             format!("check {} {}\n", answer.refusal, answer.type_number).into_bytes()
         }
         Record::IsNormal(sample) => {
-            let answer = is_normal(&sample.types, &sample.calls, &sample.inputs, &sample.term);
+            let answer = sample.is_normal();
             format!("normal {} {}\n", answer.refusal, u8::from(answer.normal)).into_bytes()
         }
         Record::Normalize(sample, limits) => {
@@ -29,27 +29,20 @@ pub fn answer(record: &Record) -> Vec<u8> {
 
 /// The line for call 3, by any implementation of it.
 pub fn normalize_line(normalize: Normalize, sample: &Sample, limits: Limits) -> String {
-    let mut output = filled(limits.lengths[0], 1_000_003, 7);
-    let mut first_scratch = filled(limits.lengths[1], 31, 1);
-    let mut second_scratch = filled(limits.lengths[2], 17, 5);
-    let answer = normalize(
-        &sample.types,
-        &sample.calls,
-        &sample.inputs,
-        &sample.term,
-        limits.budget,
-        &mut output,
-        &mut first_scratch,
-        &mut second_scratch,
-    );
+    let [output, first, second] = limits.lengths;
+    let mut buffers = [
+        filled(output, 1_000_003, 7),
+        filled(first, 31, 1),
+        filled(second, 17, 5),
+    ];
+    let answer = sample.normalize(normalize, limits.budget, &mut buffers);
     let counts: String = answer.counts.iter().map(|n| format!("{n} ")).collect();
-    let buffers = output.iter().chain(&first_scratch).chain(&second_scratch);
     format!(
         "normalize {} {} {} {counts}{:016x}\n",
         answer.refusal,
         answer.type_number,
         answer.length,
-        digest(buffers)
+        digest(buffers.iter().flatten())
     )
 }
 

@@ -1,19 +1,7 @@
 //! How many rows there are of which sort.
 
 use super::notation::hexadecimal_bytes;
-
-const RULES: [&str; 10] = [
-    "let",
-    "let of let",
-    "let of case",
-    "apply",
-    "first",
-    "second",
-    "left case",
-    "right case",
-    "let value",
-    "drop",
-];
+use crate::rules::RULE_NAMES;
 
 /// Of lines of `cases`: refusals, yes answers, and the steps of the accepted ones by rule.
 pub fn case_figures(lines: &[String]) -> String {
@@ -26,7 +14,7 @@ pub fn case_figures(lines: &[String]) -> String {
             *sum += count.parse::<u64>().unwrap_or(0);
         }
     }
-    let steps: Vec<String> = RULES
+    let steps: Vec<String> = RULE_NAMES
         .iter()
         .zip(steps)
         .map(|(rule, count)| format!("{rule} {count}"))

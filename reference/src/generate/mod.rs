@@ -2,8 +2,11 @@
 
 pub mod boundaries;
 pub mod bundles;
+pub mod calls;
 pub mod damage;
 pub mod deep;
+pub mod each;
+pub mod examples;
 pub mod ill_typed;
 pub mod limits;
 pub mod phrases;
@@ -12,7 +15,7 @@ pub mod tables;
 pub mod terms;
 pub mod values;
 
-use crate::bundle::write_bundle;
+use crate::bundle::{read_bundle, write_bundle};
 use crate::checks::{examine, Checked, Refusal, LONGEST_TO_EXAMINE};
 
 /// Three tables and a term as words.
@@ -39,6 +42,24 @@ impl Sample {
     /// The number of words in all four tables.
     pub fn words(&self) -> usize {
         self.types.len() + self.calls.len() + self.inputs.len() + self.term.len()
+    }
+
+    /// The tables of a bundle, which are not checked.
+    pub fn from_bundle(bytes: &[u8]) -> Result<Sample, Refusal> {
+        let mut words = vec![0; LONGEST_TO_EXAMINE];
+        let lengths = read_bundle(bytes, &mut words);
+        if lengths.refusal != 0 {
+            return Err(Refusal::Bundle);
+        }
+        let (types, rest) = words.split_at(lengths.types);
+        let (calls, rest) = rest.split_at(lengths.calls);
+        let (inputs, rest) = rest.split_at(lengths.inputs);
+        Ok(Sample {
+            types: types.to_vec(),
+            calls: calls.to_vec(),
+            inputs: inputs.to_vec(),
+            term: rest[..lengths.term].to_vec(),
+        })
     }
 
     /// The sample as a bundle.

@@ -11,7 +11,7 @@
 //! long as the line says; on acceptance the normal form fills the output's front.
 
 use super::{spaced, LONGEST_TERM};
-use crate::api::{check, is_normal, normalize};
+use crate::api::normalize;
 use crate::generate::damage::{apply_damages, Damage, DAMAGES};
 use crate::generate::terms::random_sample;
 use crate::generate::{Profile, Sample};
@@ -159,19 +159,10 @@ fn line(sample: &Sample, limits: &Limits) -> String {
         inputs,
         term,
     } = sample;
-    let [mut output, mut first, mut second] = limits.lengths.map(|length| vec![0; length]);
-    let answer = normalize(
-        types,
-        calls,
-        inputs,
-        term,
-        limits.budget as u32,
-        &mut output,
-        &mut first,
-        &mut second,
-    );
-    let checked = check(types, calls, inputs, term);
-    let normal = is_normal(types, calls, inputs, term);
+    let mut buffers = limits.lengths.map(|length| vec![0; length]);
+    let answer = sample.normalize(normalize, limits.budget as u32, &mut buffers);
+    let checked = sample.check();
+    let normal = sample.is_normal();
     [
         spaced(types),
         spaced(calls),
@@ -185,7 +176,7 @@ fn line(sample: &Sample, limits: &Limits) -> String {
         answer.type_number.to_string(),
         answer.length.to_string(),
         spaced(answer.counts),
-        spaced(&output[..answer.length]),
+        spaced(&buffers[0][..answer.length]),
         checked.refusal.to_string(),
         checked.type_number.to_string(),
         normal.refusal.to_string(),

@@ -3,6 +3,9 @@
 pub mod drawing;
 pub mod labels;
 pub mod layout;
+pub mod legend;
 pub mod report;
+pub mod tables;
 pub mod terms;
 pub mod types;
+pub mod words;

@@ -1,15 +1,15 @@
 //! Terms as text: one line for each let and branch, everything else within a line.
 
 use super::labels::Names;
-use super::types::short;
-use crate::tables::{Tables, Type};
+use super::types::Formulas;
+use crate::tables::Type;
 use crate::term::Term;
 
 /// The term's lines, joined.
-pub fn term_text(tables: &Tables, term: &Term) -> String {
+pub fn term_text(formulas: Formulas, term: &Term) -> String {
     let mut writer = Writer {
-        tables,
-        names: Names::default(),
+        formulas,
+        names: Names::new(formulas.legend),
         text: String::new(),
         indent: 1,
     };
@@ -20,7 +20,7 @@ pub fn term_text(tables: &Tables, term: &Term) -> String {
 }
 
 struct Writer<'a> {
-    tables: &'a Tables,
+    formulas: Formulas<'a>,
     names: Names,
     text: String,
     indent: usize,
@@ -53,7 +53,13 @@ impl Writer<'_> {
                 let bound = self.text.split_off("let =".len());
                 self.text = before;
                 let name = self.names.bind();
-                self.push(&format!("let {name} ={bound} in"));
+                self.push(&format!("let {name} ={bound}"));
+                if bound.contains('\n') {
+                    self.new_line();
+                    self.push("in");
+                } else {
+                    self.push(" in");
+                }
                 self.new_line();
                 self.block(body);
                 self.names.leave();
@@ -103,7 +109,8 @@ impl Writer<'_> {
                 self.push(&name);
             }
             Term::Call(number, arguments) => {
-                self.push(&format!("c{number}("));
+                let name = self.names.call(*number);
+                self.push(&format!("{name}("));
                 for (index, argument) in arguments.iter().enumerate() {
                     self.push(if index > 0 { ", " } else { "" });
                     self.nested_block(argument);
@@ -112,8 +119,8 @@ impl Writer<'_> {
             }
             Term::Function(type_number, body) => {
                 let name = self.names.bind();
-                let domain = match self.tables.type_at(*type_number) {
-                    Some(Type::Function(domain, _)) => short(self.tables, domain),
+                let domain = match self.formulas.tables.type_at(*type_number) {
+                    Some(Type::Function(domain, _)) => self.formulas.short(domain),
                     _ => String::from("?"),
                 };
                 self.push(&format!("λ{name}: {domain}. "));

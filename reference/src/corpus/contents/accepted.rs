@@ -1,8 +1,10 @@
-//! Accepted samples: random terms, normal forms and terms near them, and the named shapes.
+//! Accepted samples: random terms, normal forms and terms near them, the named shapes, the shipped
+//! examples.
 
 use super::{Contents, MOST_STEPS};
 use crate::coding::encode;
 use crate::generate::deep::moderate_deep_shapes;
+use crate::generate::examples::examples;
 use crate::generate::limits::{needs, Limits, Needs};
 use crate::generate::shapes::{moderate_shapes, typical};
 use crate::generate::Sample;
@@ -29,6 +31,9 @@ impl Contents {
         }
         for shape in moderate_shapes().into_iter().chain(moderate_deep_shapes()) {
             self.all_calls(&shape.sample, Limits::OF_PROGRAM);
+        }
+        for example in examples() {
+            self.all_calls(&example.sample, Limits::OF_PROGRAM);
         }
     }
 
