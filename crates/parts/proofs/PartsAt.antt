@@ -19,6 +19,13 @@ use Rattle.parts.specs.declared.uses.Uses.{Uses}
 use Rattle.parts.proofs.Joined.{encode-joined, shaped-joined, size-joined}
 use Rattle.parts.proofs.Traversal.{front-of, first-word, fits, from-length}
 
+-- the first word of a slice's words from an index on
+pub first-from : (words : List ℕ) (i : ℕ) → getD (from words i) 0 0 ≡ getD words i 0
+first-from words i = ap (λ (l : List ℕ). getD l 0 0) (tail-part words i) ∙ getD-drop i words 0 0 ∙ ap (λ (k : ℕ). getD words k 0) (last i)
+  where
+    last : (j : ℕ) → j + 0 ≡ j
+    last j = omega arith
+
 -- a term that stands at an index: its end, its words, its first word
 module _ {calls : List ℕ} (words : List ℕ) (i : ℕ) {t : Term} {rest : List ℕ} (h : Holds calls (from words i) t rest) where
   pub held-inside : i + size t ≤ length words
@@ -29,8 +36,7 @@ module _ {calls : List ℕ} (words : List ℕ) (i : ℕ) {t : Term} {rest : List
   held-words n e = ap (take n) (sym (tail-part words i) ∙ h .is) ∙ take-at (encode t) rest n (sym e)
 
   pub held-first : getD words i 0 ≡ wordOf t
-  held-first = ap (λ (k : ℕ). getD words k 0) (omega arith) ∙ sym (getD-drop i words 0 0)
-      ∙ ap (λ (l : List ℕ). getD l 0 0) (sym (tail-part words i)) ∙ first-word h
+  held-first = sym (first-from words i) ∙ first-word h
 
 -- a use count tells the size too
 pub counts-sized : {calls words : List ℕ} {n : ℕ} {r : Uses} → Counts calls words n r → Sized calls words (r .end)

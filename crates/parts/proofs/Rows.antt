@@ -14,11 +14,12 @@ use Rattle.syntax.proofs.Nodes.{tail-part}
 use Rattle.syntax.proofs.Sizes.{sizeAll, size-node, size-arg, size-positive}
 use Rattle.parts.specs.Fronts.{Holds, Starts, HoldsAll, StartsAll, from}
 use Rattle.parts.specs.Joined.{joined}
+use Rattle.parts.specs.Ends.{Sized}
 use Rattle.parts.specs.Binding.{outer, inner, outerCount}
 use Rattle.parts.proofs.Joined.{encode-joined, size-joined, joined-shaped, count-joined, joined-assoc}
 use Rattle.parts.proofs.Binding.{node-parts, outer-many}
 use Rattle.parts.proofs.Traversal.{front-of, first-word}
-use Rattle.parts.proofs.PartsAt.{PartsAt, part-here, parts-open, held-first}
+use Rattle.parts.proofs.PartsAt.{PartsAt, part-here, parts-past, parts-open, held-first}
 
 -- one term is a row of one
 pub one-holds : {calls words : List ℕ} {t : Term} {rest : List ℕ} → Holds calls words t rest → HoldsAll calls words 1 (arg t done) rest
@@ -166,6 +167,31 @@ module _ (calls words : List ℕ) where
     module _ (lt : 1 ≤ owed) where
       pub visit : (ts : Terms) (rest : List ℕ) → HoldsAll calls words n ts rest → Visit Q at owed ts rest
       visit ts rest h = let s = g .stand ts rest h in visit-first (s .ahead) (s .here) (s .many) (s .sized) (s .to-do) lt
+
+      -- it starts a slice that can be handed on
+      pub march-first : Starts calls (from words at)
+      march-first = let v = visit _ _ (g .start .holds) in record { term = v .term; rest = _; holds = v .holds }
+
+      -- past the whole term, l words further
+      pub march-term : (R : Terms → Terms → Type 0) (l : ℕ) → Sized calls (from words at) l
+          → ((ts us : Terms) (t : Term) (rest : List ℕ) → Holds calls (from words at) t rest → Q ts (arg t us) → R ts us)
+          → Marching R n (at + l) (owed - 1)
+      unfolding count
+      march-term R l z r = record { start = g .start; stand = λ ts rest h. past ts rest (g .stand ts rest h) (g .stand ts rest h .ahead) refl }
+        where
+          past : (ts : Terms) (rest : List ℕ) (s : Standing Q at owed ts rest) (us : Terms) → s .ahead ≡ us → Standing R (at + l) (owed - 1) ts rest
+          past ts rest s done e = absurd (omega (arith, s .many, ap count e, lt))
+          past ts rest s (arg t us) e =
+              let p : PartsAt calls words at (arg t us) rest = subst (λ (x : Terms). PartsAt calls words at x rest) e (s .here) in
+              let h = part-here calls words p in
+              let d = z .told t _ h in
+              record {
+                ahead = us;
+                here = parts-past calls words p l d;
+                many = omega (arith, s .many, ap count e);
+                sized = omega (arith, s .sized, ap (λ (x : Terms). sizeAll x) e, size-arg t us, d);
+                to-do = r ts us t _ h (subst (Q ts) e (s .to-do));
+              }
 
       -- past the node: its parts come first
       pub march-on : (R : Terms → Terms → Type 0) (m : ℕ) → m ≡ owed - 1 + partCount calls (getD words at 0)

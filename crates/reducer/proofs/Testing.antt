@@ -1,18 +1,24 @@
--- The value test part by part: a function is a value, and any other node of a value's kind is one if its parts are.
-use Prim.Native.Nat.{ℕ, _+_, _≤_, _<_}
+-- The value test node by node: a function is a value, and any other node of a value's kind is one if its parts are.
+use Prim.Native.Nat.{ℕ, _+_, _-_, _≤_, _<_}
 use mathlib.Core.Path.{_≡_, refl, sym, _∙_, ap}
-use mathlib.Core.Bool.{Bool, true, false, _&&_, and-true}
+use mathlib.Core.Bool.{Bool, true, false, _&&_, and-true, and-assoc}
 use mathlib.Core.List.{List, _++_}
 use native.Mathlib.Omega.{arith}
 use lib.ListN.{length, getD}
 use Rattle.syntax.specs.Words.{kindOf}
-use Rattle.syntax.specs.Term.{Term, Terms, var, call, lam, app, bind, pair, fst, snd, inl, inr, case, node}
-use Rattle.syntax.specs.Encoding.{encodeAll}
+use Rattle.syntax.specs.Term.{Term, Terms, var, call, lam, app, bind, pair, fst, snd, inl, inr, case, done, arg, node}
 use Rattle.syntax.specs.Parts.{partCount}
 use Rattle.syntax.specs.Values.{isValue}
 use Rattle.reduction.specs.FitByKinds.{valueKind}
 use Rattle.parts.specs.Fronts.{Holds, Starts, from}
-use Rattle.parts.proofs.Traversal.{front-of, Going, enter, Does, reached, onward, next, leave}
+use Rattle.syntax.proofs.Sizes.{size-arg, size-done, size-positive}
+use Rattle.parts.specs.Joined.{joined}
+use Rattle.parts.specs.Binding.{outer, inner}
+use Rattle.parts.proofs.Traversal.{front-of}
+use Rattle.parts.proofs.Joined.{joined-assoc}
+use Rattle.parts.proofs.Binding.{node-parts}
+use Rattle.parts.proofs.PartsAt.{first-from}
+use Rattle.parts.proofs.Rows.{Marching, march, one-starts, one-holds, march-end, visit, march-first, march-term, march-on}
 use Rattle.parts.specs.Ends.{Sized}
 use Rattle.reducer.specs.ValueTest.{Tests}
 use Rattle.reducer.specs.Operands.{allValues}
@@ -64,65 +70,74 @@ other-kind (inl A a) h = apart refl h
 other-kind (inr A a) h = apart refl h
 other-kind (case s l r) h = refl
 
--- the parts passed are values: the term is one if those still to come are
-abbrev pub Testing : Term → Terms → Type 0
-Testing t ts = isValue t ≡ allValues ts
+values-joined : (ts us : Terms) → allValues (joined ts us) ≡ (allValues ts && allValues us)
+unfolding allValues joined
+values-joined done us = refl
+values-joined (arg t ts) us = ap (λ (x : Bool). isValue t && x) (values-joined ts us) ∙ sym (and-assoc (isValue t) (allValues ts) (allValues us))
 
-module _ {calls words : List ℕ} where
-  -- no value, and a value that ends there
-  computation : (r : Value) → r .value ≡ false
-      → ((t : Term) (rest : List ℕ) → Holds calls words t rest → isValue t ≡ false) → Tests calls words r
-  computation r e h = record {
-    told = λ t rest x. record { value-is = e ∙ sym (h t rest x); end-is = λ d. apart d e };
+-- the nodes passed are values' so far: the row holds values only if the row ahead does
+abbrev pub Testing : Terms → Terms → Type 0
+Testing ts us = allValues ts ≡ allValues us
+
+-- a row of one term
+values-one : (t : Term) → allValues (arg t done) ≡ isValue t
+unfolding allValues
+values-one t = and-true (isValue t)
+
+pub test-begin : {calls words : List ℕ} → Starts calls words → Marching calls words Testing 1 0 1
+test-begin {calls} {words} s = march calls words Testing 1 (one-starts s) λ ts. refl
+
+module _ {calls words : List ℕ} {at owed : ℕ} (g : Marching calls words Testing 1 at owed) where
+  -- no term is owed
+  pub test-end : (r : Value) → owed ≡ 0 → r .end ≡ at → r .value ≡ true → Tests calls words r
+  unfolding allValues
+  test-end r z re rv = record {
+    told = λ t rest h.
+        let e = march-end calls words g z (arg t done) rest (one-holds h) in
+        record {
+          value-is = rv ∙ sym (sym (values-one t) ∙ e .1);
+          end-is = λ d. omega (arith, re, e .0, size-arg t done, size-done);
+        };
   }
 
-  module _ {k : ℕ} (ke : k ≡ kindOf (getD words 0 0)) where
-    pub test-other : {b : Bool} (r : Value) → b ≡ valueKind k → b ≡ false → r .value ≡ false → Tests calls words r
-    test-other r be bf e = computation r e λ t rest h.
-        other-kind t (ap valueKind (sym (front-of h .kind) ∙ sym ke) ∙ sym be ∙ bf)
-
-    pub test-function : (r : Value) → k ≡ 2 → Sized calls words (r .end) → r .value ≡ true → Tests calls words r
-    test-function r e s v = record {
-      told = λ t rest h. record {
-        value-is = v ∙ sym (function-value t (sym (front-of h .kind) ∙ sym ke ∙ e));
-        end-is = λ d. s .told t rest h;
-      };
-    }
-
-    -- before the first part
-    pub test-enter : {b : Bool} {n : ℕ} → Starts calls words → b ≡ valueKind k → b ≡ true → (k ≡ 2 → ⊥)
-        → n ≡ partCount calls (getD words 0 0) → Going calls words Testing n 1 0
-    test-enter {n = n} s be bt k2 e = enter calls words Testing n s e λ t rest h.
-        let f : node t .kind ≡ k = sym (front-of h .kind) ∙ sym ke in
-        value-parts t (ap valueKind f ∙ sym be ∙ bt) (λ d. k2 (sym f ∙ d))
-
-  module _ {n at j : ℕ} (g : Going calls words Testing n at j) where
-    module _ (lt : j < n) {r : Value} (a : Tests calls (from words at) r) where
-      -- a part that is no value
-      pub test-fails : (x : Value) → r .value ≡ false → x .value ≡ false → Tests calls words x
-      unfolding allValues
-      test-fails x rf e = computation x e λ t rest h.
-          let p = next calls words g lt t rest h in
-          p .to-do ∙ ap (λ (b : Bool). b && allValues (p .later)) (sym (a .told (p .part) _ (p .holds) .value-is) ∙ rf)
-
-      module _ (rt : r .value ≡ true) where
-        passes : Does calls words Testing Testing at (r .end)
-        unfolding allValues
-        passes t rest h part later holds q =
-            let c = a .told part (encodeAll later ++ rest) holds in
-            (c .end-is rt, q ∙ ap (λ (b : Bool). b && allValues later) (sym (c .value-is) ∙ rt))
-
-        pub test-reached : at + r .end ≤ length words
-        test-reached = reached calls words Testing (r .end) g lt passes
-
-        pub test-next : Going calls words Testing n (at + r .end) (j + 1)
-        test-next = onward calls words Testing (r .end) g lt passes
-
-    -- after the last part
-    pub test-leave : (r : Value) → n ≤ j → r .end ≡ at → r .value ≡ true → Tests calls words r
+  module _ (lt : 1 ≤ owed) {k : ℕ} (ke : k ≡ kindOf (getD words at 0)) {b : Bool} (be : b ≡ valueKind k) where
+    -- a computation
+    pub test-fails : (r : Value) → b ≡ false → r .value ≡ false → Tests calls words r
     unfolding allValues
-    test-leave r ge re rv = record {
+    test-fails r bf e = record {
       told = λ t rest h.
-          let q = leave calls words g ge t rest h in
-          record { value-is = rv ∙ sym (q .1); end-is = λ d. re ∙ q .0 };
+          let v = visit calls words g lt (arg t done) rest (one-holds h) in
+          let c = other-kind (v .term) (ap valueKind (sym (v .kind) ∙ sym ke) ∙ sym be ∙ bf) in
+          record {
+            value-is = e ∙ sym (sym (values-one t) ∙ v .to-do ∙ ap (λ (x : Bool). x && allValues (v .later)) c);
+            end-is = λ d. apart d e;
+          };
     }
+
+    -- a function, passed as a whole
+    pub test-function : (l : ℕ) → k ≡ 2 → Sized calls (from words at) l → Marching calls words Testing 1 (at + l) (owed - 1)
+    unfolding allValues
+    test-function l e s = march-term calls words g lt Testing l s λ ts us t rest h q.
+        q ∙ ap (λ (x : Bool). x && allValues us) (function-value t (sym (front-of h .kind) ∙ same ∙ sym ke ∙ e))
+      where
+        same : kindOf (getD (from words at) 0 0) ≡ kindOf (getD words at 0)
+        same = ap kindOf (first-from words at)
+
+    -- any other value's node: its parts come first
+    pub test-open : (m : ℕ) → b ≡ true → (k ≡ 2 → ⊥) → m ≡ partCount calls (getD words at 0)
+        → Marching calls words Testing 1 (at + 1) (owed - 1 + m)
+    unfolding allValues
+    test-open m bt k2 me = march-on calls words g lt Testing (owed - 1 + m) (omega (arith, me)) λ ts rest v.
+        let t = v .term in
+        let f : node t .kind ≡ k = sym (v .kind) ∙ sym ke in
+        v .to-do
+        ∙ ap (λ (x : Bool). x && allValues (v .later)) (value-parts t (ap valueKind f ∙ sym be ∙ bt) (λ d. k2 (sym f ∙ d)))
+        ∙ sym (values-joined (node t .parts) (v .later))
+        ∙ ap (λ (x : Terms). allValues (joined x (v .later))) (node-parts t)
+        ∙ ap allValues (joined-assoc (outer t) (inner t) (v .later))
+
+    -- which has words
+    pub function-words : (l : ℕ) → Sized calls (from words at) l → 1 ≤ l
+    function-words l s =
+        let f = march-first calls words g lt in
+        omega (arith, s .told (f .term) (f .rest) (f .holds), size-positive (f .term))

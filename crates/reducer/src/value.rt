@@ -27,38 +27,30 @@ pub fn value_kind(k: u64) -> bool
     s.ty
 }
 
-// whether the part at the front is a value, and its end if it is: a function is one, any other value is one if its parts are
+// whether the part at the front is a value, and its end if it is: word by word, as long as they can be those of a value;
+// a function is one whatever its body, any other value is one if its parts are
 pub fn value_test(calls: &[u64], t: &[u64]) -> Value
     requires { ⌜ Starts (now calls) (now t) × (length (now t) ≤ 8192) ⌝ }
     ensures { λ r. ⌜ Tests (now (calls .entry)) (now (t .entry)) r ⌝ }
 {
-    let w = t[0];
-    let k = kind(w);
-    if !value_kind(k) {
-        return Value {
-            end: 0,
-            value: false,
-        };
-    }
-    if k == 2 {
-        return Value {
-            end: part_size(calls, t),
-            value: true,
-        };
-    }
-    let n = part_count(calls, w);
-    let mut at: usize = 1;
-    let mut j: usize = 0;
-    while j < n {
-        let part = value_test(calls, &t[at..]);
-        if !part.value {
+    let mut owed: usize = 1;
+    let mut at: usize = 0;
+    while 0 < owed {
+        let w = t[at];
+        let k = kind(w);
+        if !value_kind(k) {
             return Value {
                 end: 0,
                 value: false,
             };
         }
-        at = at + part.end;
-        j += 1;
+        if k == 2 {
+            at = at + part_size(calls, &t[at..]);
+            owed -= 1;
+        } else {
+            owed = owed - 1 + part_count(calls, w);
+            at += 1;
+        }
     }
     Value {
         end: at,
