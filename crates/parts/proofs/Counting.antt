@@ -1,26 +1,26 @@
 -- Counting the uses of a variable node by node: what is counted so far and what the row ahead uses make up the whole row's uses. The inner
 -- parts of a node are counted under one binder more.
-use Prim.Native.Nat.{ℕ, suc, _+_, _-_, _≤_, _<_}
+use Prim.Native.Nat.{ℕ, suc, _+_, _-_, _≤_}
 use native.Mathlib.Omega.{arith}
 use native.Mathlib.Numerals.{add-one}
 use mathlib.Core.Path.{_≡_, refl, sym, _∙_, ap, subst}
 use mathlib.Core.Bool.{true, _&&_}
-use mathlib.Core.List.{List, _++_}
+use mathlib.Core.List.{List}
 use lib.Dec.{eqb}
 use lib.ListN.{length, getD}
 use Rattle.syntax.specs.Words.{kindOf, numberOf}
 use Rattle.syntax.specs.Tables.{arity}
 use Rattle.syntax.specs.Kinds.{partsOfKind}
-use Rattle.syntax.specs.Term.{Term, Terms, var, done, arg, node}
-use Rattle.syntax.specs.Encoding.{encode, encodeAll, size}
+use Rattle.syntax.specs.Term.{Terms, done, arg, node}
+use Rattle.syntax.specs.Encoding.{encode, encodeAll}
 use Rattle.syntax.specs.Parts.{partCount}
 use Rattle.syntax.specs.Shaped.{count}
 use Rattle.syntax.specs.Values.{counts, uses, usesAll}
-use Rattle.syntax.proofs.Sizes.{sizeAll, size-arg, size-done}
-use Rattle.parts.specs.Fronts.{Holds, Starts, StartsAll, HoldsAll, from}
+use Rattle.syntax.proofs.Sizes.{size-arg, size-done}
+use Rattle.parts.specs.Fronts.{StartsAll, from}
 use Rattle.parts.specs.Joined.{joined}
 use Rattle.parts.specs.Binding.{outer, inner, outerCount}
-use Rattle.parts.specs.Counts.{Counted, Counts, CountsAll}
+use Rattle.parts.specs.Counts.{Counts, CountsAll}
 use Rattle.parts.specs.declared.uses.Uses.{Uses}
 use Rattle.parts.proofs.Joined.{uses-joined, joined-done, count-joined, none-left}
 use Rattle.parts.proofs.Binding.{inner-only, uses-binding}
@@ -171,8 +171,12 @@ module _ {calls words : List ℕ} {n d owed under at u i : ℕ} (g : Inside call
           (λ x. us ≡ joined (c .front) x → usesAll ts d ≡ u + (usesAll (c .front) (suc under) + usesAll x under)
           → usesAll ts d ≡ u + usesAll us (under + 1)) (c .later)
           (omega (arith, m, e, c .many, ap count (c .is), count-joined (c .front) (c .later)))
-          (λ x q. omega (arith, q, ap (λ (l : Terms). usesAll l (under + 1)) (x ∙ joined-done (c .front)),
-          ap (usesAll (c .front)) (add-one under))) (c .is) (c .facts)
+          (λ x q. omega (
+            arith,
+            q,
+            ap (λ (l : Terms). usesAll l (under + 1)) (x ∙ joined-done (c .front)),
+            ap (usesAll (c .front)) (add-one under),
+          )) (c .is) (c .facts)
 
   -- they are counted
   pub count-inner : (r : Uses) (m : ℕ) → owed ≡ i + m → CountsAll calls (from words at) i (under + 1) r

@@ -4,7 +4,7 @@ use native.Mathlib.Omega.{arith}
 use mathlib.Core.Path.{_≡_, refl, sym, _∙_, ap}
 use mathlib.Core.List.{List, _++_, append-assoc}
 use lib.ListN.{length, length-append}
-use Rattle.syntax.specs.Term.{Term, Terms, done, arg}
+use Rattle.syntax.specs.Term.{Terms, done, arg}
 use Rattle.syntax.specs.Encoding.{encode, encodeAll}
 use Rattle.syntax.specs.Shaped.{count, Shaped, ShapedAll}
 use Rattle.syntax.specs.Substitution.{Kit, traverse, traverseAll}

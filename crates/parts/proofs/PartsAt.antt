@@ -2,9 +2,9 @@
 -- in prefix order, so the parts of a part come before what follows it.
 use Prim.Native.Nat.{ℕ, _+_, _-_, _≤_}
 use native.Mathlib.Omega.{arith}
-use mathlib.Core.Path.{_≡_, refl, sym, _∙_, ap}
+use mathlib.Core.Path.{_≡_, sym, _∙_, ap}
 use mathlib.Core.List.{List, _∷_, _++_, append-assoc}
-use lib.ListN.{length, getD, drop, take, length-append}
+use lib.ListN.{length, getD, drop, take}
 use lib.Seq.{drop-drop, take-at, getD-drop}
 use Rattle.syntax.specs.Term.{Term, Terms, done, arg, node}
 use Rattle.syntax.specs.Encoding.{wordOf, encode, encodeAll, size}

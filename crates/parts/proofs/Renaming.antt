@@ -1,28 +1,24 @@
 -- Renaming into a buffer, node by node: a variable's word is raised, any other is copied, so as many words are written as are read.
-use Prim.Native.Nat.{ℕ, suc, _+_, _-_, _*_, _^_, _≤_, _<_}
+use Prim.Native.Nat.{ℕ, _+_, _-_, _*_, _^_, _≤_, _<_}
 use native.Mathlib.Omega.{arith}
-use mathlib.Core.Path.{_≡_, refl, sym, _∙_, ap, subst}
-use mathlib.Core.List.{List, [], _∷_, _++_, append-nil}
+use mathlib.Core.Path.{_≡_, refl, sym, _∙_, ap}
+use mathlib.Core.List.{List, append-nil}
 use lib.ListN.{length, getD, set, length-set}
 use lib.Seq.{sets}
 use Rattle.syntax.specs.Words.{kindOf, numberOf, pack}
-use Rattle.syntax.specs.Term.{Term, Terms, var, done, arg, node}
-use Rattle.syntax.specs.Encoding.{encode, encodeAll, size}
+use Rattle.syntax.specs.Term.{done, arg, node}
+use Rattle.syntax.specs.Encoding.{encode, size}
 use Rattle.syntax.specs.Parts.{partCount}
 use Rattle.syntax.specs.Substitution.{traverse, renaming, rename}
-use Rattle.syntax.specs.Under.{underBy, raiseAt}
+use Rattle.syntax.specs.Under.{raiseAt}
 use Rattle.syntax.proofs.Sizes.{size-renames, size-arg, size-done}
-use Rattle.syntax.proofs.Under.{raiseAt-below, raiseAt-above, underBy-underBy}
-use Rattle.parts.specs.Fronts.{Holds, Starts, from}
+use Rattle.syntax.proofs.Under.{raiseAt-below, raiseAt-above}
+use Rattle.parts.specs.Fronts.{from}
 use Rattle.parts.specs.Binding.{outerCount}
-use Rattle.parts.specs.Writes.{raised, Room, Written, Renames, RenameRoom, RenamesAll}
+use Rattle.parts.specs.Writes.{raised, Room, Renames, RenameRoom, RenamesAll}
 use Rattle.parts.proofs.Rows.{one-starts, one-holds}
-use Rattle.parts.proofs.Tracing.{Trace, Entered, Inside, trace-variable, trace-enter, outer-few}
+use Rattle.parts.proofs.Tracing.{Trace, Inside, trace-variable, trace-enter, outer-few}
 use Rattle.parts.proofs.TraceParts.{trace-outer}
-
--- under so many binders more
-pub raise-under : (b cut by : ℕ) → underBy renaming b (raiseAt cut by) ≡ raiseAt (cut + b) by
-raise-under b cut by = underBy-underBy renaming b cut (λ n. by + n) ∙ ap (λ (c : ℕ). raiseAt c by) (omega arith)
 
 -- a variable's word, raised
 pub raise-below : (w cut by : ℕ) → w ≡ pack 0 (numberOf w) 0 → numberOf w < cut → w ≡ pack 0 (raiseAt cut by (numberOf w)) 0

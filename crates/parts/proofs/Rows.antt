@@ -1,15 +1,15 @@
 -- Going through a row of terms node by node: the words ahead are those of a row too, because a node's parts come before what follows it.
-use Prim.Native.Nat.{ℕ, suc, _+_, _-_, _≤_, _<_}
+use Prim.Native.Nat.{ℕ, _+_, _-_, _≤_}
 use native.Mathlib.Omega.{arith}
 use mathlib.Core.Path.{_≡_, refl, sym, _∙_, ap, subst}
 use mathlib.Core.List.{List, _++_, append-assoc, append-nil}
-use lib.ListN.{length, getD, drop, take, length-append}
+use lib.ListN.{length, getD, drop, length-append}
 use lib.Seq.{drop-drop, drop-append-seam}
 use Rattle.syntax.specs.Words.{kindOf, numberOf}
 use Rattle.syntax.specs.Term.{Term, Terms, done, arg, node}
-use Rattle.syntax.specs.Encoding.{wordOf, encode, encodeAll, size}
+use Rattle.syntax.specs.Encoding.{wordOf, encode, encodeAll}
 use Rattle.syntax.specs.Parts.{partCount}
-use Rattle.syntax.specs.Shaped.{count, Shaped, ShapedAll}
+use Rattle.syntax.specs.Shaped.{count, Shaped}
 use Rattle.syntax.proofs.Nodes.{tail-part}
 use Rattle.syntax.proofs.Sizes.{sizeAll, size-node, size-arg, size-positive}
 use Rattle.parts.specs.Fronts.{Holds, Starts, HoldsAll, StartsAll, from}
@@ -230,7 +230,7 @@ module _ (calls words : List ℕ) where
     -- past them, l words further
     module _ (l m : ℕ) (S : Terms → Terms → Type 0) (me : owed ≡ a + m)
         (d : (ts front later : Terms) (rest : List ℕ) → HoldsAll calls (from words at) a front rest → P ts front later
-            → (l ≡ sizeAll front) × S ts later) where
+        → (l ≡ sizeAll front) × S ts later) where
       passed : {ts : Terms} {rest : List ℕ} (s : Standing (λ ts us. Cut a (P ts) us) at owed ts rest)
           → (l ≡ sizeAll (s .to-do .front)) × S ts (s .to-do .later)
       passed {ts} s = d ts (s .to-do .front) (s .to-do .later) _ (row-front _ _ (cut-here s) a (s .to-do .many)) (s .to-do .facts)

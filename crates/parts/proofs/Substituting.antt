@@ -1,31 +1,31 @@
 -- Substitution into a buffer, node by node: the value is written for its variable, other variables are lowered past it, any other word is
 -- copied.
-use Prim.Native.Nat.{ℕ, suc, _+_, _-_, _*_, _^_, _≤_, _<_}
+use Prim.Native.Nat.{ℕ, _+_, _-_, _^_, _≤_, _<_}
 use native.Mathlib.Omega.{arith}
-use mathlib.Core.Path.{_≡_, refl, sym, _∙_, ap, subst, fun-ext}
+use mathlib.Core.Path.{_≡_, refl, sym, _∙_, ap, fun-ext}
 use mathlib.Core.Logic.{_≢_}
 use mathlib.Core.Bool.{Bool, true, false, cond}
-use mathlib.Core.List.{List, [], _∷_, _++_, append-nil}
+use mathlib.Core.List.{List, [], append-nil}
 use lib.Dec.{ltb}
 use lib.ListN.{length, getD, set, take, drop, length-set}
 use lib.Seq.{sets, take-at, take-all}
 use borrow.Author.Tests.{ltb-true, ltb-false, lt-ltb, le-ltb}
 use Rattle.syntax.specs.Words.{kindOf, numberOf, pack}
-use Rattle.syntax.specs.Term.{Term, Terms, var, done, arg, node}
-use Rattle.syntax.specs.Encoding.{encode, encodeAll, size}
+use Rattle.syntax.specs.Term.{Term, var, done, arg, node}
+use Rattle.syntax.specs.Encoding.{encode, size}
 use Rattle.syntax.specs.Parts.{partCount}
 use Rattle.syntax.specs.Substitution.{traverse, rename, substitution, substitute}
 use Rattle.syntax.specs.Under.{underBy, raiseAt, onlyAt}
 use Rattle.syntax.proofs.Algebra.{rename-id}
-use Rattle.syntax.proofs.Sizes.{sizeAll, size-rename, size-arg, size-done}
+use Rattle.syntax.proofs.Sizes.{size-rename, size-arg, size-done}
 use Rattle.syntax.proofs.Under.{onlyAt-below, onlyAt-at, onlyAt-above}
-use Rattle.parts.specs.Fronts.{Holds, Starts, Whole, from}
+use Rattle.parts.specs.Fronts.{Holds, Whole, from}
 use Rattle.parts.specs.Binding.{outerCount}
 use Rattle.parts.specs.Ends.{Sized}
-use Rattle.parts.specs.Writes.{Room, Renames, RoomFor, Placed, Substitutes, valued, lowered, Raises, SubstituteRoom, SubstitutesAll}
+use Rattle.parts.specs.Writes.{Room, Renames, RoomFor, Substitutes, valued, lowered, Raises, SubstituteRoom, SubstitutesAll}
 use Rattle.parts.specs.declared.substitute.Moved.{Moved}
 use Rattle.parts.proofs.Rows.{one-starts, one-holds}
-use Rattle.parts.proofs.Tracing.{Trace, Entered, Inside, variable-room, trace-variable, trace-enter, outer-few}
+use Rattle.parts.proofs.Tracing.{Trace, Inside, variable-room, trace-variable, trace-enter, outer-few}
 use Rattle.parts.proofs.TraceParts.{trace-outer}
 
 -- a variable other than the one that goes
@@ -82,7 +82,8 @@ module _ {calls value old new : List ℕ} {at by : ℕ} where
 
 -- the loop's invariant
 abbrev pub Substituting : (calls body value old : List ℕ) (n depth at : ℕ) (new : List ℕ) (owed under i o : ℕ) → Type 0
-Substituting calls body value old n depth at new owed under i o = Trace substitution (valued calls value) calls body old n depth at new owed under i o
+Substituting calls body value old n depth at new owed under i o = Trace substitution
+    (valued calls value) calls body old n depth at new owed under i o
 
 module _ {calls body : List ℕ} (value : List ℕ) {old : List ℕ} {n depth at : ℕ} {new : List ℕ} {owed under i o : ℕ}
     (g : Substituting calls body value old n depth at new owed under i o) (lt : 1 ≤ owed) (k : ℕ) (ke : k ≡ kindOf (getD body i 0)) where
@@ -102,8 +103,8 @@ module _ {calls body : List ℕ} (value : List ℕ) {old : List ℕ} {n depth at
         → Raises calls value new new′ (at + o) under r
         → Substituting calls body value old n depth at new′ (owed - 1) under (i + 1) (o + r)
     unfolding underBy
-    substitute-value new′ r e l w = trace-variable substitution (valued calls value) g lt k ke (numberOf (getD body i 0)) z refl new′ (at + o) r refl l
-        λ v. (
+    substitute-value new′ r e l w = trace-variable substitution (valued calls value) g lt k ke (numberOf (getD body i 0)) z refl new′
+        (at + o) r refl l λ v. (
           w .told v ∙ ap (λ (t : Term). sets new (at + o) (encode t)) (sym (onlyAt-at under (v .term)) ∙ ap (onlyAt under (v .term)) (sym e)),
           w .size-is ∙ value-size e v,
         )
@@ -123,9 +124,11 @@ module _ {calls body : List ℕ} (value : List ℕ) {old : List ℕ} {n depth at
   pub substitute-within : (z : k ≡ 0 → ⊥) (m c : ℕ) (me : m ≡ partCount calls (getD body i 0)) (ce : c ≡ outerCount k m) (new′ : List ℕ) (r : Moved)
       → length new′ ≡ length (set new (at + o) (getD body i 0))
       → SubstitutesAll calls (from body (i + 1)) c value (set new (at + o) (getD body i 0)) new′ (at + (o + 1)) under r
-      → Inside substitution (valued calls value) calls body old n depth at new′ (m - c + (owed - 1)) under (i + 1 + r .read) (o + 1 + r .wrote) (m - c)
+      → Inside substitution (valued calls value) calls body old n depth at new′ (m - c + (owed - 1)) under (i + 1 + r .read) (o + 1 + r .wrote)
+      (m - c)
   substitute-within z m c me ce new′ r l w =
-      trace-outer (trace-enter substitution (valued calls value) g lt k ke z m c me ce (at + o) refl) new′ (at + (o + 1)) (r .read) (r .wrote) _ refl
+      trace-outer (trace-enter substitution (valued calls value) g lt k ke z m c me ce (at + o) refl) new′ (at + (o + 1)) (r .read)
+      (r .wrote) _ refl
       (omega (arith, outer-few substitution (valued calls value) g lt k ke z m c me ce (at + o) refl, lt)) l w
 
 -- of one term, and the part at the front of a value

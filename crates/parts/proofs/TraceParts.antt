@@ -1,16 +1,16 @@
 -- The parts of a node with a binder are written in two stretches: the outer ones as the node stands, the inner ones under one binder more.
-use Prim.Native.Nat.{ℕ, suc, _+_, _-_, _≤_, _<_}
+use Prim.Native.Nat.{ℕ, suc, _+_, _-_, _≤_}
 use native.Mathlib.Omega.{arith}
 use native.Mathlib.Numerals.{add-one}
 use mathlib.Core.Path.{_≡_, refl, sym, _∙_, ap, subst}
 use mathlib.Core.Bool.{true, _&&_}
-use mathlib.Core.List.{List, [], _∷_, _++_, append-nil}
+use mathlib.Core.List.{List, _++_, append-nil}
 use lib.Dec.{eqb}
 use lib.ListN.{length, getD, set}
 use lib.Seq.{sets}
 use Rattle.syntax.specs.Words.{kindOf}
-use Rattle.syntax.specs.Term.{Terms, done}
-use Rattle.syntax.specs.Encoding.{encode, encodeAll}
+use Rattle.syntax.specs.Term.{Terms}
+use Rattle.syntax.specs.Encoding.{encode}
 use Rattle.syntax.specs.Parts.{partCount}
 use Rattle.syntax.specs.Shaped.{count}
 use Rattle.syntax.specs.Substitution.{Kit, traverse}
@@ -34,8 +34,11 @@ module _ {X A : Type 0} {kit : Kit X} {f : A → ℕ → X} {calls words old : L
         record {
           start = record { terms = s .to-do .front; rest = _; holds = march-front calls words (g .going) _ _ (g .space .start .holds) };
           given = a;
-          room = omega (arith, ee,
-            stretch-room kit f (g .space) (g .len) o (put kit f a under (s .to-do .front)) _ (s .to-do .facts .facts a));
+          room = omega (
+            arith,
+            ee,
+            stretch-room kit f (g .space) (g .len) o (put kit f a under (s .to-do .front)) _ (s .to-do .facts .facts a),
+          );
         }
 
     -- they are written
@@ -70,8 +73,12 @@ module _ {X A : Type 0} {kit : Kit X} {f : A → ℕ → X} {calls words old : L
         record {
           start = record { terms = s .to-do .front; rest = _; holds = march-front calls words (g .going) _ _ (g .space .start .holds) };
           given = a;
-          room = omega (arith, ee, ap (λ (l : List ℕ). length l) b,
-            stretch-room kit f (g .space) (g .len) o (put kit f a (suc under) (s .to-do .front)) _ (s .to-do .facts a));
+          room = omega (
+            arith,
+            ee,
+            ap (λ (l : List ℕ). length l) b,
+            stretch-room kit f (g .space) (g .len) o (put kit f a (suc under) (s .to-do .front)) _ (s .to-do .facts a),
+          );
         }
 
     -- they are written

@@ -1,32 +1,31 @@
 -- Writing a row of terms node by node, with what is put for its variables: what is written and what the row ahead will be make up the whole.
 -- The inner parts of a node are written under one binder more.
-use Prim.Native.Nat.{ℕ, suc, _+_, _-_, _≤_, _<_}
+use Prim.Native.Nat.{ℕ, suc, _+_, _-_, _≤_}
 use native.Mathlib.Omega.{arith}
-use native.Mathlib.Numerals.{add-one}
 use mathlib.Core.Path.{_≡_, refl, sym, _∙_, ap, subst}
-use mathlib.Core.List.{List, [], _∷_, _++_, append-assoc, append-nil}
-use lib.ListN.{length, getD, set, length-set, length-append}
+use mathlib.Core.List.{List, [], _∷_, _++_, append-assoc}
+use lib.ListN.{length, getD, set, length-set}
 use lib.Seq.{sets}
 use Rattle.syntax.specs.Words.{kindOf, numberOf, pack}
 use Rattle.syntax.specs.Tables.{arity}
 use Rattle.syntax.specs.Kinds.{partsOfKind}
-use Rattle.syntax.specs.Term.{Term, Terms, var, done, arg, node}
+use Rattle.syntax.specs.Term.{Term, Terms, arg, node}
 use Rattle.syntax.specs.Encoding.{wordOf, encode, encodeAll, size}
 use Rattle.syntax.specs.Parts.{partCount}
 use Rattle.syntax.specs.Shaped.{count}
 use Rattle.syntax.specs.Substitution.{Kit, traverse, traverseAll}
 use Rattle.syntax.specs.Under.{underBy}
-use Rattle.syntax.proofs.Sizes.{sizeAll, size-positive}
+use Rattle.syntax.proofs.Sizes.{size-positive}
 use Rattle.syntax.proofs.Under.{under-underBy}
-use Rattle.parts.specs.Fronts.{StartsAll, HoldsAll, from}
+use Rattle.parts.specs.Fronts.{from}
 use Rattle.parts.specs.Joined.{joined}
 use Rattle.parts.specs.Binding.{outer, inner, outerCount}
-use Rattle.parts.specs.Writes.{put, RoomAll, WrittenAll, WritesAll}
-use Rattle.parts.proofs.Joined.{encode-joined, traverse-joined, joined-done, count-joined, none-left}
+use Rattle.parts.specs.Writes.{put, RoomAll, WritesAll}
+use Rattle.parts.proofs.Joined.{encode-joined, traverse-joined, none-left}
 use Rattle.parts.proofs.Binding.{encode-binding}
 use Rattle.parts.proofs.Variables.{kind-0}
 use Rattle.parts.proofs.Writing.{Writing, write-none, write-next, write-all, write-room}
-use Rattle.parts.proofs.Rows.{Cut, Marching, Visit, march, march-inside, march-end, march-said, visit, march-on, march-past}
+use Rattle.parts.proofs.Rows.{Cut, Marching, Visit, march, march-end, visit, march-on}
 
 module _ {X A : Type 0} (kit : Kit X) (f : A → ℕ → X) where
   -- the words of a row in two, and of a row that begins with a node that is no variable
@@ -59,7 +58,8 @@ module _ {X A : Type 0} (kit : Kit X) (f : A → ℕ → X) where
     pub len : length new ≡ length old
     pub near : under + 1 ≤ d + i
     pub going : Marching calls words (λ ts us. Cut p (λ os later. Cut q (λ bs cs. (a : A)
-        → Writing old new at o (put kit f a d ts) (put kit f a under os ++ (put kit f a (suc under) bs ++ put kit f a under cs))) later) us) n i owed
+        → Writing old new at o (put kit f a d ts) (put kit f a under os ++ (put kit f a
+        (suc under) bs ++ put kit f a under cs))) later) us) n i owed
 
   -- its q inner parts are ahead, and then others
   pub record Inside (calls words old : List ℕ) (n d at : ℕ) (new : List ℕ) (owed under i o q : ℕ) : Type 0 where
@@ -119,7 +119,8 @@ module _ {X A : Type 0} (kit : Kit X) (f : A → ℕ → X) where
           unfolding node
           variable-word z =
               let v = first in
-              kind-0 (λ t. getD words i 0 ≡ wordOf t → node t .number ≡ node (v .term) .number → getD words i 0 ≡ pack 0 (numberOf (getD words i 0)) 0)
+              kind-0 (λ t. getD words i 0 ≡ wordOf t → node t .number ≡ node (v .term) .number → getD words i 0 ≡ pack 0 (numberOf
+              (getD words i 0)) 0)
               (v .term) (sym (v .kind) ∙ sym ke ∙ z) (λ x h w e. w ∙ ap (λ (j : ℕ). pack 0 j 0) (e ∙ sym (v .number))) (v .word) refl
 
           -- a variable
@@ -133,12 +134,16 @@ module _ {X A : Type 0} (kit : Kit X) (f : A → ℕ → X) where
                 kind-0 (λ t. node t .number ≡ node (v .term) .number
                 → Writing old new at o (put kit f a d (g .space .start .terms)) (put kit f a under (arg t (v .later)))
                 → at + o + m ≤ length new) (v .term) (sym (v .kind) ∙ sym ke ∙ z)
-                (λ x h j w. omega (arith, stretch-room (g .space) (g .len) o (encode (kit .term (underBy kit under (f a) x))) _ w, e a,
-                ap (λ (y : ℕ). size (kit .term (underBy kit under (f a) y))) (ne ∙ v .number ∙ h))) refl (v .to-do a)
+                (λ x h j w. omega (
+                  arith,
+                  stretch-room (g .space) (g .len) o (encode (kit .term (underBy kit under (f a) x))) _ w,
+                  e a,
+                  ap (λ (y : ℕ). size (kit .term (underBy kit under (f a) y))) (ne ∙ v .number ∙ h),
+                )) refl (v .to-do a)
 
             pub trace-variable : (new′ : List ℕ) (p m : ℕ) → p ≡ at + o → length new′ ≡ length new
                 → ((a : A) → (new′ ≡ sets new p (encode (kit .term (underBy kit under (f a) number))))
-                    × (m ≡ size (kit .term (underBy kit under (f a) number))))
+                × (m ≡ size (kit .term (underBy kit under (f a) number))))
                 → Trace calls words old n d at new′ (owed - 1) under (i + 1) (o + m)
             unfolding partCount traverse encode size outer inner joined
             trace-variable new′ p m pe l e = record {

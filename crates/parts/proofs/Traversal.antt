@@ -1,10 +1,9 @@
 -- Going through the parts of the node that words begin with, whatever its kind: the words ahead are the words of the parts still to come.
-use Prim.Native.Nat.{ℕ, suc, _+_, _-_, _≤_, _<_}
+use Prim.Native.Nat.{ℕ, _+_, _-_, _≤_, _<_}
 use native.Mathlib.Omega.{arith}
 use mathlib.Core.Path.{_≡_, refl, sym, _∙_, ap, subst}
-use mathlib.Core.List.{List, _++_, append-assoc}
-use lib.ListN.{length, getD, drop, take, length-append, length-drop}
-use Rattle.syntax.specs.Words.{kindOf, numberOf, typeOf}
+use mathlib.Core.List.{List, _++_}
+use lib.ListN.{length, getD, drop, length-append, length-drop}
 use Rattle.syntax.specs.Term.{Term, Terms, done, arg, node}
 use Rattle.syntax.specs.Encoding.{wordOf, encode, encodeAll, size}
 use Rattle.syntax.specs.Parts.{partCount}

@@ -1,14 +1,13 @@
 -- A first word of kind 0 is a variable's: the one place where the code looks at a single kind.
 use Prim.Native.Nat.{ℕ}
 use native.Mathlib.Omega.{arith}
-use mathlib.Core.Path.{_≡_, refl, sym, _∙_, ap}
+use mathlib.Core.Path.{_≡_, refl, sym, _∙_}
 use mathlib.Core.List.{List}
 use lib.ListN.{getD}
-use Rattle.syntax.specs.Words.{kindOf, numberOf, pack}
+use Rattle.syntax.specs.Words.{kindOf, numberOf}
 use Rattle.syntax.specs.Term.{Term, var, call, lam, app, bind, pair, fst, snd, inl, inr, case, node}
-use Rattle.syntax.specs.Encoding.{wordOf}
-use Rattle.parts.specs.Fronts.{Holds, Starts}
-use Rattle.parts.proofs.Traversal.{front-of, first-word}
+use Rattle.parts.specs.Fronts.{Holds}
+use Rattle.parts.proofs.Traversal.{front-of}
 
 -- a term whose node is of kind 0
 pub kind-0 : (P : Term → Type 0) (t : Term) → node t .kind ≡ 0 → ((v : ℕ) → node t .number ≡ v → P (var v)) → P t
@@ -29,12 +28,3 @@ kind-0 P (case s l r) h k = absurd (omega arith)
 pub variable-at : {calls words : List ℕ} {t : Term} {rest : List ℕ} → Holds calls words t rest → kindOf (getD words 0 0) ≡ 0
     → (P : Term → Type 0) → ((v : ℕ) → numberOf (getD words 0 0) ≡ v → P (var v)) → P t
 variable-at {t = t} h z P k = let f = front-of h in kind-0 P t (sym (f .kind) ∙ z) λ v e. k v (f .number ∙ e)
-
--- its word
-pub word-variable : {calls words : List ℕ} {number : ℕ} → Starts calls words → kindOf (getD words 0 0) ≡ 0
-    → number ≡ numberOf (getD words 0 0)
-    → getD words 0 0 ≡ pack 0 number 0
-unfolding node
-word-variable {words = words} {number = number} s z ne =
-    variable-at (s .holds) z (λ x. getD words 0 0 ≡ wordOf x → getD words 0 0 ≡ pack 0 number 0)
-    (λ v e f. f ∙ ap (λ (i : ℕ). pack 0 i 0) (sym (ne ∙ e))) (first-word (s .holds))

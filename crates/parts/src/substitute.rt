@@ -45,8 +45,8 @@ fn put_value(calls: &[u64], value: &[u64], dst: &mut [u64], at: usize, by: usize
     rename_into(calls, value, dst, at, 0, by)
 }
 
-// writes so many parts at the front of body to dst from `at` on, with the value for the variable `depth`, the variables past it lowered by one.
-// Only the parts that a binder reaches need a call of their own, and none if they are the last.
+// writes so many parts at the front of body to dst from `at` on, with the value for the variable `depth`, the variables past it
+// lowered by one. Only the parts that a binder reaches need a call of their own, and none if they are the last.
 fn substitute_parts(
     calls: &[u64],
     body: &[u64],
@@ -94,7 +94,15 @@ fn substitute_parts(
                     owed = n - outer;
                     under += 1;
                 } else {
-                    let later = substitute_parts(calls, &body[i..], n - outer, value, dst, at + o, under + 1);
+                    let later = substitute_parts(
+                        calls,
+                        &body[i..],
+                        n - outer,
+                        value,
+                        dst,
+                        at + o,
+                        under + 1,
+                    );
                     i = i + later.read;
                     o = o + later.wrote;
                     owed -= 1;

@@ -1,16 +1,16 @@
 -- The value test node by node: a function is a value, and any other node of a value's kind is one if its parts are.
-use Prim.Native.Nat.{ℕ, _+_, _-_, _≤_, _<_}
+use Prim.Native.Nat.{ℕ, _+_, _-_, _≤_}
 use mathlib.Core.Path.{_≡_, refl, sym, _∙_, ap}
 use mathlib.Core.Bool.{Bool, true, false, _&&_, and-true, and-assoc}
-use mathlib.Core.List.{List, _++_}
+use mathlib.Core.List.{List}
 use native.Mathlib.Omega.{arith}
-use lib.ListN.{length, getD}
+use lib.ListN.{getD}
 use Rattle.syntax.specs.Words.{kindOf}
 use Rattle.syntax.specs.Term.{Term, Terms, var, call, lam, app, bind, pair, fst, snd, inl, inr, case, done, arg, node}
 use Rattle.syntax.specs.Parts.{partCount}
 use Rattle.syntax.specs.Values.{isValue}
 use Rattle.reduction.specs.FitByKinds.{valueKind}
-use Rattle.parts.specs.Fronts.{Holds, Starts, from}
+use Rattle.parts.specs.Fronts.{Starts, from}
 use Rattle.syntax.proofs.Sizes.{size-arg, size-done, size-positive}
 use Rattle.parts.specs.Joined.{joined}
 use Rattle.parts.specs.Binding.{outer, inner}

@@ -1,19 +1,15 @@
 -- A traversal keeps a node's word and traverses its parts, and a node uses a variable as often as its parts do: one law for all kinds but
 -- variables, because the table of binders says what each constructor binds.
-use mathlib.Core.Path.{_≡_, refl, _∙_, ap, ap₂}
+use mathlib.Core.Path.{_≡_, refl, ap, ap₂}
 use mathlib.Core.Logic.{_≢_}
-use mathlib.Core.List.{List, _∷_}
 use Prim.Native.Nat.{ℕ, suc, _+_}
 use native.Mathlib.Omega.{arith}
-use Rattle.syntax.specs.Words.{pack}
 use Rattle.syntax.specs.Kinds.{bindersAt}
 use Rattle.syntax.specs.Term.{Term, Terms, var, call, lam, app, bind, pair, fst, snd, inl, inr, case, done, arg, Node, node}
-use Rattle.syntax.specs.Encoding.{wordOf, encode, encodeAll}
 use Rattle.syntax.specs.Substitution.{Kit, traverse, traverseAll}
 use Rattle.syntax.specs.Under.{underBy}
 use Rattle.syntax.specs.PartsUnder.{traverseParts, usesParts}
 use Rattle.syntax.specs.Values.{uses, usesAll}
-use Rattle.syntax.proofs.Nodes.{encode-node}
 
 module _ {X : Type 0} (kit : Kit X) where
   -- the arguments of a call stand under no binder
@@ -44,12 +40,6 @@ module _ {X : Type 0} (kit : Kit X) where
   node-traverse (inl A a) f h = refl
   node-traverse (inr A a) f h = refl
   node-traverse (case s l r) f h = refl
-
-  -- its words
-  pub encode-traverse : (t : Term) (f : ℕ → X) → node t .kind ≢ 0
-      → encode (traverse kit t f) ≡ wordOf t ∷ encodeAll (traverseParts kit (node t .kind) 0 (node t .parts) f)
-  encode-traverse t f h = encode-node (traverse kit t f)
-      ∙ ap {B = List ℕ} (λ (n : Node). pack (n .kind) (n .number) (n .type) ∷ encodeAll (n .parts)) (node-traverse t f h)
 
 -- uses in a part that no binder stands over, and in one that a binder stands over
 outer : (t : Term) (n : ℕ) → uses t n ≡ uses t (n + 0)

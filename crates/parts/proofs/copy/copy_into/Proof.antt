@@ -1,10 +1,7 @@
 -- The words copied so far stand at their place; the next one goes behind them.
 use borrow.Author.Needs.{needs}
-use Prim.Native.Nat.{_+_, _-_}
+use Prim.Native.Nat.{_-_}
 use native.Mathlib.Omega.{arith}
-use mathlib.Core.Path.{_≡_, refl, sym, _∙_, ap}
-use lib.ListN.{take, drop, length-set}
-use lib.Seq.{sets}
 use Rattle.parts.proofs.Copying.{Copied, copy-none, copy-next, copy-all}
 use Rattle.parts.proofs.copy.copy_into.Statement.{statement}
 use Rattle.parts.proofs.copy.copy_into.Tie as tie

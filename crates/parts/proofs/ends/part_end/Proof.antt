@@ -1,15 +1,12 @@
 -- Each word read pays for one part and owes its own; what is left to read is what is owed.
-use mathlib.Core.Path.{_≡_, refl, sym, _∙_, ap}
+use mathlib.Core.Path.{_≡_, sym, ap}
 use mathlib.Core.List.{List}
-use mathlib.Core.Option.{Option, some, none}
-use Prim.Native.Nat.{ℕ, _≤_, _<_, _+_, _-_, _*_, _/_, _^_}
+use Prim.Native.Nat.{ℕ, _≤_, _<_, _+_, _-_, _*_}
 use native.Mathlib.Omega.{arith}
 use borrow.Author.Needs.{needs}
-use lib.ListN.{length, drop, getD}
-use Rattle.syntax.specs.Words.{numberOf, kindOf}
-use Rattle.syntax.specs.Parts.{partCount, partEnd}
+use lib.ListN.{length, getD}
+use Rattle.syntax.specs.Parts.{partCount}
 use Rattle.parts.specs.Ends.{endOf}
-use Rattle.parts.specs.declared.ends.End.the-variants.{Short, At}
 use Rattle.parts.proofs.Extents.{Owing, owing-start, owing-word, owing-short, owing-done}
 use Rattle.parts.proofs.ends.part_end.Statement.{statement}
 use Rattle.parts.proofs.ends.part_end.Tie as tie

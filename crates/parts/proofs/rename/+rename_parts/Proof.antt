@@ -64,287 +64,350 @@ pub +rename-parts-spec : {M : Type 1} → statement M
     rename-parts-Inv-loop
     rename-parts-μ-loop
     (λ c.
-    let pre = c .before .before .before .pre in
-    trace-begin _ _ (pre .1 .0))
+    let start = c .before .before .before in
+    trace-begin _ _ (start .pre .1 .0))
     (λ c.
-    let pre = c .before .before .before .before .before .pre in
-    omega (arith, march-inside _ _ (c .before .loop .inv .going), c .loop-test .taken, pre .1 .1))
+    let start = c .before .before .before .before .before in
+    omega (arith, march-inside _ _ (c .before .loop .inv .going), c .loop-test .taken, start .pre .1 .1))
     (λ c.
-    let loop = c .before .before .loop in
-    omega (arith, march-inside _ _ (loop .inv .going), c .before .loop-test .taken))
+    let at-loop = c .before .before in
+    omega (arith, march-inside _ _ (at-loop .loop .inv .going), c .before .loop-test .taken))
     (λ c κs. search needs)
     (λ c κs.
-    let loop = c .before .before .before .before .loop in
-    let loop-test = c .before .before .before .loop-test in
-    let pre = c .before .before .before .before .before .before .before .before .pre in
-    (sym (c .before .kind .ensures) ∙ c .if1 .taken, variable-word _ _ (loop .inv) (loop-test .taken) _ (c .before .kind .ensures) (c .if1 .taken), pre .1 .2))
-    (λ c.
-    let loop = c .before .before .before .before .before .loop in
-    let loop-test = c .before .before .before .before .loop-test in
-    let good = c .before .before .before .before .before .before .before .before .before .good in
-    omega (arith, trace-room _ _ (loop .inv) (loop-test .taken), loop .inv .len, good))
-    (λ c.
-    let loop = c .before .before .before .before .before .loop in
-    let loop-test = c .before .before .before .before .loop-test in
-    let good = c .before .before .before .before .before .before .before .before .before .good in
-    omega (arith, trace-room _ _ (loop .inv) (loop-test .taken), loop .inv .len, good))
-    (λ c.
-    let loop = c .before .before .before .before .before .loop in
-    let loop-test = c .before .before .before .before .loop-test in
-    omega (arith, trace-room _ _ (loop .inv) (loop-test .taken)))
-    (λ c.
-    let loop = c .before .before .before .before .before .loop in
-    let pre = c .before .before .before .before .before .before .before .before .before .pre in
-    omega (arith, march-inside _ _ (loop .inv .going), pre .1 .1))
-    (λ c.
-    let loop-test = c .before .before .before .before .loop-test in
-    loop-test .taken)
-    (λ c.
-    let loop = c .before .before .before .before .before .loop in
-    let loop-test = c .before .before .before .before .loop-test in
-    omega (arith, march-inside _ _ (loop .inv .going), loop-test .taken))
-    (λ c.
-    let loop = c .before .before .before .before .before .loop in
-    let loop-test = c .before .before .before .before .loop-test in
-    let kind = c .before .before .kind in
-    rename-variable _ (loop .inv) (loop-test .taken) _ (kind .ensures) _ (c .before .if1 .taken) (c .raise-variable .ensures))
-    (λ c.
-    let loop = c .before .before .before .before .loop in
-    let loop-test = c .before .before .before .loop-test in
-    let good = c .before .before .before .before .before .before .before .before .good in
-    omega (arith, trace-room _ _ (loop .inv) (loop-test .taken), loop .inv .len, good))
-    (λ c.
-    let loop = c .before .before .before .before .loop in
-    let loop-test = c .before .before .before .loop-test in
-    let good = c .before .before .before .before .before .before .before .before .good in
-    omega (arith, trace-room _ _ (loop .inv) (loop-test .taken), loop .inv .len, good))
-    (λ c.
-    let loop = c .before .before .before .before .loop in
-    let loop-test = c .before .before .before .loop-test in
-    omega (arith, trace-room _ _ (loop .inv) (loop-test .taken)))
-    (λ c.
-    let loop = c .before .before .before .before .loop in
-    let pre = c .before .before .before .before .before .before .before .before .pre in
-    omega (arith, march-inside _ _ (loop .inv .going), pre .1 .1))
-    (λ c κs. search needs)
-    (λ c κs. search needs)
-    (λ c.
-    let loop-test = c .before .before .before .before .before .before .loop-test in
-    loop-test .taken)
-    (λ c.
-    let loop = c .before .before .before .before .before .before .before .loop in
-    let part-count = c .before .before .part-count in
-    let pre = c .before .before .before .before .before .before .before .before .before .before .before .pre in
-    omega (arith, march-inside _ _ (loop .inv .going), part-count .ensures .1, pre .1 .1))
-    (λ c.
-    let loop = c .before .before .before .before .before .before .before .loop in
-    let loop-test = c .before .before .before .before .before .before .loop-test in
-    omega (arith, march-inside _ _ (loop .inv .going), loop-test .taken))
-    (λ c.
-    let loop = c .before .before .before .before .before .before .before .loop in
-    let loop-test = c .before .before .before .before .before .before .loop-test in
-    let kind = c .before .before .before .before .kind in
-    let if1 = c .before .before .before .if1 in
-    let part-count = c .before .before .part-count in
-    trace-flat _ _ (loop .inv) (loop-test .taken) _ (kind .ensures) (if1 .left) _ _ (part-count .ensures .0) (c .before .outer-count .ensures) _ refl (c .if2 .taken))
-    (λ c κs. search needs)
-    (λ c.
-    let loop = c .before .before .before .before .before .before .before .before .before .loop in
-    let pre = c .before .before .before .before .before .before .before .before .before .before .before .before .before .pre in
-    omega (arith, loop .inv .near, march-inside _ _ (loop .inv .going), pre .1 .1))
-    (λ c.
-    let loop = c .before .before .before .before .before .before .before .before .before .loop in
-    let loop-test = c .before .before .before .before .before .before .before .before .loop-test in
-    omega (arith, march-inside _ _ (loop .inv .going), loop-test .taken))
-    (λ c.
-    let loop = c .before .before .before .before .before .before .before .before .before .loop in
-    let loop-test = c .before .before .before .before .before .before .before .before .loop-test in
-    let kind = c .before .before .before .before .before .before .kind in
-    let if1 = c .before .before .before .before .before .if1 in
-    let part-count = c .before .before .before .before .part-count in
-    let outer-count = c .before .before .before .outer-count in
-    trace-only (loop .inv) (loop-test .taken) _ (kind .ensures) (if1 .left) _ _ (part-count .ensures .0) (outer-count .ensures) _ refl (sym (c .before .only-inner .ensures) ∙ c .if3 .taken))
-    (λ c.
-    let loop = c .before .before .before .before .before .before .before .before .before .loop in
-    let pre = c .before .before .before .before .before .before .before .before .before .before .before .before .before .pre in
-    omega (arith, march-inside _ _ (loop .inv .going), pre .1 .1))
-    (λ c.
-    let loop = c .before .before .before .before .before .before .before .before .before .loop in
-    let loop-test = c .before .before .before .before .before .before .before .before .loop-test in
-    omega (arith, march-inside _ _ (loop .inv .going), loop-test .taken))
-    (λ c.
-    let loop = c .before .before .before .before .before .before .before .before .before .loop in
-    let loop-test = c .before .before .before .before .before .before .before .before .loop-test in
-    omega (arith, march-inside _ _ (loop .inv .going), loop-test .taken))
-    (λ c.
-    let loop = c .before .before .before .before .before .before .before .before .before .loop in
-    let loop-test = c .before .before .before .before .before .before .before .before .loop-test in
-    omega (arith, march-inside _ _ (loop .inv .going), loop-test .taken))
-    (λ c.
-    let loop = c .before .before .before .before .before .before .before .before .before .before .before .loop in
-    let loop-test = c .before .before .before .before .before .before .before .before .before .before .loop-test in
-    let good = c .before .before .before .before .before .before .before .before .before .before .before .before .before .before .before .good in
-    omega (arith, trace-room _ _ (loop .inv) (loop-test .taken), loop .inv .len, good))
-    (λ c κs.
-    let loop = c .before .before .before .before .before .before .before .before .before .before .before .loop in
-    let loop-test = c .before .before .before .before .before .before .before .before .before .before .loop-test in
-    let kind = c .before .before .before .before .before .before .before .before .kind in
-    let if1 = c .before .before .before .before .before .before .before .if1 in
-    let part-count = c .before .before .before .before .before .before .part-count in
-    let outer-count = c .before .before .before .before .before .outer-count in
-    let args = c .before .before .before .before .before .before .before .before .before .before .before .before .before .before .before .args in
-    let pre = c .before .before .before .before .before .before .before .before .before .before .before .before .before .before .before .pre in
-    let e = trace-enter _ _ (loop .inv) (loop-test .taken) _ (kind .ensures) (if1 .left) _ _ (part-count .ensures .0) (outer-count .ensures) _ refl in
-    (
-    omega (arith, from-length (args .src .now) (loop .i + 1), march-inside _ _ (loop .inv .going), loop-test .taken),
-    (outer-room e _ refl, omega (arith, from-length (args .src .now) (loop .i + 1), e .near, march-inside _ _ (e .going), pre .1 .1), pre .1 .2),
+    let at-loop-test = c .before .before .before in
+    let at-loop = at-loop-test .before in
+    let start = at-loop .before .before .before .before in (
+      sym (c .before .kind .ensures) ∙ c .if1 .taken,
+      variable-word _ _ (at-loop .loop .inv) (at-loop-test .loop-test .taken) _
+          (c .before .kind .ensures) (c .if1 .taken),
+      start .pre .1 .2,
     ))
     (λ c.
-    let loop = c .before .before .before .before .before .before .before .before .before .before .before .before .before .before .loop in
-    let loop-test = c .before .before .before .before .before .before .before .before .before .before .before .before .before .loop-test in
-    let kind = c .before .before .before .before .before .before .before .before .before .before .before .kind in
-    let if1 = c .before .before .before .before .before .before .before .before .before .before .if1 in
-    let part-count = c .before .before .before .before .before .before .before .before .before .part-count in
-    let outer-count = c .before .before .before .before .before .before .before .before .outer-count in
-    let rename-parts = c .before .before .rename-parts in
-    let pre = c .before .before .before .before .before .before .before .before .before .before .before .before .before .before .before .before .before .before .pre in
-    let w = rename-within _ (loop .inv) (loop-test .taken) _ (kind .ensures) (if1 .left) _ _ (part-count .ensures .0) (outer-count .ensures) _ _ (rename-parts .kept .1 .1 .1 .0) (rename-parts .ensures) in
-    omega (arith, march-inside _ _ (w .going), pre .1 .1))
+    let at-loop-test = c .before .before .before .before in
+    let at-loop = at-loop-test .before in
+    let start = at-loop .before .before .before .before in
+    omega (arith, trace-room _ _ (at-loop .loop .inv) (at-loop-test .loop-test .taken), at-loop .loop .inv .len, start .good))
     (λ c.
-    let loop = c .before .before .before .before .before .before .before .before .before .before .before .before .before .before .before .loop in
-    let loop-test = c .before .before .before .before .before .before .before .before .before .before .before .before .before .before .loop-test in
-    let kind = c .before .before .before .before .before .before .before .before .before .before .before .before .kind in
-    let if1 = c .before .before .before .before .before .before .before .before .before .before .before .if1 in
-    let part-count = c .before .before .before .before .before .before .before .before .before .before .part-count in
-    let outer-count = c .before .before .before .before .before .before .before .before .before .outer-count in
-    outer-few _ _ (loop .inv) (loop-test .taken) _ (kind .ensures) (if1 .left) _ _ (part-count .ensures .0) (outer-count .ensures) _ refl)
+    let at-loop-test = c .before .before .before .before in
+    let at-loop = at-loop-test .before in
+    let start = at-loop .before .before .before .before in
+    omega (arith, trace-room _ _ (at-loop .loop .inv) (at-loop-test .loop-test .taken), at-loop .loop .inv .len, start .good))
     (λ c.
-    let loop = c .before .before .before .before .before .before .before .before .before .before .before .before .before .before .before .loop in
-    let pre = c .before .before .before .before .before .before .before .before .before .before .before .before .before .before .before .before .before .before .before .pre in
-    omega (arith, loop .inv .near, march-inside _ _ (loop .inv .going), pre .1 .1))
+    let at-loop-test = c .before .before .before .before in
+    let at-loop = at-loop-test .before in
+    omega (arith, trace-room _ _ (at-loop .loop .inv) (at-loop-test .loop-test .taken)))
     (λ c.
-    let loop = c .before .before .before .before .before .before .before .before .before .before .before .before .before .before .before .loop in
-    let loop-test = c .before .before .before .before .before .before .before .before .before .before .before .before .before .before .loop-test in
-    omega (arith, march-inside _ _ (loop .inv .going), loop-test .taken))
+    let at-loop = c .before .before .before .before .before in
+    let start = at-loop .before .before .before .before in
+    omega (arith, march-inside _ _ (at-loop .loop .inv .going), start .pre .1 .1))
     (λ c.
-    let loop = c .before .before .before .before .before .before .before .before .before .before .before .before .before .before .before .loop in
-    let loop-test = c .before .before .before .before .before .before .before .before .before .before .before .before .before .before .loop-test in
-    let kind = c .before .before .before .before .before .before .before .before .before .before .before .before .kind in
-    let if1 = c .before .before .before .before .before .before .before .before .before .before .before .if1 in
-    let part-count = c .before .before .before .before .before .before .before .before .before .before .part-count in
-    let outer-count = c .before .before .before .before .before .before .before .before .before .outer-count in
-    let rename-parts = c .before .before .before .rename-parts in
-    let w = rename-within _ (loop .inv) (loop-test .taken) _ (kind .ensures) (if1 .left) _ _ (part-count .ensures .0) (outer-count .ensures) _ _ (rename-parts .kept .1 .1 .1 .0) (rename-parts .ensures) in
+    let at-loop-test = c .before .before .before .before in
+    at-loop-test .loop-test .taken)
+    (λ c.
+    let at-loop-test = c .before .before .before .before in
+    let at-loop = at-loop-test .before in
+    omega (arith, march-inside _ _ (at-loop .loop .inv .going), at-loop-test .loop-test .taken))
+    (λ c.
+    let at-kind = c .before .before in
+    let at-loop-test = at-kind .before .before in
+    let at-loop = at-loop-test .before in
+    rename-variable _ (at-loop .loop .inv) (at-loop-test .loop-test .taken) _ (at-kind .kind .ensures) _ (c .before .if1 .taken)
+    (c .raise-variable .ensures))
+    (λ c.
+    let at-loop-test = c .before .before .before in
+    let at-loop = at-loop-test .before in
+    let start = at-loop .before .before .before .before in
+    omega (arith, trace-room _ _ (at-loop .loop .inv) (at-loop-test .loop-test .taken), at-loop .loop .inv .len, start .good))
+    (λ c.
+    let at-loop-test = c .before .before .before in
+    let at-loop = at-loop-test .before in
+    let start = at-loop .before .before .before .before in
+    omega (arith, trace-room _ _ (at-loop .loop .inv) (at-loop-test .loop-test .taken), at-loop .loop .inv .len, start .good))
+    (λ c.
+    let at-loop-test = c .before .before .before in
+    let at-loop = at-loop-test .before in
+    omega (arith, trace-room _ _ (at-loop .loop .inv) (at-loop-test .loop-test .taken)))
+    (λ c.
+    let at-loop = c .before .before .before .before in
+    let start = at-loop .before .before .before .before in
+    omega (arith, march-inside _ _ (at-loop .loop .inv .going), start .pre .1 .1))
+    (λ c κs. search needs)
+    (λ c κs. search needs)
+    (λ c.
+    let at-loop-test = c .before .before .before .before .before .before in
+    at-loop-test .loop-test .taken)
+    (λ c.
+    let at-part-count = c .before .before in
+    let at-loop = at-part-count .before .before .before .before .before in
+    let start = at-loop .before .before .before .before in
+    omega (arith, march-inside _ _ (at-loop .loop .inv .going), at-part-count .part-count .ensures .1, start .pre .1 .1))
+    (λ c.
+    let at-loop-test = c .before .before .before .before .before .before in
+    let at-loop = at-loop-test .before in
+    omega (arith, march-inside _ _ (at-loop .loop .inv .going), at-loop-test .loop-test .taken))
+    (λ c.
+    let at-part-count = c .before .before in
+    let at-if1 = at-part-count .before in
+    let at-kind = at-if1 .before in
+    let at-loop-test = at-kind .before .before in
+    let at-loop = at-loop-test .before in
+    trace-flat _ _ (at-loop .loop .inv) (at-loop-test .loop-test .taken) _ (at-kind .kind .ensures) (at-if1 .if1 .left) _ _
+    (at-part-count .part-count .ensures .0) (c .before .outer-count .ensures) _ refl (c .if2 .taken))
+    (λ c κs. search needs)
+    (λ c.
+    let at-loop = c .before .before .before .before .before .before .before .before .before in
+    let start = at-loop .before .before .before .before in
+    omega (arith, at-loop .loop .inv .near, march-inside _ _ (at-loop .loop .inv .going), start .pre .1 .1))
+    (λ c.
+    let at-loop-test = c .before .before .before .before .before .before .before .before in
+    let at-loop = at-loop-test .before in
+    omega (arith, march-inside _ _ (at-loop .loop .inv .going), at-loop-test .loop-test .taken))
+    (λ c.
+    let at-outer-count = c .before .before .before in
+    let at-part-count = at-outer-count .before in
+    let at-if1 = at-part-count .before in
+    let at-kind = at-if1 .before in
+    let at-loop-test = at-kind .before .before in
+    let at-loop = at-loop-test .before in
+    trace-only (at-loop .loop .inv) (at-loop-test .loop-test .taken) _ (at-kind .kind .ensures) (at-if1 .if1 .left) _ _
+    (at-part-count .part-count .ensures .0) (at-outer-count .outer-count .ensures) _ refl (sym
+    (c .before .only-inner .ensures) ∙ c .if3 .taken))
+    (λ c.
+    let at-loop = c .before .before .before .before .before .before .before .before .before in
+    let start = at-loop .before .before .before .before in
+    omega (arith, march-inside _ _ (at-loop .loop .inv .going), start .pre .1 .1))
+    (λ c.
+    let at-loop-test = c .before .before .before .before .before .before .before .before in
+    let at-loop = at-loop-test .before in
+    omega (arith, march-inside _ _ (at-loop .loop .inv .going), at-loop-test .loop-test .taken))
+    (λ c.
+    let at-loop-test = c .before .before .before .before .before .before .before .before in
+    let at-loop = at-loop-test .before in
+    omega (arith, march-inside _ _ (at-loop .loop .inv .going), at-loop-test .loop-test .taken))
+    (λ c.
+    let at-loop-test = c .before .before .before .before .before .before .before .before in
+    let at-loop = at-loop-test .before in
+    omega (arith, march-inside _ _ (at-loop .loop .inv .going), at-loop-test .loop-test .taken))
+    (λ c.
+    let at-loop-test = c .before .before .before .before .before .before .before .before .before .before in
+    let at-loop = at-loop-test .before in
+    let start = at-loop .before .before .before .before in
+    omega (arith, trace-room _ _ (at-loop .loop .inv) (at-loop-test .loop-test .taken), at-loop .loop .inv .len, start .good))
+    (λ c κs.
+    let at-outer-count = c .before .before .before .before .before in
+    let at-part-count = at-outer-count .before in
+    let at-if1 = at-part-count .before in
+    let at-kind = at-if1 .before in
+    let at-loop-test = at-kind .before .before in
+    let at-loop = at-loop-test .before in
+    let start = at-loop .before .before .before .before in
+    let e = trace-enter _ _ (at-loop .loop .inv) (at-loop-test .loop-test .taken) _ (at-kind .kind .ensures) (at-if1 .if1 .left) _ _
+    (at-part-count .part-count .ensures .0) (at-outer-count .outer-count .ensures) _ refl in (
+      omega (
+        arith,
+        from-length (start .args .src .now) (at-loop .loop .i + 1),
+        march-inside _ _ (at-loop .loop .inv .going),
+        at-loop-test .loop-test .taken,
+      ),
+      (
+        outer-room e _ refl,
+        omega (
+          arith,
+          from-length (start .args .src .now) (at-loop .loop .i + 1),
+          e .near,
+          march-inside _ _ (e .going),
+          start .pre .1 .1,
+        ),
+        start .pre .1 .2,
+      ),
+    ))
+    (λ c.
+    let at-rename-parts = c .before .before in
+    let at-outer-count = at-rename-parts .before .before .before .before .before .before in
+    let at-part-count = at-outer-count .before in
+    let at-if1 = at-part-count .before in
+    let at-kind = at-if1 .before in
+    let at-loop-test = at-kind .before .before in
+    let at-loop = at-loop-test .before in
+    let start = at-loop .before .before .before .before in
+    let w = rename-within _ (at-loop .loop .inv) (at-loop-test .loop-test .taken) _ (at-kind .kind .ensures) (at-if1 .if1 .left) _ _
+    (at-part-count .part-count .ensures .0) (at-outer-count .outer-count .ensures) _ _ (at-rename-parts .rename-parts .kept .1 .1 .1 .0)
+    (at-rename-parts .rename-parts .ensures) in
+    omega (arith, march-inside _ _ (w .going), start .pre .1 .1))
+    (λ c.
+    let at-outer-count = c .before .before .before .before .before .before .before .before .before in
+    let at-part-count = at-outer-count .before in
+    let at-if1 = at-part-count .before in
+    let at-kind = at-if1 .before in
+    let at-loop-test = at-kind .before .before in
+    let at-loop = at-loop-test .before in
+    outer-few _ _ (at-loop .loop .inv) (at-loop-test .loop-test .taken) _ (at-kind .kind .ensures) (at-if1 .if1 .left) _ _
+    (at-part-count .part-count .ensures .0) (at-outer-count .outer-count .ensures) _ refl)
+    (λ c.
+    let at-loop = c .before .before .before .before .before .before .before .before .before .before .before .before .before .before .before in
+    let start = at-loop .before .before .before .before in
+    omega (arith, at-loop .loop .inv .near, march-inside _ _ (at-loop .loop .inv .going), start .pre .1 .1))
+    (λ c.
+    let at-loop-test = c .before .before .before .before .before .before .before .before .before .before .before .before .before .before in
+    let at-loop = at-loop-test .before in
+    omega (arith, march-inside _ _ (at-loop .loop .inv .going), at-loop-test .loop-test .taken))
+    (λ c.
+    let at-rename-parts = c .before .before .before in
+    let at-outer-count = at-rename-parts .before .before .before .before .before .before in
+    let at-part-count = at-outer-count .before in
+    let at-if1 = at-part-count .before in
+    let at-kind = at-if1 .before in
+    let at-loop-test = at-kind .before .before in
+    let at-loop = at-loop-test .before in
+    let w = rename-within _ (at-loop .loop .inv) (at-loop-test .loop-test .taken) _ (at-kind .kind .ensures) (at-if1 .if1 .left) _ _
+    (at-part-count .part-count .ensures .0) (at-outer-count .outer-count .ensures) _ _ (at-rename-parts .rename-parts .kept .1 .1 .1 .0)
+    (at-rename-parts .rename-parts .ensures) in
     trace-last w (omega (arith, c .if4 .taken)))
     (λ c.
-    let loop = c .before .before .before .before .before .before .before .before .before .before .before .before .before .before .before .loop in
-    let loop-test = c .before .before .before .before .before .before .before .before .before .before .before .before .before .before .loop-test in
-    let kind = c .before .before .before .before .before .before .before .before .before .before .before .before .kind in
-    let if1 = c .before .before .before .before .before .before .before .before .before .before .before .if1 in
-    let part-count = c .before .before .before .before .before .before .before .before .before .before .part-count in
-    let outer-count = c .before .before .before .before .before .before .before .before .before .outer-count in
-    let rename-parts = c .before .before .before .rename-parts in
-    let pre = c .before .before .before .before .before .before .before .before .before .before .before .before .before .before .before .before .before .before .before .pre in
-    let w = rename-within _ (loop .inv) (loop-test .taken) _ (kind .ensures) (if1 .left) _ _ (part-count .ensures .0) (outer-count .ensures) _ _ (rename-parts .kept .1 .1 .1 .0) (rename-parts .ensures) in
-    omega (arith, march-inside _ _ (w .going), pre .1 .1))
+    let at-rename-parts = c .before .before .before in
+    let at-outer-count = at-rename-parts .before .before .before .before .before .before in
+    let at-part-count = at-outer-count .before in
+    let at-if1 = at-part-count .before in
+    let at-kind = at-if1 .before in
+    let at-loop-test = at-kind .before .before in
+    let at-loop = at-loop-test .before in
+    let start = at-loop .before .before .before .before in
+    let w = rename-within _ (at-loop .loop .inv) (at-loop-test .loop-test .taken) _ (at-kind .kind .ensures) (at-if1 .if1 .left) _ _
+    (at-part-count .part-count .ensures .0) (at-outer-count .outer-count .ensures) _ _ (at-rename-parts .rename-parts .kept .1 .1 .1 .0)
+    (at-rename-parts .rename-parts .ensures) in
+    omega (arith, march-inside _ _ (w .going), start .pre .1 .1))
     (λ c.
-    let loop = c .before .before .before .before .before .before .before .before .before .before .before .before .before .before .before .loop in
-    let loop-test = c .before .before .before .before .before .before .before .before .before .before .before .before .before .before .loop-test in
-    let kind = c .before .before .before .before .before .before .before .before .before .before .before .before .kind in
-    let if1 = c .before .before .before .before .before .before .before .before .before .before .before .if1 in
-    let part-count = c .before .before .before .before .before .before .before .before .before .before .part-count in
-    let outer-count = c .before .before .before .before .before .before .before .before .before .outer-count in
-    let rename-parts = c .before .before .before .rename-parts in
-    let w = rename-within _ (loop .inv) (loop-test .taken) _ (kind .ensures) (if1 .left) _ _ (part-count .ensures .0) (outer-count .ensures) _ _ (rename-parts .kept .1 .1 .1 .0) (rename-parts .ensures) in
+    let at-rename-parts = c .before .before .before in
+    let at-outer-count = at-rename-parts .before .before .before .before .before .before in
+    let at-part-count = at-outer-count .before in
+    let at-if1 = at-part-count .before in
+    let at-kind = at-if1 .before in
+    let at-loop-test = at-kind .before .before in
+    let at-loop = at-loop-test .before in
+    let w = rename-within _ (at-loop .loop .inv) (at-loop-test .loop-test .taken) _ (at-kind .kind .ensures) (at-if1 .if1 .left) _ _
+    (at-part-count .part-count .ensures .0) (at-outer-count .outer-count .ensures) _ _ (at-rename-parts .rename-parts .kept .1 .1 .1 .0)
+    (at-rename-parts .rename-parts .ensures) in
     omega (arith, march-inside _ _ (w .going)))
     (λ c.
-    let loop = c .before .before .before .before .before .before .before .before .before .before .before .before .before .before .before .loop in
-    let loop-test = c .before .before .before .before .before .before .before .before .before .before .before .before .before .before .loop-test in
-    let kind = c .before .before .before .before .before .before .before .before .before .before .before .before .kind in
-    let if1 = c .before .before .before .before .before .before .before .before .before .before .before .if1 in
-    let part-count = c .before .before .before .before .before .before .before .before .before .before .part-count in
-    let outer-count = c .before .before .before .before .before .before .before .before .before .outer-count in
-    let rename-parts = c .before .before .before .rename-parts in
-    let w = rename-within _ (loop .inv) (loop-test .taken) _ (kind .ensures) (if1 .left) _ _ (part-count .ensures .0) (outer-count .ensures) _ _ (rename-parts .kept .1 .1 .1 .0) (rename-parts .ensures) in
+    let at-rename-parts = c .before .before .before in
+    let at-outer-count = at-rename-parts .before .before .before .before .before .before in
+    let at-part-count = at-outer-count .before in
+    let at-if1 = at-part-count .before in
+    let at-kind = at-if1 .before in
+    let at-loop-test = at-kind .before .before in
+    let at-loop = at-loop-test .before in
+    let w = rename-within _ (at-loop .loop .inv) (at-loop-test .loop-test .taken) _ (at-kind .kind .ensures) (at-if1 .if1 .left) _ _
+    (at-part-count .part-count .ensures .0) (at-outer-count .outer-count .ensures) _ _ (at-rename-parts .rename-parts .kept .1 .1 .1 .0)
+    (at-rename-parts .rename-parts .ensures) in
     omega (arith, march-inside _ _ (w .going)))
     (λ c.
-    let loop = c .before .before .before .before .before .before .before .before .before .before .before .before .before .before .before .loop in
-    let loop-test = c .before .before .before .before .before .before .before .before .before .before .before .before .before .before .loop-test in
-    let kind = c .before .before .before .before .before .before .before .before .before .before .before .before .kind in
-    let if1 = c .before .before .before .before .before .before .before .before .before .before .before .if1 in
-    let part-count = c .before .before .before .before .before .before .before .before .before .before .part-count in
-    let outer-count = c .before .before .before .before .before .before .before .before .before .outer-count in
-    let rename-parts = c .before .before .before .rename-parts in
-    let w = rename-within _ (loop .inv) (loop-test .taken) _ (kind .ensures) (if1 .left) _ _ (part-count .ensures .0) (outer-count .ensures) _ _ (rename-parts .kept .1 .1 .1 .0) (rename-parts .ensures) in
+    let at-rename-parts = c .before .before .before in
+    let at-outer-count = at-rename-parts .before .before .before .before .before .before in
+    let at-part-count = at-outer-count .before in
+    let at-if1 = at-part-count .before in
+    let at-kind = at-if1 .before in
+    let at-loop-test = at-kind .before .before in
+    let at-loop = at-loop-test .before in
+    let w = rename-within _ (at-loop .loop .inv) (at-loop-test .loop-test .taken) _ (at-kind .kind .ensures) (at-if1 .if1 .left) _ _
+    (at-part-count .part-count .ensures .0) (at-outer-count .outer-count .ensures) _ _ (at-rename-parts .rename-parts .kept .1 .1 .1 .0)
+    (at-rename-parts .rename-parts .ensures) in
     omega (arith, march-inside _ _ (w .going)))
     (λ c.
-    let loop = c .before .before .before .before .before .before .before .before .before .before .before .before .before .before .before .before .loop in
-    let loop-test = c .before .before .before .before .before .before .before .before .before .before .before .before .before .before .before .loop-test in
-    let kind = c .before .before .before .before .before .before .before .before .before .before .before .before .before .kind in
-    let if1 = c .before .before .before .before .before .before .before .before .before .before .before .before .if1 in
-    let part-count = c .before .before .before .before .before .before .before .before .before .before .before .part-count in
-    let outer-count = c .before .before .before .before .before .before .before .before .before .before .outer-count in
-    outer-few _ _ (loop .inv) (loop-test .taken) _ (kind .ensures) (if1 .left) _ _ (part-count .ensures .0) (outer-count .ensures) _ refl)
+    let at-outer-count = c .before .before .before .before .before .before .before .before .before .before in
+    let at-part-count = at-outer-count .before in
+    let at-if1 = at-part-count .before in
+    let at-kind = at-if1 .before in
+    let at-loop-test = at-kind .before .before in
+    let at-loop = at-loop-test .before in
+    outer-few _ _ (at-loop .loop .inv) (at-loop-test .loop-test .taken) _ (at-kind .kind .ensures) (at-if1 .if1 .left) _ _
+    (at-part-count .part-count .ensures .0) (at-outer-count .outer-count .ensures) _ refl)
     (λ c.
-    let loop = c .before .before .before .before .before .before .before .before .before .before .before .before .before .before .before .before .before .loop in
-    let loop-test = c .before .before .before .before .before .before .before .before .before .before .before .before .before .before .before .before .loop-test in
-    let kind = c .before .before .before .before .before .before .before .before .before .before .before .before .before .before .kind in
-    let if1 = c .before .before .before .before .before .before .before .before .before .before .before .before .before .if1 in
-    let part-count = c .before .before .before .before .before .before .before .before .before .before .before .before .part-count in
-    let outer-count = c .before .before .before .before .before .before .before .before .before .before .before .outer-count in
-    let rename-parts = c .before .before .before .before .before .rename-parts in
-    let good = c .before .before .before .before .before .before .before .before .before .before .before .before .before .before .before .before .before .before .before .before .before .good in
-    let w = rename-within _ (loop .inv) (loop-test .taken) _ (kind .ensures) (if1 .left) _ _ (part-count .ensures .0) (outer-count .ensures) _ _ (rename-parts .kept .1 .1 .1 .0) (rename-parts .ensures) in
-    omega (arith, inner-room w _ refl .room, w .len, good))
+    let at-rename-parts = c .before .before .before .before .before in
+    let at-outer-count = at-rename-parts .before .before .before .before .before .before in
+    let at-part-count = at-outer-count .before in
+    let at-if1 = at-part-count .before in
+    let at-kind = at-if1 .before in
+    let at-loop-test = at-kind .before .before in
+    let at-loop = at-loop-test .before in
+    let start = at-loop .before .before .before .before in
+    let w = rename-within _ (at-loop .loop .inv) (at-loop-test .loop-test .taken) _ (at-kind .kind .ensures) (at-if1 .if1 .left) _ _
+    (at-part-count .part-count .ensures .0) (at-outer-count .outer-count .ensures) _ _ (at-rename-parts .rename-parts .kept .1 .1 .1 .0)
+    (at-rename-parts .rename-parts .ensures) in
+    omega (arith, inner-room w _ refl .room, w .len, start .good))
     (λ c.
-    let loop = c .before .before .before .before .before .before .before .before .before .before .before .before .before .before .before .before .before .loop in
-    let pre = c .before .before .before .before .before .before .before .before .before .before .before .before .before .before .before .before .before .before .before .before .before .pre in
-    omega (arith, loop .inv .near, march-inside _ _ (loop .inv .going), pre .1 .1))
+    let at-loop = c .before .before .before .before .before .before .before .before .before .before .before .before .before .before .before
+    .before .before in
+    let start = at-loop .before .before .before .before in
+    omega (arith, at-loop .loop .inv .near, march-inside _ _ (at-loop .loop .inv .going), start .pre .1 .1))
     (λ c κs.
-    let loop = c .before .before .before .before .before .before .before .before .before .before .before .before .before .before .before .before .before .loop in
-    let loop-test = c .before .before .before .before .before .before .before .before .before .before .before .before .before .before .before .before .loop-test in
-    let kind = c .before .before .before .before .before .before .before .before .before .before .before .before .before .before .kind in
-    let if1 = c .before .before .before .before .before .before .before .before .before .before .before .before .before .if1 in
-    let part-count = c .before .before .before .before .before .before .before .before .before .before .before .before .part-count in
-    let outer-count = c .before .before .before .before .before .before .before .before .before .before .before .outer-count in
-    let rename-parts = c .before .before .before .before .before .rename-parts in
-    let args = c .before .before .before .before .before .before .before .before .before .before .before .before .before .before .before .before .before .before .before .before .before .args in
-    let pre = c .before .before .before .before .before .before .before .before .before .before .before .before .before .before .before .before .before .before .before .before .before .pre in
-    let w = rename-within _ (loop .inv) (loop-test .taken) _ (kind .ensures) (if1 .left) _ _ (part-count .ensures .0) (outer-count .ensures) _ _ (rename-parts .kept .1 .1 .1 .0) (rename-parts .ensures) in
-    (
-    omega (arith, from-length (args .src .now) (loop .i + 1 + rename-parts .result), march-inside _ _ (w .going), loop-test .taken),
-    (inner-room w _ refl, omega (arith, from-length (args .src .now) (loop .i + 1 + rename-parts .result), w .near, march-inside _ _ (w .going), pre .1 .1), pre .1 .2),
+    let at-rename-parts = c .before .before .before .before .before in
+    let at-outer-count = at-rename-parts .before .before .before .before .before .before in
+    let at-part-count = at-outer-count .before in
+    let at-if1 = at-part-count .before in
+    let at-kind = at-if1 .before in
+    let at-loop-test = at-kind .before .before in
+    let at-loop = at-loop-test .before in
+    let start = at-loop .before .before .before .before in
+    let w = rename-within _ (at-loop .loop .inv) (at-loop-test .loop-test .taken) _ (at-kind .kind .ensures) (at-if1 .if1 .left) _ _
+    (at-part-count .part-count .ensures .0) (at-outer-count .outer-count .ensures) _ _ (at-rename-parts .rename-parts .kept .1 .1 .1 .0)
+    (at-rename-parts .rename-parts .ensures) in (
+      omega (
+        arith,
+        from-length (start .args .src .now) (at-loop .loop .i + 1 + at-rename-parts .rename-parts .result),
+        march-inside _ _
+            (w .going),
+        at-loop-test .loop-test .taken,
+      ),
+      (
+        inner-room w _ refl,
+        omega (
+          arith,
+          from-length (start .args .src .now) (at-loop .loop .i + 1 + at-rename-parts .rename-parts .result),
+          w .near,
+          march-inside _ _ (w .going),
+          start .pre .1 .1,
+        ),
+        start .pre .1 .2,
+      ),
     ))
     (λ c.
-    let loop = c .before .before .before .before .before .before .before .before .before .before .before .before .before .before .before .before .before .before .before .before .loop in
-    let loop-test = c .before .before .before .before .before .before .before .before .before .before .before .before .before .before .before .before .before .before .before .loop-test in
-    let kind = c .before .before .before .before .before .before .before .before .before .before .before .before .before .before .before .before .before .kind in
-    let if1 = c .before .before .before .before .before .before .before .before .before .before .before .before .before .before .before .before .if1 in
-    let part-count = c .before .before .before .before .before .before .before .before .before .before .before .before .before .before .before .part-count in
-    let outer-count = c .before .before .before .before .before .before .before .before .before .before .before .before .before .before .outer-count in
-    let rename-parts = c .before .before .before .before .before .before .before .before .rename-parts in
-    let rename-parts2 = c .before .before .rename-parts2 in
-    let pre = c .before .before .before .before .before .before .before .before .before .before .before .before .before .before .before .before .before .before .before .before .before .before .before .before .pre in
-    let w = rename-within _ (loop .inv) (loop-test .taken) _ (kind .ensures) (if1 .left) _ _ (part-count .ensures .0) (outer-count .ensures) _ _ (rename-parts .kept .1 .1 .1 .0) (rename-parts .ensures) in
-    let t = trace-inner w _ _ _ _ (loop .owed - 1) refl refl (rename-parts2 .kept .1 .1 .1 .0) (rename-parts2 .ensures) in
-    omega (arith, march-inside _ _ (t .going), pre .1 .1))
+    let at-rename-parts2 = c .before .before in
+    let at-rename-parts = at-rename-parts2 .before .before .before .before .before .before in
+    let at-outer-count = at-rename-parts .before .before .before .before .before .before in
+    let at-part-count = at-outer-count .before in
+    let at-if1 = at-part-count .before in
+    let at-kind = at-if1 .before in
+    let at-loop-test = at-kind .before .before in
+    let at-loop = at-loop-test .before in
+    let start = at-loop .before .before .before .before in
+    let w = rename-within _ (at-loop .loop .inv) (at-loop-test .loop-test .taken) _ (at-kind .kind .ensures) (at-if1 .if1 .left) _ _
+    (at-part-count .part-count .ensures .0) (at-outer-count .outer-count .ensures) _ _ (at-rename-parts .rename-parts .kept .1 .1 .1 .0)
+    (at-rename-parts .rename-parts .ensures) in
+    let t = trace-inner w _ _ _ _ (at-loop .loop .owed - 1) refl refl (at-rename-parts2 .rename-parts2 .kept .1 .1 .1 .0)
+    (at-rename-parts2 .rename-parts2 .ensures) in
+    omega (arith, march-inside _ _ (t .going), start .pre .1 .1))
     (λ c.
-    let loop-test = c .before .before .before .before .before .before .before .before .before .before .before .before .before .before .before .before .before .before .before .loop-test in
-    loop-test .taken)
+    let at-loop-test = c .before .before .before .before .before .before .before .before .before .before .before .before .before .before .before
+    .before .before .before .before in
+    at-loop-test .loop-test .taken)
     (λ c.
-    let loop = c .before .before .before .before .before .before .before .before .before .before .before .before .before .before .before .before .before .before .before .before .loop in
-    let loop-test = c .before .before .before .before .before .before .before .before .before .before .before .before .before .before .before .before .before .before .before .loop-test in
-    omega (arith, march-inside _ _ (loop .inv .going), loop-test .taken))
+    let at-loop-test = c .before .before .before .before .before .before .before .before .before .before .before .before .before .before .before
+    .before .before .before .before in
+    let at-loop = at-loop-test .before in
+    omega (arith, march-inside _ _ (at-loop .loop .inv .going), at-loop-test .loop-test .taken))
     (λ c.
-    let loop = c .before .before .before .before .before .before .before .before .before .before .before .before .before .before .before .before .before .before .before .before .loop in
-    let loop-test = c .before .before .before .before .before .before .before .before .before .before .before .before .before .before .before .before .before .before .before .loop-test in
-    let kind = c .before .before .before .before .before .before .before .before .before .before .before .before .before .before .before .before .before .kind in
-    let if1 = c .before .before .before .before .before .before .before .before .before .before .before .before .before .before .before .before .if1 in
-    let part-count = c .before .before .before .before .before .before .before .before .before .before .before .before .before .before .before .part-count in
-    let outer-count = c .before .before .before .before .before .before .before .before .before .before .before .before .before .before .outer-count in
-    let rename-parts = c .before .before .before .before .before .before .before .before .rename-parts in
-    let rename-parts2 = c .before .before .rename-parts2 in
-    let w = rename-within _ (loop .inv) (loop-test .taken) _ (kind .ensures) (if1 .left) _ _ (part-count .ensures .0) (outer-count .ensures) _ _ (rename-parts .kept .1 .1 .1 .0) (rename-parts .ensures) in
-    trace-inner w _ _ _ _ (loop .owed - 1) refl refl (rename-parts2 .kept .1 .1 .1 .0) (rename-parts2 .ensures))
+    let at-rename-parts2 = c .before .before in
+    let at-rename-parts = at-rename-parts2 .before .before .before .before .before .before in
+    let at-outer-count = at-rename-parts .before .before .before .before .before .before in
+    let at-part-count = at-outer-count .before in
+    let at-if1 = at-part-count .before in
+    let at-kind = at-if1 .before in
+    let at-loop-test = at-kind .before .before in
+    let at-loop = at-loop-test .before in
+    let w = rename-within _ (at-loop .loop .inv) (at-loop-test .loop-test .taken) _ (at-kind .kind .ensures) (at-if1 .if1 .left) _ _
+    (at-part-count .part-count .ensures .0) (at-outer-count .outer-count .ensures) _ _ (at-rename-parts .rename-parts .kept .1 .1 .1 .0)
+    (at-rename-parts .rename-parts .ensures) in
+    trace-inner w _ _ _ _ (at-loop .loop .owed - 1) refl refl (at-rename-parts2 .rename-parts2 .kept .1 .1 .1 .0)
+    (at-rename-parts2 .rename-parts2 .ensures))
     (λ c. c .before .loop .inv .len)
     (λ c. trace-end _ _ (c .before .loop .inv) (omega (arith, c .loop-test .left)))

@@ -11,11 +11,11 @@ use Rattle.parts.proofs.fields.number.Reads as number-reads
 
 pub raise-variable-spec : {M : Type 1} → statement M
 raise-variable-spec = tie.close (tie.spec (λ c κs. search needs) (λ c.
-    let pre = c .before .before .pre in
-    raise-below _ _ _ (pre .1) (omega (arith, c .if1 .taken, c .before .number .ensures))) (λ c.
-    let pre = c .before .before .pre in
-    omega (arith, pre .2)) (λ c.
-    let pre = c .before .before .pre in
-    omega (arith, pre .0, pre .2)) (λ c.
-    let pre = c .before .before .pre in
-    raise-above _ _ _ (pre .1) (omega (arith, c .if1 .left, c .before .number .ensures))))
+    let start = c .before .before in
+    raise-below _ _ _ (start .pre .1) (omega (arith, c .if1 .taken, c .before .number .ensures))) (λ c.
+    let start = c .before .before in
+    omega (arith, start .pre .2)) (λ c.
+    let start = c .before .before in
+    omega (arith, start .pre .0, start .pre .2)) (λ c.
+    let start = c .before .before in
+    raise-above _ _ _ (start .pre .1) (omega (arith, c .if1 .left, c .before .number .ensures))))

@@ -9,7 +9,7 @@ use Rattle.parts.proofs.rename.rename_parts.Reads as rename-parts-reads
 
 pub rename-into-spec : {M : Type 1} → statement M
 rename-into-spec = tie.close (tie.spec (λ c κs.
-    let pre = c .before .before .before .before .pre in
-    (rename-one-room _ _ (pre .0), pre .1, pre .2)) (λ c. search needs) (λ c.
-    let rename-parts = c .before .before .rename-parts in
-    renames-one (rename-parts .ensures)))
+    let start = c .before .before .before .before in
+    (rename-one-room _ _ (start .pre .0), start .pre .1, start .pre .2)) (λ c. search needs) (λ c.
+    let at-rename-parts = c .before .before in
+    renames-one (at-rename-parts .rename-parts .ensures)))

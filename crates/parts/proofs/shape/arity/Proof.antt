@@ -1,9 +1,9 @@
 -- A call's argument count stands in its word; past the table it is 0.
-use mathlib.Core.Path.{_≡_, refl, sym, ap}
+use mathlib.Core.Path.{_≡_, sym, ap}
 use mathlib.Core.List.{List}
-use Prim.Native.Nat.{ℕ, _≤_, _/_, _^_, _<_}
+use Prim.Native.Nat.{ℕ, _≤_, _/_, _^_}
 use native.Mathlib.Omega.{arith}
-use lib.ListN.{length, getD, List·getD-eq-default}
+use lib.ListN.{length, List·getD-eq-default}
 use borrow.Author.Needs.{needs}
 use Rattle.syntax.specs.Tables.{arity}
 use Rattle.parts.proofs.shape.arity.Statement.{statement}

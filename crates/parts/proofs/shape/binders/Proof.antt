@@ -1,12 +1,12 @@
 -- A kind binds in the parts past its free ones.
-use mathlib.Core.Path.{_≡_, refl, sym, _∙_, ap}
+use mathlib.Core.Path.{_≡_, sym, _∙_, ap}
 use mathlib.Core.Bool.{Bool, true, false, cond}
 use Prim.Native.Nat.{ℕ, _≤_, _<_}
 use native.Mathlib.Omega.{arith}
 use borrow.Author.Needs.{needs}
 use borrow.Author.Tests.{lt-ltb, le-ltb}
 use lib.Dec.{ltb}
-use Rattle.syntax.specs.Kinds.{bindsOf, freeOf, bindersAt}
+use Rattle.syntax.specs.Kinds.{bindsOf, bindersAt}
 use Rattle.parts.specs.Shapes.{Shaping}
 use Rattle.parts.specs.declared.shape.Shape.{Shape}
 use Rattle.parts.proofs.shape.binders.Statement.{statement}

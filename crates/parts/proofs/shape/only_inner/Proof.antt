@@ -10,4 +10,5 @@ use Rattle.parts.proofs.shape.only_inner.Reads as reads
 use Rattle.parts.proofs.shape.only_inner.Lts as lts
 
 pub only-inner-spec : {M : Type 1} → statement M
-only-inner-spec = tie.close (tie.spec (λ c. sym (ap (λ (x : Bool). x && eqb (c .before .args .outer) 0) (eq-eqb _ _ (c .if1 .taken)))) (λ c. sym (ap (λ (x : Bool). x && eqb (c .before .args .outer) 0) (ne-eqb _ _ (c .if1 .left)))))
+only-inner-spec = tie.close (tie.spec (λ c. sym (ap (λ (x : Bool). x && eqb (c .before .args .outer) 0) (eq-eqb _ _ (c .if1 .taken))))
+    (λ c. sym (ap (λ (x : Bool). x && eqb (c .before .args .outer) 0) (ne-eqb _ _ (c .if1 .left)))))

@@ -25,4 +25,5 @@ module _ (k n : ℕ) (s : Shape) (h : Shaping k s) where
   all b = sym (ap (λ (x : Bool). cond x (s .free) n) b) ∙ by-shape
 
 pub outer-count-spec : {M : Type 1} → statement M
-outer-count-spec = tie.close (tie.spec (λ c κs. search needs) (λ c. some _ _ _ (c .before .shape-of .ensures) (c .if1 .taken)) (λ c. all _ _ _ (c .before .shape-of .ensures) (c .if1 .left)))
+outer-count-spec = tie.close (tie.spec (λ c κs. search needs) (λ c. some _ _ _ (c .before .shape-of .ensures) (c .if1 .taken))
+    (λ c. all _ _ _ (c .before .shape-of .ensures) (c .if1 .left)))

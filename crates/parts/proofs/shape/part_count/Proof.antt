@@ -1,15 +1,14 @@
 -- A call's parts are in the table, any other node's are decided by its kind.
-use mathlib.Core.Path.{_≡_, refl, sym, _∙_, ap, subst}
-use mathlib.Core.Bool.{Bool, cond}
+use mathlib.Core.Path.{_≡_, refl, sym, _∙_, ap}
+use mathlib.Core.Bool.{Bool}
 use mathlib.Core.List.{List}
-use Prim.Native.Nat.{ℕ, _≤_, _<_}
+use Prim.Native.Nat.{ℕ, _≤_}
 use native.Mathlib.Omega.{arith}
 use borrow.Author.Needs.{needs}
 use borrow.Author.Tests.{le-leb, lt-leb, leb-true, leb-false}
 use lib.Dec.{leb}
 use Rattle.syntax.specs.Words.{kindOf, numberOf}
 use Rattle.syntax.specs.Tables.{arity}
-use Rattle.parts.specs.Shapes.{Shaping}
 use Rattle.syntax.specs.Kinds.{partsOfKind}
 use Rattle.syntax.specs.Parts.{partCount}
 use Rattle.parts.proofs.Extents.{parts-le}

@@ -75,365 +75,441 @@ pub +substitute-parts-spec : {M : Type 1} → statement M
     substitute-parts-Inv-loop
     substitute-parts-μ-loop
     (λ c.
-    let pre = c .before .before .before .before .pre in
-    trace-begin _ _ (pre .1 .0))
+    let start = c .before .before .before .before in
+    trace-begin _ _ (start .pre .1 .0))
     (λ c.
-    let pre = c .before .before .before .before .before .before .pre in
-    omega (arith, march-inside _ _ (c .before .loop .inv .going), c .loop-test .taken, pre .1 .1 .0))
+    let start = c .before .before .before .before .before .before in
+    omega (arith, march-inside _ _ (c .before .loop .inv .going), c .loop-test .taken, start .pre .1 .1 .0))
     (λ c.
-    let loop = c .before .before .loop in
-    omega (arith, march-inside _ _ (loop .inv .going), c .before .loop-test .taken))
+    let at-loop = c .before .before in
+    omega (arith, march-inside _ _ (at-loop .loop .inv .going), c .before .loop-test .taken))
     (λ c κs. search needs)
     (λ c.
-    let loop = c .before .before .before .loop in
-    let pre = c .before .before .before .before .before .before .before .before .pre in
-    omega (arith, march-inside _ _ (loop .inv .going), pre .1 .1 .0))
+    let at-loop = c .before .before .before in
+    let start = at-loop .before .before .before .before .before in
+    omega (arith, march-inside _ _ (at-loop .loop .inv .going), start .pre .1 .1 .0))
     (λ c.
-    let loop-test = c .before .before .before .loop-test in
-    loop-test .taken)
+    let at-loop-test = c .before .before .before in
+    at-loop-test .loop-test .taken)
     (λ c κs. search needs)
     (λ c.
-    let loop = c .before .before .before .before .before .before .before .loop in
-    let loop-test = c .before .before .before .before .before .before .loop-test in
-    let good = c .before .before .before .before .before .before .before .before .before .before .before .before .good in
-    omega (arith, trace-room _ _ (loop .inv) (loop-test .taken), loop .inv .len, good))
+    let at-loop-test = c .before .before .before .before .before .before in
+    let at-loop = at-loop-test .before in
+    let start = at-loop .before .before .before .before .before in
+    omega (arith, trace-room _ _ (at-loop .loop .inv) (at-loop-test .loop-test .taken), at-loop .loop .inv .len, start .good))
     (λ c κs.
-    let loop = c .before .before .before .before .before .before .before .loop in
-    let loop-test = c .before .before .before .before .before .before .loop-test in
-    let kind = c .before .before .before .before .kind in
-    let if1 = c .before .before .before .if1 in
-    let number = c .before .before .number in
-    let pre = c .before .before .before .before .before .before .before .before .before .before .before .before .pre in
-    (
-    loop .inv .space .given,
-    value-room _ (loop .inv) (loop-test .taken) _ (kind .ensures) (if1 .taken) (sym (number .ensures) ∙ c .before .if2 .taken),
-    pre .1 .1 .1,
-    omega (arith, loop .inv .near, march-inside _ _ (loop .inv .going), pre .1 .1 .0),
+    let at-number = c .before .before in
+    let at-if1 = at-number .before in
+    let at-kind = at-if1 .before in
+    let at-loop-test = at-kind .before .before in
+    let at-loop = at-loop-test .before in
+    let start = at-loop .before .before .before .before .before in (
+      at-loop .loop .inv .space .given,
+      value-room _ (at-loop .loop .inv) (at-loop-test .loop-test .taken) _ (at-kind .kind .ensures) (at-if1 .if1 .taken) (sym
+          (at-number .number .ensures) ∙ c .before .if2 .taken),
+      start .pre .1 .1 .1,
+      omega (arith, at-loop .loop .inv .near, march-inside _ _ (at-loop .loop .inv .going), start .pre .1 .1 .0),
     ))
     (λ c.
-    let loop = c .before .before .before .before .before .before .before .before .before .before .loop in
-    let loop-test = c .before .before .before .before .before .before .before .before .before .loop-test in
-    let kind = c .before .before .before .before .before .before .before .kind in
-    let if1 = c .before .before .before .before .before .before .if1 in
-    let number = c .before .before .before .before .before .number in
-    let if2 = c .before .before .before .before .if2 in
-    let put-value = c .before .before .put-value in
-    let good = c .before .before .before .before .before .before .before .before .before .before .before .before .before .before .before .good in
-    omega (arith, value-room _ (loop .inv) (loop-test .taken) _ (kind .ensures) (if1 .taken) (sym (number .ensures) ∙ if2 .taken), put-value .ensures .size-is, loop .inv .len, good))
-    (λ c.
-    let loop = c .before .before .before .before .before .before .before .before .before .before .loop in
-    let loop-test = c .before .before .before .before .before .before .before .before .before .loop-test in
-    omega (arith, march-inside _ _ (loop .inv .going), loop-test .taken))
-    (λ c.
-    let loop = c .before .before .before .before .before .before .before .before .before .before .loop in
-    let loop-test = c .before .before .before .before .before .before .before .before .before .loop-test in
-    let kind = c .before .before .before .before .before .before .before .kind in
-    let if1 = c .before .before .before .before .before .before .if1 in
-    let number = c .before .before .before .before .before .number in
-    let if2 = c .before .before .before .before .if2 in
-    let put-value = c .before .before .put-value in
-    substitute-value _ (loop .inv) (loop-test .taken) _ (kind .ensures) (if1 .taken) _ _ (sym (number .ensures) ∙ if2 .taken) (put-value .kept .1 .1 .0) (put-value .ensures))
-    (λ c κs.
-    let loop = c .before .before .before .before .before .before .loop in
-    let loop-test = c .before .before .before .before .before .loop-test in
-    let kind = c .before .before .before .kind in
-    let if1 = c .before .before .if1 in
-    (variable-word _ _ (loop .inv) (loop-test .taken) _ (kind .ensures) (if1 .taken), (λ e. c .if2 .left (c .before .number .ensures ∙ e))))
-    (λ c.
-    let loop = c .before .before .before .before .before .before .before .loop in
-    let loop-test = c .before .before .before .before .before .before .loop-test in
-    let good = c .before .before .before .before .before .before .before .before .before .before .before .before .good in
-    omega (arith, trace-room _ _ (loop .inv) (loop-test .taken), loop .inv .len, good))
-    (λ c.
-    let loop = c .before .before .before .before .before .before .before .loop in
-    let loop-test = c .before .before .before .before .before .before .loop-test in
-    let good = c .before .before .before .before .before .before .before .before .before .before .before .before .good in
-    omega (arith, trace-room _ _ (loop .inv) (loop-test .taken), loop .inv .len, good))
-    (λ c.
-    let loop = c .before .before .before .before .before .before .before .loop in
-    let loop-test = c .before .before .before .before .before .before .loop-test in
-    omega (arith, trace-room _ _ (loop .inv) (loop-test .taken)))
-    (λ c.
-    let loop = c .before .before .before .before .before .before .before .loop in
-    let loop-test = c .before .before .before .before .before .before .loop-test in
-    let good = c .before .before .before .before .before .before .before .before .before .before .before .before .good in
-    omega (arith, trace-room _ _ (loop .inv) (loop-test .taken), loop .inv .len, good))
-    (λ c.
-    let loop = c .before .before .before .before .before .before .before .loop in
-    let loop-test = c .before .before .before .before .before .before .loop-test in
-    omega (arith, march-inside _ _ (loop .inv .going), loop-test .taken))
-    (λ c.
-    let loop = c .before .before .before .before .before .before .before .loop in
-    let loop-test = c .before .before .before .before .before .before .loop-test in
-    let kind = c .before .before .before .before .kind in
-    let if1 = c .before .before .before .if1 in
-    let number = c .before .before .number in
-    substitute-other _ (loop .inv) (loop-test .taken) _ (kind .ensures) (if1 .taken) _ (λ e. c .before .if2 .left (number .ensures ∙ e)) (c .lower-variable .ensures))
-    (λ c.
-    let loop = c .before .before .before .before .loop in
-    let loop-test = c .before .before .before .loop-test in
-    let good = c .before .before .before .before .before .before .before .before .before .good in
-    omega (arith, trace-room _ _ (loop .inv) (loop-test .taken), loop .inv .len, good))
-    (λ c.
-    let loop = c .before .before .before .before .loop in
-    let loop-test = c .before .before .before .loop-test in
-    let good = c .before .before .before .before .before .before .before .before .before .good in
-    omega (arith, trace-room _ _ (loop .inv) (loop-test .taken), loop .inv .len, good))
-    (λ c.
-    let loop = c .before .before .before .before .loop in
-    let loop-test = c .before .before .before .loop-test in
-    omega (arith, trace-room _ _ (loop .inv) (loop-test .taken)))
-    (λ c.
-    let loop = c .before .before .before .before .loop in
-    let loop-test = c .before .before .before .loop-test in
-    let good = c .before .before .before .before .before .before .before .before .before .good in
-    omega (arith, trace-room _ _ (loop .inv) (loop-test .taken), loop .inv .len, good))
-    (λ c κs. search needs)
-    (λ c κs. search needs)
-    (λ c.
-    let loop-test = c .before .before .before .before .before .before .loop-test in
-    loop-test .taken)
-    (λ c.
-    let loop = c .before .before .before .before .before .before .before .loop in
-    let part-count = c .before .before .part-count in
-    let pre = c .before .before .before .before .before .before .before .before .before .before .before .before .pre in
-    omega (arith, march-inside _ _ (loop .inv .going), part-count .ensures .1, pre .1 .1 .0))
-    (λ c.
-    let loop = c .before .before .before .before .before .before .before .loop in
-    let loop-test = c .before .before .before .before .before .before .loop-test in
-    omega (arith, march-inside _ _ (loop .inv .going), loop-test .taken))
-    (λ c.
-    let loop = c .before .before .before .before .before .before .before .loop in
-    let loop-test = c .before .before .before .before .before .before .loop-test in
-    let kind = c .before .before .before .before .kind in
-    let if1 = c .before .before .before .if1 in
-    let part-count = c .before .before .part-count in
-    trace-flat _ _ (loop .inv) (loop-test .taken) _ (kind .ensures) (if1 .left) _ _ (part-count .ensures .0) (c .before .outer-count .ensures) _ refl (c .if3 .taken))
-    (λ c κs. search needs)
-    (λ c.
-    let loop = c .before .before .before .before .before .before .before .before .before .loop in
-    let pre = c .before .before .before .before .before .before .before .before .before .before .before .before .before .before .pre in
-    omega (arith, loop .inv .near, march-inside _ _ (loop .inv .going), pre .1 .1 .0))
-    (λ c.
-    let loop = c .before .before .before .before .before .before .before .before .before .loop in
-    let loop-test = c .before .before .before .before .before .before .before .before .loop-test in
-    omega (arith, march-inside _ _ (loop .inv .going), loop-test .taken))
-    (λ c.
-    let loop = c .before .before .before .before .before .before .before .before .before .loop in
-    let loop-test = c .before .before .before .before .before .before .before .before .loop-test in
-    let kind = c .before .before .before .before .before .before .kind in
-    let if1 = c .before .before .before .before .before .if1 in
-    let part-count = c .before .before .before .before .part-count in
-    let outer-count = c .before .before .before .outer-count in
-    trace-only (loop .inv) (loop-test .taken) _ (kind .ensures) (if1 .left) _ _ (part-count .ensures .0) (outer-count .ensures) _ refl (sym (c .before .only-inner .ensures) ∙ c .if4 .taken))
-    (λ c.
-    let loop = c .before .before .before .before .before .before .before .before .before .loop in
-    let pre = c .before .before .before .before .before .before .before .before .before .before .before .before .before .before .pre in
-    omega (arith, march-inside _ _ (loop .inv .going), pre .1 .1 .0))
-    (λ c.
-    let loop = c .before .before .before .before .before .before .before .before .before .loop in
-    let loop-test = c .before .before .before .before .before .before .before .before .loop-test in
-    omega (arith, march-inside _ _ (loop .inv .going), loop-test .taken))
-    (λ c.
-    let loop = c .before .before .before .before .before .before .before .before .before .loop in
-    let loop-test = c .before .before .before .before .before .before .before .before .loop-test in
-    omega (arith, march-inside _ _ (loop .inv .going), loop-test .taken))
-    (λ c.
-    let loop = c .before .before .before .before .before .before .before .before .before .loop in
-    let loop-test = c .before .before .before .before .before .before .before .before .loop-test in
-    omega (arith, march-inside _ _ (loop .inv .going), loop-test .taken))
-    (λ c.
-    let loop = c .before .before .before .before .before .before .before .before .before .before .before .loop in
-    let loop-test = c .before .before .before .before .before .before .before .before .before .before .loop-test in
-    let good = c .before .before .before .before .before .before .before .before .before .before .before .before .before .before .before .before .good in
-    omega (arith, trace-room _ _ (loop .inv) (loop-test .taken), loop .inv .len, good))
-    (λ c κs.
-    let loop = c .before .before .before .before .before .before .before .before .before .before .before .loop in
-    let loop-test = c .before .before .before .before .before .before .before .before .before .before .loop-test in
-    let kind = c .before .before .before .before .before .before .before .before .kind in
-    let if1 = c .before .before .before .before .before .before .before .if1 in
-    let part-count = c .before .before .before .before .before .before .part-count in
-    let outer-count = c .before .before .before .before .before .outer-count in
-    let args = c .before .before .before .before .before .before .before .before .before .before .before .before .before .before .before .before .args in
-    let pre = c .before .before .before .before .before .before .before .before .before .before .before .before .before .before .before .before .pre in
-    let e = trace-enter _ _ (loop .inv) (loop-test .taken) _ (kind .ensures) (if1 .left) _ _ (part-count .ensures .0) (outer-count .ensures) _ refl in
-    (
-    omega (arith, from-length (args .body .now) (loop .i + 1), march-inside _ _ (loop .inv .going), loop-test .taken),
-    (outer-room e _ refl, (omega (arith, from-length (args .body .now) (loop .i + 1), e .near, march-inside _ _ (e .going), pre .1 .1 .0), pre .1 .1 .1)),
+    let at-put-value = c .before .before in
+    let at-if2 = at-put-value .before .before in
+    let at-number = at-if2 .before in
+    let at-if1 = at-number .before in
+    let at-kind = at-if1 .before in
+    let at-loop-test = at-kind .before .before in
+    let at-loop = at-loop-test .before in
+    let start = at-loop .before .before .before .before .before in
+    omega (
+      arith,
+      value-room _ (at-loop .loop .inv) (at-loop-test .loop-test .taken) _ (at-kind .kind .ensures) (at-if1 .if1 .taken) (sym
+          (at-number .number .ensures) ∙ at-if2 .if2 .taken),
+      at-put-value .put-value .ensures .size-is,
+      at-loop .loop .inv .len,
+      start .good,
     ))
     (λ c.
-    let loop = c .before .before .before .before .before .before .before .before .before .before .before .before .before .before .before .loop in
-    let loop-test = c .before .before .before .before .before .before .before .before .before .before .before .before .before .before .loop-test in
-    let kind = c .before .before .before .before .before .before .before .before .before .before .before .before .kind in
-    let if1 = c .before .before .before .before .before .before .before .before .before .before .before .if1 in
-    let part-count = c .before .before .before .before .before .before .before .before .before .before .part-count in
-    let outer-count = c .before .before .before .before .before .before .before .before .before .outer-count in
-    let substitute-parts = c .before .before .before .substitute-parts in
-    let pre = c .before .before .before .before .before .before .before .before .before .before .before .before .before .before .before .before .before .before .before .before .pre in
-    let w = substitute-within _ (loop .inv) (loop-test .taken) _ (kind .ensures) (if1 .left) _ _ (part-count .ensures .0) (outer-count .ensures) _ _ (substitute-parts .kept .1 .1 .1 .1 .0) (substitute-parts .ensures) in
-    omega (arith, march-inside _ _ (w .going), pre .1 .1 .0))
+    let at-loop-test = c .before .before .before .before .before .before .before .before .before in
+    let at-loop = at-loop-test .before in
+    omega (arith, march-inside _ _ (at-loop .loop .inv .going), at-loop-test .loop-test .taken))
     (λ c.
-    let loop = c .before .before .before .before .before .before .before .before .before .before .before .before .before .before .before .before .loop in
-    let loop-test = c .before .before .before .before .before .before .before .before .before .before .before .before .before .before .before .loop-test in
-    let kind = c .before .before .before .before .before .before .before .before .before .before .before .before .before .kind in
-    let if1 = c .before .before .before .before .before .before .before .before .before .before .before .before .if1 in
-    let part-count = c .before .before .before .before .before .before .before .before .before .before .before .part-count in
-    let outer-count = c .before .before .before .before .before .before .before .before .before .before .outer-count in
-    let substitute-parts = c .before .before .before .before .substitute-parts in
-    let good = c .before .before .before .before .before .before .before .before .before .before .before .before .before .before .before .before .before .before .before .before .before .good in
-    let w = substitute-within _ (loop .inv) (loop-test .taken) _ (kind .ensures) (if1 .left) _ _ (part-count .ensures .0) (outer-count .ensures) _ _ (substitute-parts .kept .1 .1 .1 .1 .0) (substitute-parts .ensures) in
-    omega (arith, inner-room w _ refl .room, w .len, good))
+    let at-put-value = c .before .before in
+    let at-if2 = at-put-value .before .before in
+    let at-number = at-if2 .before in
+    let at-if1 = at-number .before in
+    let at-kind = at-if1 .before in
+    let at-loop-test = at-kind .before .before in
+    let at-loop = at-loop-test .before in
+    substitute-value _ (at-loop .loop .inv) (at-loop-test .loop-test .taken) _ (at-kind .kind .ensures) (at-if1 .if1 .taken) _ _ (sym
+    (at-number .number .ensures) ∙ at-if2 .if2 .taken) (at-put-value .put-value .kept .1 .1 .0) (at-put-value .put-value .ensures))
+    (λ c κs.
+    let at-if1 = c .before .before in
+    let at-kind = at-if1 .before in
+    let at-loop-test = at-kind .before .before in
+    let at-loop = at-loop-test .before in (
+      variable-word _ _ (at-loop .loop .inv) (at-loop-test .loop-test .taken) _ (at-kind .kind .ensures) (at-if1 .if1 .taken),
+      (λ e. c .if2 .left (c .before .number .ensures ∙ e)),
+    ))
     (λ c.
-    let loop = c .before .before .before .before .before .before .before .before .before .before .before .before .before .before .before .before .before .loop in
-    let loop-test = c .before .before .before .before .before .before .before .before .before .before .before .before .before .before .before .before .loop-test in
-    let kind = c .before .before .before .before .before .before .before .before .before .before .before .before .before .before .kind in
-    let if1 = c .before .before .before .before .before .before .before .before .before .before .before .before .before .if1 in
-    let part-count = c .before .before .before .before .before .before .before .before .before .before .before .before .part-count in
-    let outer-count = c .before .before .before .before .before .before .before .before .before .before .before .outer-count in
-    outer-few _ _ (loop .inv) (loop-test .taken) _ (kind .ensures) (if1 .left) _ _ (part-count .ensures .0) (outer-count .ensures) _ refl)
+    let at-loop-test = c .before .before .before .before .before .before in
+    let at-loop = at-loop-test .before in
+    let start = at-loop .before .before .before .before .before in
+    omega (arith, trace-room _ _ (at-loop .loop .inv) (at-loop-test .loop-test .taken), at-loop .loop .inv .len, start .good))
     (λ c.
-    let loop = c .before .before .before .before .before .before .before .before .before .before .before .before .before .before .before .before .before .loop in
-    let pre = c .before .before .before .before .before .before .before .before .before .before .before .before .before .before .before .before .before .before .before .before .before .before .pre in
-    omega (arith, loop .inv .near, march-inside _ _ (loop .inv .going), pre .1 .1 .0))
+    let at-loop-test = c .before .before .before .before .before .before in
+    let at-loop = at-loop-test .before in
+    let start = at-loop .before .before .before .before .before in
+    omega (arith, trace-room _ _ (at-loop .loop .inv) (at-loop-test .loop-test .taken), at-loop .loop .inv .len, start .good))
     (λ c.
-    let loop = c .before .before .before .before .before .before .before .before .before .before .before .before .before .before .before .before .before .loop in
-    let loop-test = c .before .before .before .before .before .before .before .before .before .before .before .before .before .before .before .before .loop-test in
-    omega (arith, march-inside _ _ (loop .inv .going), loop-test .taken))
+    let at-loop-test = c .before .before .before .before .before .before in
+    let at-loop = at-loop-test .before in
+    omega (arith, trace-room _ _ (at-loop .loop .inv) (at-loop-test .loop-test .taken)))
     (λ c.
-    let loop = c .before .before .before .before .before .before .before .before .before .before .before .before .before .before .before .before .before .loop in
-    let loop-test = c .before .before .before .before .before .before .before .before .before .before .before .before .before .before .before .before .loop-test in
-    let kind = c .before .before .before .before .before .before .before .before .before .before .before .before .before .before .kind in
-    let if1 = c .before .before .before .before .before .before .before .before .before .before .before .before .before .if1 in
-    let part-count = c .before .before .before .before .before .before .before .before .before .before .before .before .part-count in
-    let outer-count = c .before .before .before .before .before .before .before .before .before .before .before .outer-count in
-    let substitute-parts = c .before .before .before .before .before .substitute-parts in
-    let w = substitute-within _ (loop .inv) (loop-test .taken) _ (kind .ensures) (if1 .left) _ _ (part-count .ensures .0) (outer-count .ensures) _ _ (substitute-parts .kept .1 .1 .1 .1 .0) (substitute-parts .ensures) in
+    let at-loop-test = c .before .before .before .before .before .before in
+    let at-loop = at-loop-test .before in
+    let start = at-loop .before .before .before .before .before in
+    omega (arith, trace-room _ _ (at-loop .loop .inv) (at-loop-test .loop-test .taken), at-loop .loop .inv .len, start .good))
+    (λ c.
+    let at-loop-test = c .before .before .before .before .before .before in
+    let at-loop = at-loop-test .before in
+    omega (arith, march-inside _ _ (at-loop .loop .inv .going), at-loop-test .loop-test .taken))
+    (λ c.
+    let at-number = c .before .before in
+    let at-if1 = at-number .before in
+    let at-kind = at-if1 .before in
+    let at-loop-test = at-kind .before .before in
+    let at-loop = at-loop-test .before in
+    substitute-other _ (at-loop .loop .inv) (at-loop-test .loop-test .taken) _ (at-kind .kind .ensures) (at-if1 .if1 .taken) _
+    (λ e. c .before .if2 .left (at-number .number .ensures ∙ e)) (c .lower-variable .ensures))
+    (λ c.
+    let at-loop-test = c .before .before .before in
+    let at-loop = at-loop-test .before in
+    let start = at-loop .before .before .before .before .before in
+    omega (arith, trace-room _ _ (at-loop .loop .inv) (at-loop-test .loop-test .taken), at-loop .loop .inv .len, start .good))
+    (λ c.
+    let at-loop-test = c .before .before .before in
+    let at-loop = at-loop-test .before in
+    let start = at-loop .before .before .before .before .before in
+    omega (arith, trace-room _ _ (at-loop .loop .inv) (at-loop-test .loop-test .taken), at-loop .loop .inv .len, start .good))
+    (λ c.
+    let at-loop-test = c .before .before .before in
+    let at-loop = at-loop-test .before in
+    omega (arith, trace-room _ _ (at-loop .loop .inv) (at-loop-test .loop-test .taken)))
+    (λ c.
+    let at-loop-test = c .before .before .before in
+    let at-loop = at-loop-test .before in
+    let start = at-loop .before .before .before .before .before in
+    omega (arith, trace-room _ _ (at-loop .loop .inv) (at-loop-test .loop-test .taken), at-loop .loop .inv .len, start .good))
+    (λ c κs. search needs)
+    (λ c κs. search needs)
+    (λ c.
+    let at-loop-test = c .before .before .before .before .before .before in
+    at-loop-test .loop-test .taken)
+    (λ c.
+    let at-part-count = c .before .before in
+    let at-loop = at-part-count .before .before .before .before .before in
+    let start = at-loop .before .before .before .before .before in
+    omega (arith, march-inside _ _ (at-loop .loop .inv .going), at-part-count .part-count .ensures .1, start .pre .1 .1 .0))
+    (λ c.
+    let at-loop-test = c .before .before .before .before .before .before in
+    let at-loop = at-loop-test .before in
+    omega (arith, march-inside _ _ (at-loop .loop .inv .going), at-loop-test .loop-test .taken))
+    (λ c.
+    let at-part-count = c .before .before in
+    let at-if1 = at-part-count .before in
+    let at-kind = at-if1 .before in
+    let at-loop-test = at-kind .before .before in
+    let at-loop = at-loop-test .before in
+    trace-flat _ _ (at-loop .loop .inv) (at-loop-test .loop-test .taken) _ (at-kind .kind .ensures) (at-if1 .if1 .left) _ _
+    (at-part-count .part-count .ensures .0) (c .before .outer-count .ensures) _ refl (c .if3 .taken))
+    (λ c κs. search needs)
+    (λ c.
+    let at-loop = c .before .before .before .before .before .before .before .before .before in
+    let start = at-loop .before .before .before .before .before in
+    omega (arith, at-loop .loop .inv .near, march-inside _ _ (at-loop .loop .inv .going), start .pre .1 .1 .0))
+    (λ c.
+    let at-loop-test = c .before .before .before .before .before .before .before .before in
+    let at-loop = at-loop-test .before in
+    omega (arith, march-inside _ _ (at-loop .loop .inv .going), at-loop-test .loop-test .taken))
+    (λ c.
+    let at-outer-count = c .before .before .before in
+    let at-part-count = at-outer-count .before in
+    let at-if1 = at-part-count .before in
+    let at-kind = at-if1 .before in
+    let at-loop-test = at-kind .before .before in
+    let at-loop = at-loop-test .before in
+    trace-only (at-loop .loop .inv) (at-loop-test .loop-test .taken) _ (at-kind .kind .ensures) (at-if1 .if1 .left) _ _
+    (at-part-count .part-count .ensures .0) (at-outer-count .outer-count .ensures) _ refl (sym
+    (c .before .only-inner .ensures) ∙ c .if4 .taken))
+    (λ c.
+    let at-loop = c .before .before .before .before .before .before .before .before .before in
+    let start = at-loop .before .before .before .before .before in
+    omega (arith, march-inside _ _ (at-loop .loop .inv .going), start .pre .1 .1 .0))
+    (λ c.
+    let at-loop-test = c .before .before .before .before .before .before .before .before in
+    let at-loop = at-loop-test .before in
+    omega (arith, march-inside _ _ (at-loop .loop .inv .going), at-loop-test .loop-test .taken))
+    (λ c.
+    let at-loop-test = c .before .before .before .before .before .before .before .before in
+    let at-loop = at-loop-test .before in
+    omega (arith, march-inside _ _ (at-loop .loop .inv .going), at-loop-test .loop-test .taken))
+    (λ c.
+    let at-loop-test = c .before .before .before .before .before .before .before .before in
+    let at-loop = at-loop-test .before in
+    omega (arith, march-inside _ _ (at-loop .loop .inv .going), at-loop-test .loop-test .taken))
+    (λ c.
+    let at-loop-test = c .before .before .before .before .before .before .before .before .before .before in
+    let at-loop = at-loop-test .before in
+    let start = at-loop .before .before .before .before .before in
+    omega (arith, trace-room _ _ (at-loop .loop .inv) (at-loop-test .loop-test .taken), at-loop .loop .inv .len, start .good))
+    (λ c κs.
+    let at-outer-count = c .before .before .before .before .before in
+    let at-part-count = at-outer-count .before in
+    let at-if1 = at-part-count .before in
+    let at-kind = at-if1 .before in
+    let at-loop-test = at-kind .before .before in
+    let at-loop = at-loop-test .before in
+    let start = at-loop .before .before .before .before .before in
+    let e = trace-enter _ _ (at-loop .loop .inv) (at-loop-test .loop-test .taken) _ (at-kind .kind .ensures) (at-if1 .if1 .left) _ _
+    (at-part-count .part-count .ensures .0) (at-outer-count .outer-count .ensures) _ refl in (
+      omega (
+        arith,
+        from-length (start .args .body .now) (at-loop .loop .i + 1),
+        march-inside _ _ (at-loop .loop .inv .going),
+        at-loop-test .loop-test .taken,
+      ),
+      (
+        outer-room e _ refl,
+        (
+          omega (
+            arith,
+            from-length (start .args .body .now) (at-loop .loop .i + 1),
+            e .near,
+            march-inside _ _ (e .going),
+            start .pre .1 .1 .0,
+          ),
+          start .pre .1 .1 .1,
+        ),
+      ),
+    ))
+    (λ c.
+    let at-substitute-parts = c .before .before .before in
+    let at-outer-count = at-substitute-parts .before .before .before .before .before .before in
+    let at-part-count = at-outer-count .before in
+    let at-if1 = at-part-count .before in
+    let at-kind = at-if1 .before in
+    let at-loop-test = at-kind .before .before in
+    let at-loop = at-loop-test .before in
+    let start = at-loop .before .before .before .before .before in
+    let w = substitute-within _ (at-loop .loop .inv) (at-loop-test .loop-test .taken) _ (at-kind .kind .ensures) (at-if1 .if1 .left) _ _
+    (at-part-count .part-count .ensures .0) (at-outer-count .outer-count .ensures) _ _
+    (at-substitute-parts .substitute-parts .kept .1 .1 .1 .1 .0) (at-substitute-parts .substitute-parts .ensures) in
+    omega (arith, march-inside _ _ (w .going), start .pre .1 .1 .0))
+    (λ c.
+    let at-substitute-parts = c .before .before .before .before in
+    let at-outer-count = at-substitute-parts .before .before .before .before .before .before in
+    let at-part-count = at-outer-count .before in
+    let at-if1 = at-part-count .before in
+    let at-kind = at-if1 .before in
+    let at-loop-test = at-kind .before .before in
+    let at-loop = at-loop-test .before in
+    let start = at-loop .before .before .before .before .before in
+    let w = substitute-within _ (at-loop .loop .inv) (at-loop-test .loop-test .taken) _ (at-kind .kind .ensures) (at-if1 .if1 .left) _ _
+    (at-part-count .part-count .ensures .0) (at-outer-count .outer-count .ensures) _ _
+    (at-substitute-parts .substitute-parts .kept .1 .1 .1 .1 .0) (at-substitute-parts .substitute-parts .ensures) in
+    omega (arith, inner-room w _ refl .room, w .len, start .good))
+    (λ c.
+    let at-outer-count = c .before .before .before .before .before .before .before .before .before .before .before in
+    let at-part-count = at-outer-count .before in
+    let at-if1 = at-part-count .before in
+    let at-kind = at-if1 .before in
+    let at-loop-test = at-kind .before .before in
+    let at-loop = at-loop-test .before in
+    outer-few _ _ (at-loop .loop .inv) (at-loop-test .loop-test .taken) _ (at-kind .kind .ensures) (at-if1 .if1 .left) _ _
+    (at-part-count .part-count .ensures .0) (at-outer-count .outer-count .ensures) _ refl)
+    (λ c.
+    let at-loop = c .before .before .before .before .before .before .before .before .before .before .before .before .before .before .before
+    .before .before in
+    let start = at-loop .before .before .before .before .before in
+    omega (arith, at-loop .loop .inv .near, march-inside _ _ (at-loop .loop .inv .going), start .pre .1 .1 .0))
+    (λ c.
+    let at-loop-test = c .before .before .before .before .before .before .before .before .before .before .before .before .before .before .before
+    .before in
+    let at-loop = at-loop-test .before in
+    omega (arith, march-inside _ _ (at-loop .loop .inv .going), at-loop-test .loop-test .taken))
+    (λ c.
+    let at-substitute-parts = c .before .before .before .before .before in
+    let at-outer-count = at-substitute-parts .before .before .before .before .before .before in
+    let at-part-count = at-outer-count .before in
+    let at-if1 = at-part-count .before in
+    let at-kind = at-if1 .before in
+    let at-loop-test = at-kind .before .before in
+    let at-loop = at-loop-test .before in
+    let w = substitute-within _ (at-loop .loop .inv) (at-loop-test .loop-test .taken) _ (at-kind .kind .ensures) (at-if1 .if1 .left) _ _
+    (at-part-count .part-count .ensures .0) (at-outer-count .outer-count .ensures) _ _
+    (at-substitute-parts .substitute-parts .kept .1 .1 .1 .1 .0) (at-substitute-parts .substitute-parts .ensures) in
     trace-last w (omega (arith, c .if5 .taken)))
     (λ c.
-    let loop = c .before .before .before .before .before .before .before .before .before .before .before .before .before .before .before .before .before .loop in
-    let loop-test = c .before .before .before .before .before .before .before .before .before .before .before .before .before .before .before .before .loop-test in
-    let kind = c .before .before .before .before .before .before .before .before .before .before .before .before .before .before .kind in
-    let if1 = c .before .before .before .before .before .before .before .before .before .before .before .before .before .if1 in
-    let part-count = c .before .before .before .before .before .before .before .before .before .before .before .before .part-count in
-    let outer-count = c .before .before .before .before .before .before .before .before .before .before .before .outer-count in
-    let substitute-parts = c .before .before .before .before .before .substitute-parts in
-    let pre = c .before .before .before .before .before .before .before .before .before .before .before .before .before .before .before .before .before .before .before .before .before .before .pre in
-    let w = substitute-within _ (loop .inv) (loop-test .taken) _ (kind .ensures) (if1 .left) _ _ (part-count .ensures .0) (outer-count .ensures) _ _ (substitute-parts .kept .1 .1 .1 .1 .0) (substitute-parts .ensures) in
-    omega (arith, march-inside _ _ (w .going), pre .1 .1 .0))
+    let at-substitute-parts = c .before .before .before .before .before in
+    let at-outer-count = at-substitute-parts .before .before .before .before .before .before in
+    let at-part-count = at-outer-count .before in
+    let at-if1 = at-part-count .before in
+    let at-kind = at-if1 .before in
+    let at-loop-test = at-kind .before .before in
+    let at-loop = at-loop-test .before in
+    let start = at-loop .before .before .before .before .before in
+    let w = substitute-within _ (at-loop .loop .inv) (at-loop-test .loop-test .taken) _ (at-kind .kind .ensures) (at-if1 .if1 .left) _ _
+    (at-part-count .part-count .ensures .0) (at-outer-count .outer-count .ensures) _ _
+    (at-substitute-parts .substitute-parts .kept .1 .1 .1 .1 .0) (at-substitute-parts .substitute-parts .ensures) in
+    omega (arith, march-inside _ _ (w .going), start .pre .1 .1 .0))
     (λ c.
-    let loop = c .before .before .before .before .before .before .before .before .before .before .before .before .before .before .before .before .before .loop in
-    let loop-test = c .before .before .before .before .before .before .before .before .before .before .before .before .before .before .before .before .loop-test in
-    let kind = c .before .before .before .before .before .before .before .before .before .before .before .before .before .before .kind in
-    let if1 = c .before .before .before .before .before .before .before .before .before .before .before .before .before .if1 in
-    let part-count = c .before .before .before .before .before .before .before .before .before .before .before .before .part-count in
-    let outer-count = c .before .before .before .before .before .before .before .before .before .before .before .outer-count in
-    let substitute-parts = c .before .before .before .before .before .substitute-parts in
-    let w = substitute-within _ (loop .inv) (loop-test .taken) _ (kind .ensures) (if1 .left) _ _ (part-count .ensures .0) (outer-count .ensures) _ _ (substitute-parts .kept .1 .1 .1 .1 .0) (substitute-parts .ensures) in
+    let at-substitute-parts = c .before .before .before .before .before in
+    let at-outer-count = at-substitute-parts .before .before .before .before .before .before in
+    let at-part-count = at-outer-count .before in
+    let at-if1 = at-part-count .before in
+    let at-kind = at-if1 .before in
+    let at-loop-test = at-kind .before .before in
+    let at-loop = at-loop-test .before in
+    let w = substitute-within _ (at-loop .loop .inv) (at-loop-test .loop-test .taken) _ (at-kind .kind .ensures) (at-if1 .if1 .left) _ _
+    (at-part-count .part-count .ensures .0) (at-outer-count .outer-count .ensures) _ _
+    (at-substitute-parts .substitute-parts .kept .1 .1 .1 .1 .0) (at-substitute-parts .substitute-parts .ensures) in
     omega (arith, march-inside _ _ (w .going)))
     (λ c.
-    let loop = c .before .before .before .before .before .before .before .before .before .before .before .before .before .before .before .before .before .loop in
-    let loop-test = c .before .before .before .before .before .before .before .before .before .before .before .before .before .before .before .before .loop-test in
-    let kind = c .before .before .before .before .before .before .before .before .before .before .before .before .before .before .kind in
-    let if1 = c .before .before .before .before .before .before .before .before .before .before .before .before .before .if1 in
-    let part-count = c .before .before .before .before .before .before .before .before .before .before .before .before .part-count in
-    let outer-count = c .before .before .before .before .before .before .before .before .before .before .before .outer-count in
-    let substitute-parts = c .before .before .before .before .before .substitute-parts in
-    let w = substitute-within _ (loop .inv) (loop-test .taken) _ (kind .ensures) (if1 .left) _ _ (part-count .ensures .0) (outer-count .ensures) _ _ (substitute-parts .kept .1 .1 .1 .1 .0) (substitute-parts .ensures) in
+    let at-substitute-parts = c .before .before .before .before .before in
+    let at-outer-count = at-substitute-parts .before .before .before .before .before .before in
+    let at-part-count = at-outer-count .before in
+    let at-if1 = at-part-count .before in
+    let at-kind = at-if1 .before in
+    let at-loop-test = at-kind .before .before in
+    let at-loop = at-loop-test .before in
+    let w = substitute-within _ (at-loop .loop .inv) (at-loop-test .loop-test .taken) _ (at-kind .kind .ensures) (at-if1 .if1 .left) _ _
+    (at-part-count .part-count .ensures .0) (at-outer-count .outer-count .ensures) _ _
+    (at-substitute-parts .substitute-parts .kept .1 .1 .1 .1 .0) (at-substitute-parts .substitute-parts .ensures) in
     omega (arith, march-inside _ _ (w .going)))
     (λ c.
-    let loop = c .before .before .before .before .before .before .before .before .before .before .before .before .before .before .before .before .before .loop in
-    let loop-test = c .before .before .before .before .before .before .before .before .before .before .before .before .before .before .before .before .loop-test in
-    let kind = c .before .before .before .before .before .before .before .before .before .before .before .before .before .before .kind in
-    let if1 = c .before .before .before .before .before .before .before .before .before .before .before .before .before .if1 in
-    let part-count = c .before .before .before .before .before .before .before .before .before .before .before .before .part-count in
-    let outer-count = c .before .before .before .before .before .before .before .before .before .before .before .outer-count in
-    let substitute-parts = c .before .before .before .before .before .substitute-parts in
-    let w = substitute-within _ (loop .inv) (loop-test .taken) _ (kind .ensures) (if1 .left) _ _ (part-count .ensures .0) (outer-count .ensures) _ _ (substitute-parts .kept .1 .1 .1 .1 .0) (substitute-parts .ensures) in
+    let at-substitute-parts = c .before .before .before .before .before in
+    let at-outer-count = at-substitute-parts .before .before .before .before .before .before in
+    let at-part-count = at-outer-count .before in
+    let at-if1 = at-part-count .before in
+    let at-kind = at-if1 .before in
+    let at-loop-test = at-kind .before .before in
+    let at-loop = at-loop-test .before in
+    let w = substitute-within _ (at-loop .loop .inv) (at-loop-test .loop-test .taken) _ (at-kind .kind .ensures) (at-if1 .if1 .left) _ _
+    (at-part-count .part-count .ensures .0) (at-outer-count .outer-count .ensures) _ _
+    (at-substitute-parts .substitute-parts .kept .1 .1 .1 .1 .0) (at-substitute-parts .substitute-parts .ensures) in
     omega (arith, march-inside _ _ (w .going)))
     (λ c.
-    let loop = c .before .before .before .before .before .before .before .before .before .before .before .before .before .before .before .before .before .before .loop in
-    let loop-test = c .before .before .before .before .before .before .before .before .before .before .before .before .before .before .before .before .before .loop-test in
-    let kind = c .before .before .before .before .before .before .before .before .before .before .before .before .before .before .before .kind in
-    let if1 = c .before .before .before .before .before .before .before .before .before .before .before .before .before .before .if1 in
-    let part-count = c .before .before .before .before .before .before .before .before .before .before .before .before .before .part-count in
-    let outer-count = c .before .before .before .before .before .before .before .before .before .before .before .before .outer-count in
-    outer-few _ _ (loop .inv) (loop-test .taken) _ (kind .ensures) (if1 .left) _ _ (part-count .ensures .0) (outer-count .ensures) _ refl)
+    let at-outer-count = c .before .before .before .before .before .before .before .before .before .before .before .before in
+    let at-part-count = at-outer-count .before in
+    let at-if1 = at-part-count .before in
+    let at-kind = at-if1 .before in
+    let at-loop-test = at-kind .before .before in
+    let at-loop = at-loop-test .before in
+    outer-few _ _ (at-loop .loop .inv) (at-loop-test .loop-test .taken) _ (at-kind .kind .ensures) (at-if1 .if1 .left) _ _
+    (at-part-count .part-count .ensures .0) (at-outer-count .outer-count .ensures) _ refl)
     (λ c.
-    let loop = c .before .before .before .before .before .before .before .before .before .before .before .before .before .before .before .before .before .before .before .loop in
-    let loop-test = c .before .before .before .before .before .before .before .before .before .before .before .before .before .before .before .before .before .before .loop-test in
-    let kind = c .before .before .before .before .before .before .before .before .before .before .before .before .before .before .before .before .kind in
-    let if1 = c .before .before .before .before .before .before .before .before .before .before .before .before .before .before .before .if1 in
-    let part-count = c .before .before .before .before .before .before .before .before .before .before .before .before .before .before .part-count in
-    let outer-count = c .before .before .before .before .before .before .before .before .before .before .before .before .before .outer-count in
-    let substitute-parts = c .before .before .before .before .before .before .before .substitute-parts in
-    let good = c .before .before .before .before .before .before .before .before .before .before .before .before .before .before .before .before .before .before .before .before .before .before .before .before .good in
-    let w = substitute-within _ (loop .inv) (loop-test .taken) _ (kind .ensures) (if1 .left) _ _ (part-count .ensures .0) (outer-count .ensures) _ _ (substitute-parts .kept .1 .1 .1 .1 .0) (substitute-parts .ensures) in
-    omega (arith, inner-room w _ refl .room, w .len, good))
+    let at-substitute-parts = c .before .before .before .before .before .before .before in
+    let at-outer-count = at-substitute-parts .before .before .before .before .before .before in
+    let at-part-count = at-outer-count .before in
+    let at-if1 = at-part-count .before in
+    let at-kind = at-if1 .before in
+    let at-loop-test = at-kind .before .before in
+    let at-loop = at-loop-test .before in
+    let start = at-loop .before .before .before .before .before in
+    let w = substitute-within _ (at-loop .loop .inv) (at-loop-test .loop-test .taken) _ (at-kind .kind .ensures) (at-if1 .if1 .left) _ _
+    (at-part-count .part-count .ensures .0) (at-outer-count .outer-count .ensures) _ _
+    (at-substitute-parts .substitute-parts .kept .1 .1 .1 .1 .0) (at-substitute-parts .substitute-parts .ensures) in
+    omega (arith, inner-room w _ refl .room, w .len, start .good))
     (λ c.
-    let loop = c .before .before .before .before .before .before .before .before .before .before .before .before .before .before .before .before .before .before .before .loop in
-    let pre = c .before .before .before .before .before .before .before .before .before .before .before .before .before .before .before .before .before .before .before .before .before .before .before .before .pre in
-    omega (arith, loop .inv .near, march-inside _ _ (loop .inv .going), pre .1 .1 .0))
+    let at-loop = c .before .before .before .before .before .before .before .before .before .before .before .before .before .before .before
+    .before .before .before .before in
+    let start = at-loop .before .before .before .before .before in
+    omega (arith, at-loop .loop .inv .near, march-inside _ _ (at-loop .loop .inv .going), start .pre .1 .1 .0))
     (λ c κs.
-    let loop = c .before .before .before .before .before .before .before .before .before .before .before .before .before .before .before .before .before .before .before .loop in
-    let loop-test = c .before .before .before .before .before .before .before .before .before .before .before .before .before .before .before .before .before .before .loop-test in
-    let kind = c .before .before .before .before .before .before .before .before .before .before .before .before .before .before .before .before .kind in
-    let if1 = c .before .before .before .before .before .before .before .before .before .before .before .before .before .before .before .if1 in
-    let part-count = c .before .before .before .before .before .before .before .before .before .before .before .before .before .before .part-count in
-    let outer-count = c .before .before .before .before .before .before .before .before .before .before .before .before .before .outer-count in
-    let substitute-parts = c .before .before .before .before .before .before .before .substitute-parts in
-    let args = c .before .before .before .before .before .before .before .before .before .before .before .before .before .before .before .before .before .before .before .before .before .before .before .before .args in
-    let pre = c .before .before .before .before .before .before .before .before .before .before .before .before .before .before .before .before .before .before .before .before .before .before .before .before .pre in
-    let w = substitute-within _ (loop .inv) (loop-test .taken) _ (kind .ensures) (if1 .left) _ _ (part-count .ensures .0) (outer-count .ensures) _ _ (substitute-parts .kept .1 .1 .1 .1 .0) (substitute-parts .ensures) in
-    (
-    omega (arith, from-length (args .body .now) (loop .i + 1 + substitute-parts .result .read), march-inside _ _ (w .going), loop-test .taken),
-    (
-    inner-room w _ refl,
-    (omega (arith, from-length (args .body .now) (loop .i + 1 + substitute-parts .result .read), w .near, march-inside _ _ (w .going), pre .1 .1 .0), pre .1 .1 .1),
-    ),
+    let at-substitute-parts = c .before .before .before .before .before .before .before in
+    let at-outer-count = at-substitute-parts .before .before .before .before .before .before in
+    let at-part-count = at-outer-count .before in
+    let at-if1 = at-part-count .before in
+    let at-kind = at-if1 .before in
+    let at-loop-test = at-kind .before .before in
+    let at-loop = at-loop-test .before in
+    let start = at-loop .before .before .before .before .before in
+    let w = substitute-within _ (at-loop .loop .inv) (at-loop-test .loop-test .taken) _ (at-kind .kind .ensures) (at-if1 .if1 .left) _ _
+    (at-part-count .part-count .ensures .0) (at-outer-count .outer-count .ensures) _ _
+    (at-substitute-parts .substitute-parts .kept .1 .1 .1 .1 .0) (at-substitute-parts .substitute-parts .ensures) in (
+      omega (
+        arith,
+        from-length (start .args .body .now) (at-loop .loop .i + 1 + at-substitute-parts .substitute-parts .result .read),
+        march-inside _ _ (w .going),
+        at-loop-test .loop-test .taken,
+      ),
+      (
+        inner-room w _ refl,
+        (
+          omega (
+            arith,
+            from-length (start .args .body .now) (at-loop .loop .i + 1 + at-substitute-parts .substitute-parts .result .read),
+            w .near,
+            march-inside _ _ (w .going),
+            start .pre .1 .1 .0,
+          ),
+          start .pre .1 .1 .1,
+        ),
+      ),
     ))
     (λ c.
-    let loop = c .before .before .before .before .before .before .before .before .before .before .before .before .before .before .before .before .before .before .before .before .before .before .before .loop in
-    let loop-test = c .before .before .before .before .before .before .before .before .before .before .before .before .before .before .before .before .before .before .before .before .before .before .loop-test in
-    let kind = c .before .before .before .before .before .before .before .before .before .before .before .before .before .before .before .before .before .before .before .before .kind in
-    let if1 = c .before .before .before .before .before .before .before .before .before .before .before .before .before .before .before .before .before .before .before .if1 in
-    let part-count = c .before .before .before .before .before .before .before .before .before .before .before .before .before .before .before .before .before .before .part-count in
-    let outer-count = c .before .before .before .before .before .before .before .before .before .before .before .before .before .before .before .before .before .outer-count in
-    let substitute-parts = c .before .before .before .before .before .before .before .before .before .before .before .substitute-parts in
-    let substitute-parts2 = c .before .before .before .substitute-parts2 in
-    let pre = c .before .before .before .before .before .before .before .before .before .before .before .before .before .before .before .before .before .before .before .before .before .before .before .before .before .before .before .before .pre in
-    let w = substitute-within _ (loop .inv) (loop-test .taken) _ (kind .ensures) (if1 .left) _ _ (part-count .ensures .0) (outer-count .ensures) _ _ (substitute-parts .kept .1 .1 .1 .1 .0) (substitute-parts .ensures) in
-    let t = trace-inner w _ _ _ _ (loop .owed - 1) refl refl (substitute-parts2 .kept .1 .1 .1 .1 .0) (substitute-parts2 .ensures) in
-    omega (arith, march-inside _ _ (t .going), pre .1 .1 .0))
+    let at-substitute-parts2 = c .before .before .before in
+    let at-substitute-parts = at-substitute-parts2 .before .before .before .before .before .before .before .before in
+    let at-outer-count = at-substitute-parts .before .before .before .before .before .before in
+    let at-part-count = at-outer-count .before in
+    let at-if1 = at-part-count .before in
+    let at-kind = at-if1 .before in
+    let at-loop-test = at-kind .before .before in
+    let at-loop = at-loop-test .before in
+    let start = at-loop .before .before .before .before .before in
+    let w = substitute-within _ (at-loop .loop .inv) (at-loop-test .loop-test .taken) _ (at-kind .kind .ensures) (at-if1 .if1 .left) _ _
+    (at-part-count .part-count .ensures .0) (at-outer-count .outer-count .ensures) _ _
+    (at-substitute-parts .substitute-parts .kept .1 .1 .1 .1 .0) (at-substitute-parts .substitute-parts .ensures) in
+    let t = trace-inner w _ _ _ _ (at-loop .loop .owed - 1) refl refl (at-substitute-parts2 .substitute-parts2 .kept .1 .1 .1 .1 .0)
+    (at-substitute-parts2 .substitute-parts2 .ensures) in
+    omega (arith, march-inside _ _ (t .going), start .pre .1 .1 .0))
     (λ c.
-    let loop = c .before .before .before .before .before .before .before .before .before .before .before .before .before .before .before .before .before .before .before .before .before .before .before .before .loop in
-    let loop-test = c .before .before .before .before .before .before .before .before .before .before .before .before .before .before .before .before .before .before .before .before .before .before .before .loop-test in
-    let kind = c .before .before .before .before .before .before .before .before .before .before .before .before .before .before .before .before .before .before .before .before .before .kind in
-    let if1 = c .before .before .before .before .before .before .before .before .before .before .before .before .before .before .before .before .before .before .before .before .if1 in
-    let part-count = c .before .before .before .before .before .before .before .before .before .before .before .before .before .before .before .before .before .before .before .part-count in
-    let outer-count = c .before .before .before .before .before .before .before .before .before .before .before .before .before .before .before .before .before .before .outer-count in
-    let substitute-parts = c .before .before .before .before .before .before .before .before .before .before .before .before .substitute-parts in
-    let substitute-parts2 = c .before .before .before .before .substitute-parts2 in
-    let good = c .before .before .before .before .before .before .before .before .before .before .before .before .before .before .before .before .before .before .before .before .before .before .before .before .before .before .before .before .before .good in
-    let w = substitute-within _ (loop .inv) (loop-test .taken) _ (kind .ensures) (if1 .left) _ _ (part-count .ensures .0) (outer-count .ensures) _ _ (substitute-parts .kept .1 .1 .1 .1 .0) (substitute-parts .ensures) in
-    let t = trace-inner w _ _ _ _ (loop .owed - 1) refl refl (substitute-parts2 .kept .1 .1 .1 .1 .0) (substitute-parts2 .ensures) in
-    omega (arith, trace-inside _ _ t, t .len, good))
+    let at-substitute-parts2 = c .before .before .before .before in
+    let at-substitute-parts = at-substitute-parts2 .before .before .before .before .before .before .before .before in
+    let at-outer-count = at-substitute-parts .before .before .before .before .before .before in
+    let at-part-count = at-outer-count .before in
+    let at-if1 = at-part-count .before in
+    let at-kind = at-if1 .before in
+    let at-loop-test = at-kind .before .before in
+    let at-loop = at-loop-test .before in
+    let start = at-loop .before .before .before .before .before in
+    let w = substitute-within _ (at-loop .loop .inv) (at-loop-test .loop-test .taken) _ (at-kind .kind .ensures) (at-if1 .if1 .left) _ _
+    (at-part-count .part-count .ensures .0) (at-outer-count .outer-count .ensures) _ _
+    (at-substitute-parts .substitute-parts .kept .1 .1 .1 .1 .0) (at-substitute-parts .substitute-parts .ensures) in
+    let t = trace-inner w _ _ _ _ (at-loop .loop .owed - 1) refl refl (at-substitute-parts2 .substitute-parts2 .kept .1 .1 .1 .1 .0)
+    (at-substitute-parts2 .substitute-parts2 .ensures) in
+    omega (arith, trace-inside _ _ t, t .len, start .good))
     (λ c.
-    let loop-test = c .before .before .before .before .before .before .before .before .before .before .before .before .before .before .before .before .before .before .before .before .before .before .before .loop-test in
-    loop-test .taken)
+    let at-loop-test = c .before .before .before .before .before .before .before .before .before .before .before .before .before .before .before
+    .before .before .before .before .before .before .before .before in
+    at-loop-test .loop-test .taken)
     (λ c.
-    let loop = c .before .before .before .before .before .before .before .before .before .before .before .before .before .before .before .before .before .before .before .before .before .before .before .before .loop in
-    let loop-test = c .before .before .before .before .before .before .before .before .before .before .before .before .before .before .before .before .before .before .before .before .before .before .before .loop-test in
-    omega (arith, march-inside _ _ (loop .inv .going), loop-test .taken))
+    let at-loop-test = c .before .before .before .before .before .before .before .before .before .before .before .before .before .before .before
+    .before .before .before .before .before .before .before .before in
+    let at-loop = at-loop-test .before in
+    omega (arith, march-inside _ _ (at-loop .loop .inv .going), at-loop-test .loop-test .taken))
     (λ c.
-    let loop = c .before .before .before .before .before .before .before .before .before .before .before .before .before .before .before .before .before .before .before .before .before .before .before .before .loop in
-    let loop-test = c .before .before .before .before .before .before .before .before .before .before .before .before .before .before .before .before .before .before .before .before .before .before .before .loop-test in
-    let kind = c .before .before .before .before .before .before .before .before .before .before .before .before .before .before .before .before .before .before .before .before .before .kind in
-    let if1 = c .before .before .before .before .before .before .before .before .before .before .before .before .before .before .before .before .before .before .before .before .if1 in
-    let part-count = c .before .before .before .before .before .before .before .before .before .before .before .before .before .before .before .before .before .before .before .part-count in
-    let outer-count = c .before .before .before .before .before .before .before .before .before .before .before .before .before .before .before .before .before .before .outer-count in
-    let substitute-parts = c .before .before .before .before .before .before .before .before .before .before .before .before .substitute-parts in
-    let substitute-parts2 = c .before .before .before .before .substitute-parts2 in
-    let w = substitute-within _ (loop .inv) (loop-test .taken) _ (kind .ensures) (if1 .left) _ _ (part-count .ensures .0) (outer-count .ensures) _ _ (substitute-parts .kept .1 .1 .1 .1 .0) (substitute-parts .ensures) in
-    trace-inner w _ _ _ _ (loop .owed - 1) refl refl (substitute-parts2 .kept .1 .1 .1 .1 .0) (substitute-parts2 .ensures))
+    let at-substitute-parts2 = c .before .before .before .before in
+    let at-substitute-parts = at-substitute-parts2 .before .before .before .before .before .before .before .before in
+    let at-outer-count = at-substitute-parts .before .before .before .before .before .before in
+    let at-part-count = at-outer-count .before in
+    let at-if1 = at-part-count .before in
+    let at-kind = at-if1 .before in
+    let at-loop-test = at-kind .before .before in
+    let at-loop = at-loop-test .before in
+    let w = substitute-within _ (at-loop .loop .inv) (at-loop-test .loop-test .taken) _ (at-kind .kind .ensures) (at-if1 .if1 .left) _ _
+    (at-part-count .part-count .ensures .0) (at-outer-count .outer-count .ensures) _ _
+    (at-substitute-parts .substitute-parts .kept .1 .1 .1 .1 .0) (at-substitute-parts .substitute-parts .ensures) in
+    trace-inner w _ _ _ _ (at-loop .loop .owed - 1) refl refl (at-substitute-parts2 .substitute-parts2 .kept .1 .1 .1 .1 .0)
+    (at-substitute-parts2 .substitute-parts2 .ensures))
     (λ c. c .before .loop .inv .len)
     (λ c. trace-end _ _ (c .before .loop .inv) (omega (arith, c .loop-test .left)))

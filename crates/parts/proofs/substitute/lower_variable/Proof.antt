@@ -11,9 +11,9 @@ use Rattle.parts.proofs.fields.number.Reads as number-reads
 
 pub lower-variable-spec : {M : Type 1} → statement M
 lower-variable-spec = tie.close (tie.spec (λ c κs. search needs) (λ c.
-    let pre = c .before .before .pre in
-    lower-below _ _ (pre .0) (omega (arith, c .if1 .taken, c .before .number .ensures))) (λ c.
-    let pre = c .before .before .pre in
-    omega (arith, pre .0, pre .1, c .if1 .left, c .before .number .ensures)) (λ c.
-    let pre = c .before .before .pre in
-    lower-above _ _ (pre .0) (pre .1) (omega (arith, c .if1 .left, c .before .number .ensures))))
+    let start = c .before .before in
+    lower-below _ _ (start .pre .0) (omega (arith, c .if1 .taken, c .before .number .ensures))) (λ c.
+    let start = c .before .before in
+    omega (arith, start .pre .0, start .pre .1, c .if1 .left, c .before .number .ensures)) (λ c.
+    let start = c .before .before in
+    lower-above _ _ (start .pre .0) (start .pre .1) (omega (arith, c .if1 .left, c .before .number .ensures))))

@@ -14,13 +14,13 @@ pub put-value-spec : {M : Type 1} → statement M
 put-value-spec =
     tie.close
     (tie.spec (λ c κs.
-    let pre = c .before .before .before .before .before .pre in
-    (omega arith, pre .1)) (λ c. search needs) (λ c.
-    let if1 = c .before .before .before .before .if1 in
-    let copy-into = c .before .before .copy-into in
-    raises-copied (if1 .taken) (copy-into .ensures)) (λ c κs.
-    let pre = c .before .before .before .before .before .pre in
-    (whole-room _ (pre .0) (pre .1), omega (arith, pre .2), pre .3)) (λ c. search needs) (λ c.
-    let pre = c .before .before .before .before .before .before .before .before .pre in
-    let rename-into = c .before .before .rename-into in
-    raises-renamed _ (pre .0) (rename-into .ensures)))
+    let start = c .before .before .before .before .before in
+    (omega arith, start .pre .1)) (λ c. search needs) (λ c.
+    let at-copy-into = c .before .before in
+    let at-if1 = at-copy-into .before .before in
+    raises-copied (at-if1 .if1 .taken) (at-copy-into .copy-into .ensures)) (λ c κs.
+    let start = c .before .before .before .before .before in
+    (whole-room _ (start .pre .0) (start .pre .1), omega (arith, start .pre .2), start .pre .3)) (λ c. search needs) (λ c.
+    let at-rename-into = c .before .before in
+    let start = at-rename-into .before .before .before .before .before .before in
+    raises-renamed _ (start .pre .0) (at-rename-into .rename-into .ensures)))

@@ -27,16 +27,25 @@ substitute-into-spec =
     (λ c. search needs)
     (λ c. search needs)
     (λ c κs.
-    let args = c .before .before .before .before .before .before .before .args in
-    let part-size = c .before .before .part-size in
-    let pre = c .before .before .before .before .before .before .before .pre in
-    (
-    substitute-one-room _ _ (front (args .value .now) (part-size .result)) (part-size .ensures) (pre .0),
-    (pre .1 .0, omega (arith, length-take-le (part-size .result) (args .value .now) (part-size .ensures .within), pre .1 .1, part-size .ensures .within)),
+    let at-part-size = c .before .before in
+    let start = at-part-size .before .before .before .before .before in (
+      substitute-one-room _ _ (front (start .args .value .now) (at-part-size .part-size .result)) (at-part-size .part-size .ensures)
+          (start .pre .0),
+      (
+        start .pre .1 .0,
+        omega (
+          arith,
+          length-take-le (at-part-size .part-size .result) (start .args .value .now)
+              (at-part-size .part-size .ensures .within),
+          start .pre .1 .1,
+          at-part-size .part-size .ensures .within,
+        ),
+      ),
     ))
     (λ c. search needs)
     (λ c.
-    let args = c .before .before .before .before .before .before .before .before .before .before .args in
-    let part-size = c .before .before .before .before .before .part-size in
-    let substitute-parts = c .before .before .substitute-parts in
-    substitutes-one _ _ (front (args .value .now) (part-size .result)) (part-size .ensures) (substitute-parts .ensures)))
+    let at-substitute-parts = c .before .before in
+    let at-part-size = at-substitute-parts .before .before .before in
+    let start = at-part-size .before .before .before .before .before in
+    substitutes-one _ _ (front (start .args .value .now) (at-part-size .part-size .result)) (at-part-size .part-size .ensures)
+    (at-substitute-parts .substitute-parts .ensures)))

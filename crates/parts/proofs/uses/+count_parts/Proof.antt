@@ -62,256 +62,313 @@ pub +count-parts-spec : {M : Type 1} → statement M
     count-parts-Inv-loop
     count-parts-μ-loop
     (λ c.
-    let pre = c .before .before .pre in
-    count-begin _ (pre .1 .0))
+    let start = c .before .before in
+    count-begin _ (start .pre .1 .0))
     (λ c.
-    let pre = c .before .before .before .before .pre in
-    omega (arith, march-inside _ _ (c .before .loop .inv .going), c .loop-test .taken, pre .1 .1))
+    let start = c .before .before .before .before in
+    omega (arith, march-inside _ _ (c .before .loop .inv .going), c .loop-test .taken, start .pre .1 .1))
     (λ c.
-    let loop = c .before .before .loop in
-    omega (arith, march-inside _ _ (loop .inv .going), c .before .loop-test .taken))
+    let at-loop = c .before .before in
+    omega (arith, march-inside _ _ (at-loop .loop .inv .going), c .before .loop-test .taken))
     (λ c κs. search needs)
     (λ c κs. search needs)
     (λ c κs. search needs)
     (λ c.
-    let loop = c .before .before .before .before .before .before .loop in
-    let pre = c .before .before .before .before .before .before .before .before .before .pre in
-    omega (arith, loop .inv .few, march-inside _ _ (loop .inv .going), c .same .ensures .1, pre .1 .1))
+    let at-loop = c .before .before .before .before .before .before in
+    let start = at-loop .before .before .before in
+    omega (arith, at-loop .loop .inv .few, march-inside _ _ (at-loop .loop .inv .going), c .same .ensures .1, start .pre .1 .1))
     (λ c.
-    let loop = c .before .before .before .before .before .before .loop in
-    let pre = c .before .before .before .before .before .before .before .before .before .pre in
-    omega (arith, march-inside _ _ (loop .inv .going), pre .1 .1))
+    let at-loop = c .before .before .before .before .before .before in
+    let start = at-loop .before .before .before in
+    omega (arith, march-inside _ _ (at-loop .loop .inv .going), start .pre .1 .1))
     (λ c.
-    let loop-test = c .before .before .before .before .before .loop-test in
-    loop-test .taken)
+    let at-loop-test = c .before .before .before .before .before in
+    at-loop-test .loop-test .taken)
     (λ c.
-    let loop = c .before .before .before .before .before .before .loop in
-    let loop-test = c .before .before .before .before .before .loop-test in
-    omega (arith, march-inside _ _ (loop .inv .going), loop-test .taken))
+    let at-loop-test = c .before .before .before .before .before in
+    let at-loop = at-loop-test .before in
+    omega (arith, march-inside _ _ (at-loop .loop .inv .going), at-loop-test .loop-test .taken))
     (λ c.
-    let loop = c .before .before .before .before .before .before .loop in
-    let loop-test = c .before .before .before .before .before .loop-test in
-    let kind = c .before .before .before .kind in
-    let if1 = c .before .before .if1 in
-    count-variable (loop .inv) (loop-test .taken) _ (kind .ensures) _ _ (if1 .taken) (c .before .number .ensures) (c .same .ensures .0) (c .same .ensures .1))
+    let at-if1 = c .before .before in
+    let at-kind = at-if1 .before in
+    let at-loop-test = at-kind .before .before in
+    let at-loop = at-loop-test .before in
+    count-variable (at-loop .loop .inv) (at-loop-test .loop-test .taken) _ (at-kind .kind .ensures) _ _ (at-if1 .if1 .taken)
+    (c .before .number .ensures) (c .same .ensures .0) (c .same .ensures .1))
     (λ c κs. search needs)
     (λ c κs. search needs)
     (λ c.
-    let loop = c .before .before .before .before .before .before .loop in
-    let pre = c .before .before .before .before .before .before .before .before .before .pre in
-    omega (arith, march-inside _ _ (loop .inv .going), pre .1 .1))
+    let at-loop = c .before .before .before .before .before .before in
+    let start = at-loop .before .before .before in
+    omega (arith, march-inside _ _ (at-loop .loop .inv .going), start .pre .1 .1))
     (λ c.
-    let loop-test = c .before .before .before .before .before .before .loop-test in
-    loop-test .taken)
+    let at-loop-test = c .before .before .before .before .before .before in
+    at-loop-test .loop-test .taken)
     (λ c.
-    let loop = c .before .before .before .before .before .before .before .loop in
-    let part-count = c .before .before .part-count in
-    let pre = c .before .before .before .before .before .before .before .before .before .before .pre in
-    omega (arith, march-inside _ _ (loop .inv .going), part-count .ensures .1, pre .1 .1))
+    let at-part-count = c .before .before in
+    let at-loop = at-part-count .before .before .before .before .before in
+    let start = at-loop .before .before .before in
+    omega (arith, march-inside _ _ (at-loop .loop .inv .going), at-part-count .part-count .ensures .1, start .pre .1 .1))
     (λ c.
-    let loop = c .before .before .before .before .before .before .before .loop in
-    let loop-test = c .before .before .before .before .before .before .loop-test in
-    omega (arith, march-inside _ _ (loop .inv .going), loop-test .taken))
+    let at-loop-test = c .before .before .before .before .before .before in
+    let at-loop = at-loop-test .before in
+    omega (arith, march-inside _ _ (at-loop .loop .inv .going), at-loop-test .loop-test .taken))
     (λ c.
-    let loop = c .before .before .before .before .before .before .before .loop in
-    let loop-test = c .before .before .before .before .before .before .loop-test in
-    let kind = c .before .before .before .before .kind in
-    let if1 = c .before .before .before .if1 in
-    let part-count = c .before .before .part-count in
-    count-flat (loop .inv) (loop-test .taken) _ (kind .ensures) (if1 .left) _ _ (part-count .ensures .0) (c .before .outer-count .ensures) (c .if2 .taken))
+    let at-part-count = c .before .before in
+    let at-if1 = at-part-count .before in
+    let at-kind = at-if1 .before in
+    let at-loop-test = at-kind .before .before in
+    let at-loop = at-loop-test .before in
+    count-flat (at-loop .loop .inv) (at-loop-test .loop-test .taken) _ (at-kind .kind .ensures) (at-if1 .if1 .left) _ _
+    (at-part-count .part-count .ensures .0) (c .before .outer-count .ensures) (c .if2 .taken))
     (λ c κs. search needs)
     (λ c.
-    let loop = c .before .before .before .before .before .before .before .before .before .loop in
-    let pre = c .before .before .before .before .before .before .before .before .before .before .before .before .pre in
-    omega (arith, loop .inv .near, march-inside _ _ (loop .inv .going), pre .1 .1))
+    let at-loop = c .before .before .before .before .before .before .before .before .before in
+    let start = at-loop .before .before .before in
+    omega (arith, at-loop .loop .inv .near, march-inside _ _ (at-loop .loop .inv .going), start .pre .1 .1))
     (λ c.
-    let loop = c .before .before .before .before .before .before .before .before .before .loop in
-    let loop-test = c .before .before .before .before .before .before .before .before .loop-test in
-    omega (arith, march-inside _ _ (loop .inv .going), loop-test .taken))
+    let at-loop-test = c .before .before .before .before .before .before .before .before in
+    let at-loop = at-loop-test .before in
+    omega (arith, march-inside _ _ (at-loop .loop .inv .going), at-loop-test .loop-test .taken))
     (λ c.
-    let loop = c .before .before .before .before .before .before .before .before .before .loop in
-    let loop-test = c .before .before .before .before .before .before .before .before .loop-test in
-    let kind = c .before .before .before .before .before .before .kind in
-    let if1 = c .before .before .before .before .before .if1 in
-    let part-count = c .before .before .before .before .part-count in
-    let outer-count = c .before .before .before .outer-count in
-    count-only (loop .inv) (loop-test .taken) _ (kind .ensures) (if1 .left) _ _ (part-count .ensures .0) (outer-count .ensures) (sym (c .before .only-inner .ensures) ∙ c .if3 .taken))
+    let at-outer-count = c .before .before .before in
+    let at-part-count = at-outer-count .before in
+    let at-if1 = at-part-count .before in
+    let at-kind = at-if1 .before in
+    let at-loop-test = at-kind .before .before in
+    let at-loop = at-loop-test .before in
+    count-only (at-loop .loop .inv) (at-loop-test .loop-test .taken) _ (at-kind .kind .ensures) (at-if1 .if1 .left) _ _
+    (at-part-count .part-count .ensures .0) (at-outer-count .outer-count .ensures) (sym (c .before .only-inner .ensures) ∙ c .if3 .taken))
     (λ c.
-    let loop = c .before .before .before .before .before .before .before .before .before .loop in
-    let pre = c .before .before .before .before .before .before .before .before .before .before .before .before .pre in
-    omega (arith, march-inside _ _ (loop .inv .going), pre .1 .1))
+    let at-loop = c .before .before .before .before .before .before .before .before .before in
+    let start = at-loop .before .before .before in
+    omega (arith, march-inside _ _ (at-loop .loop .inv .going), start .pre .1 .1))
     (λ c.
-    let loop = c .before .before .before .before .before .before .before .before .before .loop in
-    let loop-test = c .before .before .before .before .before .before .before .before .loop-test in
-    omega (arith, march-inside _ _ (loop .inv .going), loop-test .taken))
+    let at-loop-test = c .before .before .before .before .before .before .before .before in
+    let at-loop = at-loop-test .before in
+    omega (arith, march-inside _ _ (at-loop .loop .inv .going), at-loop-test .loop-test .taken))
     (λ c.
-    let loop = c .before .before .before .before .before .before .before .before .before .loop in
-    let loop-test = c .before .before .before .before .before .before .before .before .loop-test in
-    omega (arith, march-inside _ _ (loop .inv .going), loop-test .taken))
+    let at-loop-test = c .before .before .before .before .before .before .before .before in
+    let at-loop = at-loop-test .before in
+    omega (arith, march-inside _ _ (at-loop .loop .inv .going), at-loop-test .loop-test .taken))
     (λ c.
-    let loop = c .before .before .before .before .before .before .before .before .before .loop in
-    let loop-test = c .before .before .before .before .before .before .before .before .loop-test in
-    omega (arith, march-inside _ _ (loop .inv .going), loop-test .taken))
+    let at-loop-test = c .before .before .before .before .before .before .before .before in
+    let at-loop = at-loop-test .before in
+    omega (arith, march-inside _ _ (at-loop .loop .inv .going), at-loop-test .loop-test .taken))
     (λ c κs.
-    let loop = c .before .before .before .before .before .before .before .before .before .before .loop in
-    let loop-test = c .before .before .before .before .before .before .before .before .before .loop-test in
-    let kind = c .before .before .before .before .before .before .before .kind in
-    let if1 = c .before .before .before .before .before .before .if1 in
-    let part-count = c .before .before .before .before .before .part-count in
-    let outer-count = c .before .before .before .before .outer-count in
-    let args = c .before .before .before .before .before .before .before .before .before .before .before .before .before .args in
-    let pre = c .before .before .before .before .before .before .before .before .before .before .before .before .before .pre in
-    let e = count-enter (loop .inv) (loop-test .taken) _ (kind .ensures) (if1 .left) _ _ (part-count .ensures .0) (outer-count .ensures) in
-    (
-    omega (arith, from-length (args .t .now) (loop .at + 1), march-inside _ _ (loop .inv .going), loop-test .taken),
-    (march-starts _ _ (e .going), omega (arith, from-length (args .t .now) (loop .at + 1), e .near, march-inside _ _ (e .going), pre .1 .1)),
+    let at-outer-count = c .before .before .before .before in
+    let at-part-count = at-outer-count .before in
+    let at-if1 = at-part-count .before in
+    let at-kind = at-if1 .before in
+    let at-loop-test = at-kind .before .before in
+    let at-loop = at-loop-test .before in
+    let start = at-loop .before .before .before in
+    let e = count-enter (at-loop .loop .inv) (at-loop-test .loop-test .taken) _ (at-kind .kind .ensures) (at-if1 .if1 .left) _ _
+    (at-part-count .part-count .ensures .0) (at-outer-count .outer-count .ensures) in (
+      omega (
+        arith,
+        from-length (start .args .t .now) (at-loop .loop .at + 1),
+        march-inside _ _ (at-loop .loop .inv .going),
+        at-loop-test .loop-test .taken,
+      ),
+      (
+        march-starts _ _ (e .going),
+        omega (
+          arith,
+          from-length (start .args .t .now) (at-loop .loop .at + 1),
+          e .near,
+          march-inside _ _
+              (e .going),
+          start .pre .1 .1,
+        ),
+      ),
     ))
     (λ c.
-    let args = c .before .before .before .before .before .before .before .before .before .before .before .before .before .before .before .args in
-    let loop = c .before .before .before .before .before .before .before .before .before .before .before .before .loop in
-    let pre = c .before .before .before .before .before .before .before .before .before .before .before .before .before .before .before .pre in
-    omega (arith, from-length (args .t .now) (loop .at + 1), c .before .count-parts .ensures .within, march-inside _ _ (loop .inv .going), pre .1 .1))
+    let at-loop = c .before .before .before .before .before .before .before .before .before .before .before .before in
+    let start = at-loop .before .before .before in
+    omega (
+      arith,
+      from-length (start .args .t .now) (at-loop .loop .at + 1),
+      c .before .count-parts .ensures .within,
+      march-inside _ _
+          (at-loop .loop .inv .going),
+      start .pre .1 .1,
+    ))
     (λ c.
-    let args = c .before .before .before .before .before .before .before .before .before .before .before .before .before .before .before .before .args in
-    let loop = c .before .before .before .before .before .before .before .before .before .before .before .before .before .loop in
-    let count-parts = c .before .before .count-parts in
-    let pre = c .before .before .before .before .before .before .before .before .before .before .before .before .before .before .before .before .pre in
-    omega (arith, from-length (args .t .now) (loop .at + 1), count-parts .ensures .within, count-parts .ensures .few, loop .inv .few, march-inside _ _ (loop .inv .going), pre .1 .1))
+    let at-count-parts = c .before .before in
+    let at-loop = at-count-parts .before .before .before .before .before .before .before .before .before .before .before in
+    let start = at-loop .before .before .before in
+    omega (
+      arith,
+      from-length (start .args .t .now) (at-loop .loop .at + 1),
+      at-count-parts .count-parts .ensures .within,
+      at-count-parts .count-parts .ensures .few,
+      at-loop .loop .inv .few,
+      march-inside _ _ (at-loop .loop .inv .going),
+      start .pre .1 .1,
+    ))
     (λ c.
-    let loop = c .before .before .before .before .before .before .before .before .before .before .before .before .before .before .loop in
-    let loop-test = c .before .before .before .before .before .before .before .before .before .before .before .before .before .loop-test in
-    let kind = c .before .before .before .before .before .before .before .before .before .before .before .kind in
-    let if1 = c .before .before .before .before .before .before .before .before .before .before .if1 in
-    let part-count = c .before .before .before .before .before .before .before .before .before .part-count in
-    let outer-count = c .before .before .before .before .before .before .before .before .outer-count in
-    outer-few (loop .inv) (loop-test .taken) _ (kind .ensures) (if1 .left) _ _ (part-count .ensures .0) (outer-count .ensures))
+    let at-outer-count = c .before .before .before .before .before .before .before .before in
+    let at-part-count = at-outer-count .before in
+    let at-if1 = at-part-count .before in
+    let at-kind = at-if1 .before in
+    let at-loop-test = at-kind .before .before in
+    let at-loop = at-loop-test .before in
+    outer-few (at-loop .loop .inv) (at-loop-test .loop-test .taken) _ (at-kind .kind .ensures) (at-if1 .if1 .left) _ _
+    (at-part-count .part-count .ensures .0) (at-outer-count .outer-count .ensures))
     (λ c.
-    let loop = c .before .before .before .before .before .before .before .before .before .before .before .before .before .before .loop in
-    let pre = c .before .before .before .before .before .before .before .before .before .before .before .before .before .before .before .before .before .pre in
-    omega (arith, loop .inv .near, march-inside _ _ (loop .inv .going), pre .1 .1))
+    let at-loop = c .before .before .before .before .before .before .before .before .before .before .before .before .before .before in
+    let start = at-loop .before .before .before in
+    omega (arith, at-loop .loop .inv .near, march-inside _ _ (at-loop .loop .inv .going), start .pre .1 .1))
     (λ c.
-    let loop = c .before .before .before .before .before .before .before .before .before .before .before .before .before .before .loop in
-    let loop-test = c .before .before .before .before .before .before .before .before .before .before .before .before .before .loop-test in
-    omega (arith, march-inside _ _ (loop .inv .going), loop-test .taken))
+    let at-loop-test = c .before .before .before .before .before .before .before .before .before .before .before .before .before in
+    let at-loop = at-loop-test .before in
+    omega (arith, march-inside _ _ (at-loop .loop .inv .going), at-loop-test .loop-test .taken))
     (λ c.
-    let loop = c .before .before .before .before .before .before .before .before .before .before .before .before .before .before .loop in
-    let loop-test = c .before .before .before .before .before .before .before .before .before .before .before .before .before .loop-test in
-    let kind = c .before .before .before .before .before .before .before .before .before .before .before .kind in
-    let if1 = c .before .before .before .before .before .before .before .before .before .before .if1 in
-    let part-count = c .before .before .before .before .before .before .before .before .before .part-count in
-    let outer-count = c .before .before .before .before .before .before .before .before .outer-count in
-    let count-parts = c .before .before .before .count-parts in
-    let w = count-within (loop .inv) (loop-test .taken) _ (kind .ensures) (if1 .left) _ _ (part-count .ensures .0) (outer-count .ensures) _ (count-parts .ensures) in
+    let at-count-parts = c .before .before .before in
+    let at-outer-count = at-count-parts .before .before .before .before .before in
+    let at-part-count = at-outer-count .before in
+    let at-if1 = at-part-count .before in
+    let at-kind = at-if1 .before in
+    let at-loop-test = at-kind .before .before in
+    let at-loop = at-loop-test .before in
+    let w = count-within (at-loop .loop .inv) (at-loop-test .loop-test .taken) _ (at-kind .kind .ensures) (at-if1 .if1 .left) _ _
+    (at-part-count .part-count .ensures .0) (at-outer-count .outer-count .ensures) _ (at-count-parts .count-parts .ensures) in
     count-last w (omega (arith, c .if4 .taken)))
     (λ c.
-    let loop = c .before .before .before .before .before .before .before .before .before .before .before .before .before .before .loop in
-    let loop-test = c .before .before .before .before .before .before .before .before .before .before .before .before .before .loop-test in
-    let kind = c .before .before .before .before .before .before .before .before .before .before .before .kind in
-    let if1 = c .before .before .before .before .before .before .before .before .before .before .if1 in
-    let part-count = c .before .before .before .before .before .before .before .before .before .part-count in
-    let outer-count = c .before .before .before .before .before .before .before .before .outer-count in
-    let count-parts = c .before .before .before .count-parts in
-    let pre = c .before .before .before .before .before .before .before .before .before .before .before .before .before .before .before .before .before .pre in
-    let w = count-within (loop .inv) (loop-test .taken) _ (kind .ensures) (if1 .left) _ _ (part-count .ensures .0) (outer-count .ensures) _ (count-parts .ensures) in
-    omega (arith, march-inside _ _ (w .going), pre .1 .1))
+    let at-count-parts = c .before .before .before in
+    let at-outer-count = at-count-parts .before .before .before .before .before in
+    let at-part-count = at-outer-count .before in
+    let at-if1 = at-part-count .before in
+    let at-kind = at-if1 .before in
+    let at-loop-test = at-kind .before .before in
+    let at-loop = at-loop-test .before in
+    let start = at-loop .before .before .before in
+    let w = count-within (at-loop .loop .inv) (at-loop-test .loop-test .taken) _ (at-kind .kind .ensures) (at-if1 .if1 .left) _ _
+    (at-part-count .part-count .ensures .0) (at-outer-count .outer-count .ensures) _ (at-count-parts .count-parts .ensures) in
+    omega (arith, march-inside _ _ (w .going), start .pre .1 .1))
     (λ c.
-    let loop = c .before .before .before .before .before .before .before .before .before .before .before .before .before .before .loop in
-    let loop-test = c .before .before .before .before .before .before .before .before .before .before .before .before .before .loop-test in
-    let kind = c .before .before .before .before .before .before .before .before .before .before .before .kind in
-    let if1 = c .before .before .before .before .before .before .before .before .before .before .if1 in
-    let part-count = c .before .before .before .before .before .before .before .before .before .part-count in
-    let outer-count = c .before .before .before .before .before .before .before .before .outer-count in
-    let count-parts = c .before .before .before .count-parts in
-    let w = count-within (loop .inv) (loop-test .taken) _ (kind .ensures) (if1 .left) _ _ (part-count .ensures .0) (outer-count .ensures) _ (count-parts .ensures) in
+    let at-count-parts = c .before .before .before in
+    let at-outer-count = at-count-parts .before .before .before .before .before in
+    let at-part-count = at-outer-count .before in
+    let at-if1 = at-part-count .before in
+    let at-kind = at-if1 .before in
+    let at-loop-test = at-kind .before .before in
+    let at-loop = at-loop-test .before in
+    let w = count-within (at-loop .loop .inv) (at-loop-test .loop-test .taken) _ (at-kind .kind .ensures) (at-if1 .if1 .left) _ _
+    (at-part-count .part-count .ensures .0) (at-outer-count .outer-count .ensures) _ (at-count-parts .count-parts .ensures) in
     omega (arith, march-inside _ _ (w .going)))
     (λ c.
-    let loop = c .before .before .before .before .before .before .before .before .before .before .before .before .before .before .loop in
-    let loop-test = c .before .before .before .before .before .before .before .before .before .before .before .before .before .loop-test in
-    let kind = c .before .before .before .before .before .before .before .before .before .before .before .kind in
-    let if1 = c .before .before .before .before .before .before .before .before .before .before .if1 in
-    let part-count = c .before .before .before .before .before .before .before .before .before .part-count in
-    let outer-count = c .before .before .before .before .before .before .before .before .outer-count in
-    let count-parts = c .before .before .before .count-parts in
-    let w = count-within (loop .inv) (loop-test .taken) _ (kind .ensures) (if1 .left) _ _ (part-count .ensures .0) (outer-count .ensures) _ (count-parts .ensures) in
+    let at-count-parts = c .before .before .before in
+    let at-outer-count = at-count-parts .before .before .before .before .before in
+    let at-part-count = at-outer-count .before in
+    let at-if1 = at-part-count .before in
+    let at-kind = at-if1 .before in
+    let at-loop-test = at-kind .before .before in
+    let at-loop = at-loop-test .before in
+    let w = count-within (at-loop .loop .inv) (at-loop-test .loop-test .taken) _ (at-kind .kind .ensures) (at-if1 .if1 .left) _ _
+    (at-part-count .part-count .ensures .0) (at-outer-count .outer-count .ensures) _ (at-count-parts .count-parts .ensures) in
     omega (arith, march-inside _ _ (w .going)))
     (λ c.
-    let loop = c .before .before .before .before .before .before .before .before .before .before .before .before .before .before .loop in
-    let loop-test = c .before .before .before .before .before .before .before .before .before .before .before .before .before .loop-test in
-    let kind = c .before .before .before .before .before .before .before .before .before .before .before .kind in
-    let if1 = c .before .before .before .before .before .before .before .before .before .before .if1 in
-    let part-count = c .before .before .before .before .before .before .before .before .before .part-count in
-    let outer-count = c .before .before .before .before .before .before .before .before .outer-count in
-    let count-parts = c .before .before .before .count-parts in
-    let w = count-within (loop .inv) (loop-test .taken) _ (kind .ensures) (if1 .left) _ _ (part-count .ensures .0) (outer-count .ensures) _ (count-parts .ensures) in
+    let at-count-parts = c .before .before .before in
+    let at-outer-count = at-count-parts .before .before .before .before .before in
+    let at-part-count = at-outer-count .before in
+    let at-if1 = at-part-count .before in
+    let at-kind = at-if1 .before in
+    let at-loop-test = at-kind .before .before in
+    let at-loop = at-loop-test .before in
+    let w = count-within (at-loop .loop .inv) (at-loop-test .loop-test .taken) _ (at-kind .kind .ensures) (at-if1 .if1 .left) _ _
+    (at-part-count .part-count .ensures .0) (at-outer-count .outer-count .ensures) _ (at-count-parts .count-parts .ensures) in
     omega (arith, march-inside _ _ (w .going)))
     (λ c.
-    let loop = c .before .before .before .before .before .before .before .before .before .before .before .before .before .before .before .loop in
-    let loop-test = c .before .before .before .before .before .before .before .before .before .before .before .before .before .before .loop-test in
-    let kind = c .before .before .before .before .before .before .before .before .before .before .before .before .kind in
-    let if1 = c .before .before .before .before .before .before .before .before .before .before .before .if1 in
-    let part-count = c .before .before .before .before .before .before .before .before .before .before .part-count in
-    let outer-count = c .before .before .before .before .before .before .before .before .before .outer-count in
-    outer-few (loop .inv) (loop-test .taken) _ (kind .ensures) (if1 .left) _ _ (part-count .ensures .0) (outer-count .ensures))
+    let at-outer-count = c .before .before .before .before .before .before .before .before .before in
+    let at-part-count = at-outer-count .before in
+    let at-if1 = at-part-count .before in
+    let at-kind = at-if1 .before in
+    let at-loop-test = at-kind .before .before in
+    let at-loop = at-loop-test .before in
+    outer-few (at-loop .loop .inv) (at-loop-test .loop-test .taken) _ (at-kind .kind .ensures) (at-if1 .if1 .left) _ _
+    (at-part-count .part-count .ensures .0) (at-outer-count .outer-count .ensures))
     (λ c.
-    let loop = c .before .before .before .before .before .before .before .before .before .before .before .before .before .before .before .loop in
-    let pre = c .before .before .before .before .before .before .before .before .before .before .before .before .before .before .before .before .before .before .pre in
-    omega (arith, loop .inv .near, march-inside _ _ (loop .inv .going), pre .1 .1))
+    let at-loop = c .before .before .before .before .before .before .before .before .before .before .before .before .before .before .before in
+    let start = at-loop .before .before .before in
+    omega (arith, at-loop .loop .inv .near, march-inside _ _ (at-loop .loop .inv .going), start .pre .1 .1))
     (λ c κs.
-    let loop = c .before .before .before .before .before .before .before .before .before .before .before .before .before .before .before .loop in
-    let loop-test = c .before .before .before .before .before .before .before .before .before .before .before .before .before .before .loop-test in
-    let kind = c .before .before .before .before .before .before .before .before .before .before .before .before .kind in
-    let if1 = c .before .before .before .before .before .before .before .before .before .before .before .if1 in
-    let part-count = c .before .before .before .before .before .before .before .before .before .before .part-count in
-    let outer-count = c .before .before .before .before .before .before .before .before .before .outer-count in
-    let count-parts = c .before .before .before .before .count-parts in
-    let args = c .before .before .before .before .before .before .before .before .before .before .before .before .before .before .before .before .before .before .args in
-    let pre = c .before .before .before .before .before .before .before .before .before .before .before .before .before .before .before .before .before .before .pre in
-    let w = count-within (loop .inv) (loop-test .taken) _ (kind .ensures) (if1 .left) _ _ (part-count .ensures .0) (outer-count .ensures) _ (count-parts .ensures) in
-    (
-    omega (arith, from-length (args .t .now) (loop .at + 1 + count-parts .result .end), march-inside _ _ (w .going), loop-test .taken),
-    (march-starts _ _ (w .going), omega (arith, from-length (args .t .now) (loop .at + 1 + count-parts .result .end), w .near, march-inside _ _ (w .going), pre .1 .1)),
+    let at-count-parts = c .before .before .before .before in
+    let at-outer-count = at-count-parts .before .before .before .before .before in
+    let at-part-count = at-outer-count .before in
+    let at-if1 = at-part-count .before in
+    let at-kind = at-if1 .before in
+    let at-loop-test = at-kind .before .before in
+    let at-loop = at-loop-test .before in
+    let start = at-loop .before .before .before in
+    let w = count-within (at-loop .loop .inv) (at-loop-test .loop-test .taken) _ (at-kind .kind .ensures) (at-if1 .if1 .left) _ _
+    (at-part-count .part-count .ensures .0) (at-outer-count .outer-count .ensures) _ (at-count-parts .count-parts .ensures) in (
+      omega (
+        arith,
+        from-length (start .args .t .now) (at-loop .loop .at + 1 + at-count-parts .count-parts .result .end),
+        march-inside _ _
+            (w .going),
+        at-loop-test .loop-test .taken,
+      ),
+      (
+        march-starts _ _ (w .going),
+        omega (
+          arith,
+          from-length (start .args .t .now)
+              (at-loop .loop .at + 1 + at-count-parts .count-parts .result .end),
+          w .near,
+          march-inside _ _ (w .going),
+          start .pre .1 .1,
+        ),
+      ),
     ))
     (λ c.
-    let loop = c .before .before .before .before .before .before .before .before .before .before .before .before .before .before .before .before .before .loop in
-    let loop-test = c .before .before .before .before .before .before .before .before .before .before .before .before .before .before .before .before .loop-test in
-    let kind = c .before .before .before .before .before .before .before .before .before .before .before .before .before .before .kind in
-    let if1 = c .before .before .before .before .before .before .before .before .before .before .before .before .before .if1 in
-    let part-count = c .before .before .before .before .before .before .before .before .before .before .before .before .part-count in
-    let outer-count = c .before .before .before .before .before .before .before .before .before .before .before .outer-count in
-    let count-parts = c .before .before .before .before .before .before .count-parts in
-    let pre = c .before .before .before .before .before .before .before .before .before .before .before .before .before .before .before .before .before .before .before .before .pre in
-    let w = count-within (loop .inv) (loop-test .taken) _ (kind .ensures) (if1 .left) _ _ (part-count .ensures .0) (outer-count .ensures) _ (count-parts .ensures) in
-    let t = count-inner w _ (loop .owed - 1) refl (c .before .count-parts2 .ensures) in
-    omega (arith, march-inside _ _ (t .going), pre .1 .1))
+    let at-count-parts = c .before .before .before .before .before .before in
+    let at-outer-count = at-count-parts .before .before .before .before .before in
+    let at-part-count = at-outer-count .before in
+    let at-if1 = at-part-count .before in
+    let at-kind = at-if1 .before in
+    let at-loop-test = at-kind .before .before in
+    let at-loop = at-loop-test .before in
+    let start = at-loop .before .before .before in
+    let w = count-within (at-loop .loop .inv) (at-loop-test .loop-test .taken) _ (at-kind .kind .ensures) (at-if1 .if1 .left) _ _
+    (at-part-count .part-count .ensures .0) (at-outer-count .outer-count .ensures) _ (at-count-parts .count-parts .ensures) in
+    let t = count-inner w _ (at-loop .loop .owed - 1) refl (c .before .count-parts2 .ensures) in
+    omega (arith, march-inside _ _ (t .going), start .pre .1 .1))
     (λ c.
-    let loop = c .before .before .before .before .before .before .before .before .before .before .before .before .before .before .before .before .before .before .loop in
-    let loop-test = c .before .before .before .before .before .before .before .before .before .before .before .before .before .before .before .before .before .loop-test in
-    let kind = c .before .before .before .before .before .before .before .before .before .before .before .before .before .before .before .kind in
-    let if1 = c .before .before .before .before .before .before .before .before .before .before .before .before .before .before .if1 in
-    let part-count = c .before .before .before .before .before .before .before .before .before .before .before .before .before .part-count in
-    let outer-count = c .before .before .before .before .before .before .before .before .before .before .before .before .outer-count in
-    let count-parts = c .before .before .before .before .before .before .before .count-parts in
-    let count-parts2 = c .before .before .count-parts2 in
-    let pre = c .before .before .before .before .before .before .before .before .before .before .before .before .before .before .before .before .before .before .before .before .before .pre in
-    let w = count-within (loop .inv) (loop-test .taken) _ (kind .ensures) (if1 .left) _ _ (part-count .ensures .0) (outer-count .ensures) _ (count-parts .ensures) in
-    let t = count-inner w _ (loop .owed - 1) refl (count-parts2 .ensures) in
-    omega (arith, t .few, march-inside _ _ (t .going), pre .1 .1))
+    let at-count-parts2 = c .before .before in
+    let at-count-parts = at-count-parts2 .before .before .before .before .before in
+    let at-outer-count = at-count-parts .before .before .before .before .before in
+    let at-part-count = at-outer-count .before in
+    let at-if1 = at-part-count .before in
+    let at-kind = at-if1 .before in
+    let at-loop-test = at-kind .before .before in
+    let at-loop = at-loop-test .before in
+    let start = at-loop .before .before .before in
+    let w = count-within (at-loop .loop .inv) (at-loop-test .loop-test .taken) _ (at-kind .kind .ensures) (at-if1 .if1 .left) _ _
+    (at-part-count .part-count .ensures .0) (at-outer-count .outer-count .ensures) _ (at-count-parts .count-parts .ensures) in
+    let t = count-inner w _ (at-loop .loop .owed - 1) refl (at-count-parts2 .count-parts2 .ensures) in
+    omega (arith, t .few, march-inside _ _ (t .going), start .pre .1 .1))
     (λ c.
-    let loop-test = c .before .before .before .before .before .before .before .before .before .before .before .before .before .before .before .before .before .loop-test in
-    loop-test .taken)
+    let at-loop-test = c .before .before .before .before .before .before .before .before .before .before .before .before .before .before .before
+    .before .before in
+    at-loop-test .loop-test .taken)
     (λ c.
-    let loop = c .before .before .before .before .before .before .before .before .before .before .before .before .before .before .before .before .before .before .loop in
-    let loop-test = c .before .before .before .before .before .before .before .before .before .before .before .before .before .before .before .before .before .loop-test in
-    omega (arith, march-inside _ _ (loop .inv .going), loop-test .taken))
+    let at-loop-test = c .before .before .before .before .before .before .before .before .before .before .before .before .before .before .before
+    .before .before in
+    let at-loop = at-loop-test .before in
+    omega (arith, march-inside _ _ (at-loop .loop .inv .going), at-loop-test .loop-test .taken))
     (λ c.
-    let loop = c .before .before .before .before .before .before .before .before .before .before .before .before .before .before .before .before .before .before .loop in
-    let loop-test = c .before .before .before .before .before .before .before .before .before .before .before .before .before .before .before .before .before .loop-test in
-    let kind = c .before .before .before .before .before .before .before .before .before .before .before .before .before .before .before .kind in
-    let if1 = c .before .before .before .before .before .before .before .before .before .before .before .before .before .before .if1 in
-    let part-count = c .before .before .before .before .before .before .before .before .before .before .before .before .before .part-count in
-    let outer-count = c .before .before .before .before .before .before .before .before .before .before .before .before .outer-count in
-    let count-parts = c .before .before .before .before .before .before .before .count-parts in
-    let count-parts2 = c .before .before .count-parts2 in
-    let w = count-within (loop .inv) (loop-test .taken) _ (kind .ensures) (if1 .left) _ _ (part-count .ensures .0) (outer-count .ensures) _ (count-parts .ensures) in
-    count-inner w _ (loop .owed - 1) refl (count-parts2 .ensures))
+    let at-count-parts2 = c .before .before in
+    let at-count-parts = at-count-parts2 .before .before .before .before .before in
+    let at-outer-count = at-count-parts .before .before .before .before .before in
+    let at-part-count = at-outer-count .before in
+    let at-if1 = at-part-count .before in
+    let at-kind = at-if1 .before in
+    let at-loop-test = at-kind .before .before in
+    let at-loop = at-loop-test .before in
+    let w = count-within (at-loop .loop .inv) (at-loop-test .loop-test .taken) _ (at-kind .kind .ensures) (at-if1 .if1 .left) _ _
+    (at-part-count .part-count .ensures .0) (at-outer-count .outer-count .ensures) _ (at-count-parts .count-parts .ensures) in
+    count-inner w _ (at-loop .loop .owed - 1) refl (at-count-parts2 .count-parts2 .ensures))
     (λ c. count-end (c .before .loop .inv) _ (omega (arith, c .loop-test .left)) refl refl)

@@ -10,5 +10,5 @@ use Rattle.parts.proofs.uses.count_parts.Reads as count-parts-reads
 
 pub count-uses-spec : {M : Type 1} → statement M
 count-uses-spec = tie.close (tie.spec (λ c κs.
-    let pre = c .before .before .pre in
-    (one-starts (pre .0), pre .1)) (λ c. counts-one (c .count-parts .ensures)))
+    let start = c .before .before in
+    (one-starts (start .pre .0), start .pre .1)) (λ c. counts-one (c .count-parts .ensures)))

@@ -10,4 +10,5 @@ use Rattle.parts.proofs.uses.same.Reads as reads
 use Rattle.parts.proofs.uses.same.Lts as lts
 
 pub same-spec : {M : Type 1} → statement M
-same-spec = tie.close (tie.spec (λ c. (ap counts (sym (eq-eqb _ _ (c .if1 .taken))), omega arith)) (λ c. (ap counts (sym (ne-eqb _ _ (c .if1 .left))), omega arith)))
+same-spec = tie.close (tie.spec (λ c. (ap counts (sym (eq-eqb _ _ (c .if1 .taken))), omega arith))
+    (λ c. (ap counts (sym (ne-eqb _ _ (c .if1 .left))), omega arith)))

@@ -77,7 +77,12 @@ value-test-spec =
     let loop-test = c .before .before .before .before .before .before .before .loop-test in
     let kind = c .before .before .before .before .before .kind in
     let value-kind = c .before .before .before .before .value-kind in
-    omega (arith, function-words (loop .inv) (loop-test .taken) (kind .ensures) (value-kind .ensures) _ (c .part-size .ensures), march-inside _ _ (loop .inv), loop-test .taken))
+    omega (
+      arith,
+      function-words (loop .inv) (loop-test .taken) (kind .ensures) (value-kind .ensures) _ (c .part-size .ensures),
+      march-inside _ _ (loop .inv),
+      loop-test .taken,
+    ))
     (λ c.
     let loop = c .before .before .before .before .before .before .before .before .loop in
     let loop-test = c .before .before .before .before .before .before .before .loop-test in
@@ -107,5 +112,6 @@ value-test-spec =
     let kind = c .before .before .before .before .kind in
     let value-kind = c .before .before .before .value-kind in
     let if1 = c .before .before .if1 in
-    test-open (loop .inv) (loop-test .taken) (kind .ensures) (value-kind .ensures) _ (not-false _ (if1 .left)) (c .before .if2 .left) (c .part-count .ensures .0))
+    test-open (loop .inv) (loop-test .taken) (kind .ensures) (value-kind .ensures) _ (not-false _ (if1 .left)) (c .before .if2 .left)
+    (c .part-count .ensures .0))
     (λ c. test-end (c .before .loop .inv) _ (omega (arith, c .loop-test .left)) refl refl))
