@@ -19,10 +19,8 @@ use Rattle.reduction.proofs.SearchAnswer.{redex-step}
 use Rattle.reduction.proofs.Clear.{step-at}
 use Rattle.parts.specs.Fronts.{Starts, from}
 use Rattle.reducer.specs.Fits.{Scannable}
-use Rattle.reducer.specs.Searches.{Onward, Continues, movedBy, FindsFirst}
-use Rattle.reducer.specs.Marks.{Space}
-use Rattle.reducer.specs.Scans.{Scans, scanOf, placeOf}
-use Rattle.reducer.specs.declared.unused.Scan.{Scan}
+use Rattle.reducer.specs.Searches.{Onward, Continues, movedBy, placeOf, FindsFirst}
+use Rattle.reducer.specs.Unused.{Open, FindsUnused}
 use Rattle.normalizer.specs.Begun.{Begun}
 use Rattle.normalizer.specs.Finds.{SearchAt, Searchable, Finds}
 
@@ -69,12 +67,8 @@ module _ {calls words : List ℕ} {i : ℕ} where
     holds = record { shaped = s .at .shaped; is = s .at .is ∙ sym (append-nil (encode (s .term))) };
   }
 
-  pub marks-space : {phase : Phase} {marks : List ℕ} → Searchable phase calls words i marks → Space marks 0 (length words)
-  marks-space s = record { deep = omega (arith, s .deep); small = s .marks-small; low = λ d l. absurd (omega (arith, l)) }
+  pub marks-open : {phase : Phase} {marks : List ℕ} → Searchable phase calls words i marks → Open marks 0 (length words)
+  marks-open s = record { deep = omega (arith, s .deep); small = s .marks-small; low = λ d l. absurd (omega (arith, l)) }
 
-  pub finds-unused : {old new : List ℕ} (r : Scan) → Scans calls words 0 old new r → Finds Dropping calls words i (r .found)
-  unfolding scanOf
-  finds-unused r f = record {
-    told = λ t a. ap (λ (x : Scan). x .found)
-        (f .told t [] (record { shaped = a .shaped; is = a .is ∙ sym (append-nil (encode t)) }) .answer);
-  }
+  pub finds-unused : {r : Found} → FindsUnused calls words r → Finds Dropping calls words i r
+  finds-unused f = record { told = λ t a. f .told t (a .shaped) (a .is) }

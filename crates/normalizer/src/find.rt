@@ -1,8 +1,8 @@
 // The first redex of a phase in the current term.
 ghost use Rattle.normalizer.specs.Finds.{Searchable, Finds};
+use reducer::search::moved_by;
 use reducer::search::search;
 use reducer::unused::first_unused;
-use reducer::unused::moved_by;
 use reduction::Found;
 use reduction::Phase;
 
@@ -14,9 +14,6 @@ pub fn find(phase: Phase, calls: &[u64], term: &[u64], from: usize, marks: &mut 
     match phase {
         Phase::Insertion => moved_by(search(phase, calls, &term[from..]), from),
         Phase::Reduction => moved_by(search(phase, calls, &term[from..]), from),
-        Phase::Dropping => {
-            let scan = first_unused(calls, term, marks, 0);
-            scan.found
-        }
+        Phase::Dropping => first_unused(calls, term, marks),
     }
 }

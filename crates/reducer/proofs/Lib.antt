@@ -4,8 +4,9 @@ pub mod Finding
 pub mod Fitting
 pub mod Scanning
 pub mod Marking
-pub mod UnusedParts
-pub mod SeenParts
+pub mod Passing
+pub mod OpenMarks
+pub mod UnusedRows
 pub mod ByParts
 pub mod TestedParts
 pub mod NormalTests

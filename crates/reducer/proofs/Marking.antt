@@ -1,5 +1,5 @@
 -- Marking part by part: what is marked so far and what the parts still to come use make up the uses of the whole.
-use Prim.Native.Nat.{ℕ, suc, _+_, _-_, _^_, _≤_, _<_}
+use Prim.Native.Nat.{ℕ, suc, _+_, _-_, _*_, _^_, _≤_, _<_}
 use native.Mathlib.Omega.{arith}
 use native.Mathlib.Numerals.{add-one}
 use mathlib.Core.Path.{_≡_, refl, sym, _∙_, ap}
@@ -18,7 +18,7 @@ use Rattle.syntax.proofs.PartsUnder.{uses-node}
 use Rattle.syntax.proofs.Sizes.{sizeAll, size-var, size-call, size-lam, size-app, size-bind, size-pair, size-fst, size-snd, size-inl}
 use Rattle.syntax.proofs.Sizes.{size-inr}
 use Rattle.syntax.proofs.Sizes.{size-case, size-done, size-arg}
-use Rattle.reducer.specs.Marks.{Marked, Space}
+use Rattle.reducer.specs.Marks.{MarkedBy, Raisable, Marked, Space}
 
 at-most-one : (b : Bool) → counts b ≤ 1
 at-most-one true = omega arith
@@ -46,28 +46,35 @@ mutual
   uses-sizes (arg t ts) n = omega (arith, uses-size t n, uses-sizes ts n, size-arg t ts)
 
 -- a variable that a binder in scope binds, and one that names an input
-pub mark-binder : (used : List ℕ) (depth number : ℕ) → number < depth → depth ≤ length used
-    → Marked (var number) depth used (set used (depth - 1 - number) (getD used (depth - 1 - number) 0 + 1))
+pub mark-binder : (by : ℕ) (used : List ℕ) (depth number : ℕ) → number < depth → depth ≤ length used
+    → MarkedBy by (var number) depth used (set used (depth - 1 - number) (getD used (depth - 1 - number) 0 + by))
 unfolding uses
-mark-binder used depth number lt le = record { marks = λ d h. go d h (eqb number (depth - 1 - d)) refl }
+mark-binder by used depth number lt le = record { marks = λ d h. go d h (eqb number (depth - 1 - d)) refl }
   where
     m : ℕ
     m = depth - 1 - number
 
     go : (d : ℕ) → d < depth → (b : Bool) → eqb number (depth - 1 - d) ≡ b
-        → getD (set used m (getD used m 0 + 1)) d 0 ≡ getD used d 0 + counts (eqb number (depth - 1 - d))
+        → getD (set used m (getD used m 0 + by)) d 0 ≡ getD used d 0 + by * counts (eqb number (depth - 1 - d))
     go d h true e =
         let q : number ≡ depth - 1 - d = eqb-true number (depth - 1 - d) e in
         let i : d ≡ m = omega arith in
-        rw (e, i) (getD-set-same used m _ 0 (omega arith))
+        rw (e, i) (getD-set-same used m _ 0 (omega arith) ∙ omega arith)
     go d h false e =
         let q = eqb-false number (depth - 1 - d) e in
         rw e (getD-set-other used m d _ 0 (λ z. q (omega arith)) ∙ omega arith)
 
-pub mark-input : (used : List ℕ) (depth number : ℕ) → depth ≤ number → Marked (var number) depth used used
+pub mark-input : (by : ℕ) (used : List ℕ) (depth number : ℕ) → depth ≤ number → MarkedBy by (var number) depth used used
 unfolding uses
-mark-input used depth number le =
+mark-input by used depth number le =
     record { marks = λ d h. rw (ne-eqb number (depth - 1 - d) (λ e. omega arith)) (omega arith) }
+
+-- by one
+pub marked-once : {t : Term} {depth : ℕ} {old new : List ℕ} → MarkedBy 1 t depth old new → Marked t depth old new
+marked-once m = record { marks = λ d h. omega (arith, m .marks d h) }
+
+pub raisable-once : {used : List ℕ} {depth l : ℕ} → Space used depth l → 1 ≤ l → Raisable 1 used depth
+raisable-once s le = record { deep = omega (arith, s .deep); low = λ d h. omega (arith, s .low d h, le) }
 
 -- the marks as a part under b binders finds them: those of the binders in scope as they were, its own at zero
 pub record Opened (used opened : List ℕ) (depth b : ℕ) : Type 0 where

@@ -3,6 +3,6 @@ pub mod Operands
 pub mod Fits
 pub mod Searches
 pub mod Marks
-pub mod Scans
+pub mod Unused
 pub mod Roles
 pub mod NormalTest

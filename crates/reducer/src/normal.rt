@@ -102,7 +102,7 @@ pub fn value_test(calls: &[u64], t: &[u64], used: &mut [u64], depth: usize) -> P
     let w = t[0];
     let k = kind(w);
     if k == 0 {
-        mark(used, depth, number(w) as usize);
+        mark(used, depth, number(w) as usize, 1);
         return Part { end: 1, ok: true };
     }
     if k == 2 {

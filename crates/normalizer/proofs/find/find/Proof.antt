@@ -12,7 +12,7 @@ use Rattle.parts.specs.Fronts.{from}
 use Rattle.parts.proofs.Traversal.{from-length}
 use Rattle.reducer.specs.Searches.{FindsFirst, Continues}
 use Rattle.normalizer.proofs.Seeking.{continues, found-small, finds-from, insertion-ready, reduction-ready, whole-starts}
-use Rattle.normalizer.proofs.Seeking.{marks-space, finds-unused}
+use Rattle.normalizer.proofs.Seeking.{marks-open, finds-unused}
 use borrow.Author.Needs.{needs}
 use Rattle.normalizer.proofs.find.find.Statement.{statement}
 use Rattle.normalizer.proofs.find.find.Tie as tie
@@ -20,7 +20,7 @@ use Rattle.normalizer.proofs.find.find.Reads as reads
 use Rattle.normalizer.proofs.find.find.Lts as lts
 use Rattle.reducer.proofs.search.search.Reads as search-reads
 use Rattle.reducer.proofs.unused.first_unused.Reads as first-unused-reads
-use Rattle.reducer.proofs.unused.moved_by.Reads as moved-by-reads
+use Rattle.reducer.proofs.search.moved_by.Reads as moved-by-reads
 
 searchable-at : {p : Phase} (q : Phase) {calls words : List ℕ} {i : ℕ} {marks : List ℕ} → p ≡ q → Searchable p calls words i marks
     → Searchable q calls words i marks
@@ -90,7 +90,7 @@ find-spec =
     (λ c. search needs)
     (λ c κs.
     let pre = c .before .before .before .before .before .before .pre in
-    (whole-starts (pre), marks-space (pre)))
+    (whole-starts (pre), marks-open (pre), pre .small))
     (λ c.
     let enum-told = c .before .before .before .enum-told in
     finds-at Insertion (enum-told .given .1)
@@ -101,6 +101,5 @@ find-spec =
     (finds-from reduction-ready _ _ (first-at Reduction (enum-told2 .given .1) (c .before .search2 .ensures)) (c .moved-by2 .ensures)))
     (λ c. search needs)
     (λ c.
-    let enum-told3 = c .before .before .before .before .enum-told3 in
-    let first-unused = c .before .before .first-unused in
-    finds-at Dropping (enum-told3 .given .1) (finds-unused _ (first-unused .ensures))))
+    let at-search = c .before .before in
+    finds-at Dropping (at-search .before .before .enum-told3 .given .1) (finds-unused (at-search .first-unused .ensures))))

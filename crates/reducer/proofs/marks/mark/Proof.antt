@@ -1,4 +1,4 @@
--- A use of a binder in scope adds one to its mark, which lies as far from the innermost as the variable's number says.
+-- A use of a binder in scope raises its mark, which lies as far from the innermost as the variable's number says.
 use Prim.Native.Nat.{_-_}
 use native.Mathlib.Omega.{arith}
 use Rattle.reducer.proofs.Marking.{mark-binder, mark-input}
@@ -25,5 +25,5 @@ mark-spec =
     (λ c. search needs)
     (λ c.
     let pre = c .before .before .pre in
-    mark-binder _ _ _ (c .before .if1 .taken) (omega (arith, pre .deep)))
-    (λ c. mark-input _ _ _ (c .if1 .left)))
+    mark-binder _ _ _ _ (c .before .if1 .taken) (pre .deep))
+    (λ c. mark-input _ _ _ _ (c .if1 .left)))

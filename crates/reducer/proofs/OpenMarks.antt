@@ -1,0 +1,73 @@
+-- The mark of a node's binder before any use, by the kind of its word and the value test of what a let binds.
+use Prim.Native.Nat.{ℕ, _≤_}
+use native.Mathlib.Omega.{arith}
+use mathlib.Core.Path.{_≡_, refl, sym, _∙_, ap}
+use mathlib.Core.Bool.{Bool, true, false, cond}
+use mathlib.Core.List.{List}
+use lib.ListN.{getD}
+use Rattle.syntax.specs.Words.{kindOf}
+use Rattle.syntax.specs.Term.{Term, var, call, lam, app, bind, pair, fst, snd, inl, inr, case, node}
+use Rattle.parts.specs.Fronts.{Holds, Starts, from}
+use Rattle.parts.proofs.Traversal.{front-of}
+use Rattle.parts.proofs.PartsAt.{PartsAt, parts-of, part-here}
+use Rattle.reducer.specs.ValueTest.{Tests}
+use Rattle.reducer.specs.declared.value.Value.{Value}
+use Rattle.reducer.specs.Unused.{openMark, Opens}
+
+-- a term whose node is of kind 4 is a let
+kind-4 : (P : Term → Type 0) (t : Term) → node t .kind ≡ 4 → ((e b : Term) → P (bind e b)) → P t
+unfolding node
+kind-4 P (var n) h k = absurd (omega arith)
+kind-4 P (call n ts) h k = absurd (omega arith)
+kind-4 P (lam A b) h k = absurd (omega arith)
+kind-4 P (app f a) h k = absurd (omega arith)
+kind-4 P (bind e b) h k = k e b
+kind-4 P (pair A a b) h k = absurd (omega arith)
+kind-4 P (fst a) h k = absurd (omega arith)
+kind-4 P (snd a) h k = absurd (omega arith)
+kind-4 P (inl A a) h k = absurd (omega arith)
+kind-4 P (inr A a) h k = absurd (omega arith)
+kind-4 P (case s l r) h k = absurd (omega arith)
+
+other-mark : (p : ℕ) (t : Term) → (node t .kind ≡ 4 → ⊥) → 65536 ≡ openMark p t
+unfolding node openMark
+other-mark p (var n) h = refl
+other-mark p (call n ts) h = refl
+other-mark p (lam A b) h = refl
+other-mark p (app f a) h = refl
+other-mark p (bind e b) h = absurd (h refl)
+other-mark p (pair A a b) h = refl
+other-mark p (fst a) h = refl
+other-mark p (snd a) h = refl
+other-mark p (inl A a) h = refl
+other-mark p (inr A a) h = refl
+other-mark p (case s l r) h = refl
+
+module _ {calls words : List ℕ} where
+  -- what a let binds begins at the next word
+  bound-at : (e b : Term) (rest : List ℕ) → Holds calls words (bind e b) rest → Starts calls (from words 1)
+  unfolding node
+  bound-at e b rest h = record { term = e; rest = _; holds = part-here calls words (parts-of calls words h) }
+
+  pub bound-starts : Starts calls words → kindOf (getD words 0 0) ≡ 4 → Starts calls (from words 1)
+  bound-starts s k = kind-4 (λ t. Holds calls words t (s .rest) → Starts calls (from words 1)) (s .term) (sym (front-of (s .holds) .kind) ∙ k)
+      (λ e b h. bound-at e b (s .rest) h) (s .holds)
+
+  let-mark : (p : ℕ) {r : Value} → Tests calls (from words 1) r → (e b : Term) (rest : List ℕ) → Holds calls words (bind e b) rest
+      → cond (r .value) 65536 p ≡ openMark p (bind e b)
+  unfolding openMark node
+  let-mark p a e b rest h = ap (λ (v : Bool). cond v 65536 p) (a .told e _ (part-here calls words (parts-of calls words h)) .value-is)
+
+  module _ (p : ℕ) (le : p ≤ 65536) (k : kindOf (getD words 0 0) ≡ 4) {r : Value} (a : Tests calls (from words 1) r) where
+    by-test : (t : Term) (rest : List ℕ) → Holds calls words t rest → cond (r .value) 65536 p ≡ openMark p t
+    by-test t rest h = kind-4 (λ u. Holds calls words u rest → cond (r .value) 65536 p ≡ openMark p u) t (sym (front-of h .kind) ∙ k)
+        (λ e b g. let-mark p a e b rest g) h
+
+    pub opens-let : r .value ≡ false → Opens calls words p p
+    opens-let f = record { small = le; told = λ t rest h. sym (ap (λ (v : Bool). cond v 65536 p) f) ∙ by-test t rest h }
+
+    pub opens-value : r .value ≡ true → Opens calls words p 65536
+    opens-value f = record { small = omega arith; told = λ t rest h. sym (ap (λ (v : Bool). cond v 65536 p) f) ∙ by-test t rest h }
+
+  pub opens-other : (p : ℕ) → (kindOf (getD words 0 0) ≡ 4 → ⊥) → Opens calls words p 65536
+  opens-other p n = record { small = omega arith; told = λ t rest h. other-mark p t λ e. n (front-of h .kind ∙ e) }
