@@ -2,129 +2,157 @@
 use Prim.Native.Nat.{ℕ, _+_, _-_, _*_, _≤_}
 use native.Mathlib.Omega.{arith}
 use native.Mathlib.Nat.{mul-le-mul}
-use mathlib.Core.Path.{_≡_, sym, _∙_, ap₂}
+use mathlib.Core.Path.{_≡_, sym, _∙_, ap, ap₂, subst}
 use mathlib.Core.List.{List}
+use lib.Dec.{eqb→eq}
 use Rattle.syntax.specs.Term.{Term, var, lam, bind, pair, inl, inr, case, done, arg, node}
 use Rattle.syntax.specs.Encoding.{size}
 use Rattle.syntax.specs.Substitution.{_⟦_⟧}
 use Rattle.syntax.specs.Values.{uses}
 use Rattle.syntax.proofs.Sizes.{size-var, size-lam, size-app, size-bind, size-pair, size-fst, size-snd, size-inl, size-inr, size-case}
-use Rattle.syntax.proofs.Sizes.{size-substitute}
-use Rattle.reduction.specs.Rules.{allPure}
-use Rattle.reduction.specs.declared.Rule.the-variants.{LetOfLet, LetOfCase, Apply, First, Second, LeftCase, RightCase}
-use Rattle.reduction.proofs.Fires.{Fires, f-let, f-case, f-apply, f-first, f-second, f-left, f-right}
+use Rattle.syntax.proofs.Sizes.{size-rename, size-substitute}
+use Rattle.reduction.specs.Rules.{allPure, lower}
+use Rattle.reduction.specs.declared.Rule.the-variants.{LetOfLet, LetOfCase, Apply, First, Second, LeftCase, RightCase, LetValue, Drop}
+use Rattle.reduction.proofs.Fires.{Fires, f-let, f-case, f-apply, f-first, f-second, f-left, f-right, f-value, f-drop}
+use Rattle.reduction.proofs.Lowered.{rename-lower}
 use Rattle.reduction.proofs.NextSize.{size-letOfLet, size-letOfCase}
 use Rattle.parts.specs.Joined.{joined}
 use Rattle.parts.specs.Fronts.{Holds, from}
 use Rattle.parts.specs.Ends.{Sized}
-use Rattle.parts.specs.Counts.{Counts}
+use Rattle.parts.specs.Counts.{Counted, Counts}
 use Rattle.parts.specs.declared.uses.Uses.{Uses}
 use Rattle.parts.proofs.PartsAt.{PartsAt, parts-of, parts-open, part-here, parts-past}
 use Rattle.rewriter.specs.declared.plan.Plan.the-variants.{Substitute, Copy, MoveLet, MoveCase}
-use Rattle.rewriter.specs.Plans.{substitutes, copies, moves-let, moves-case, MeasuredAs, Measures, MeasuresLet}
+use Rattle.rewriter.specs.Plans.{Laid, substitutes, copies, moves-let, moves-case, SizedWith, MeasuredAs, Measures}
 use Rattle.rewriter.proofs.Rows.{fired}
 
 pub product-small : (u n : ℕ) → u ≤ 8192 → n ≤ 8192 → u * n ≤ 67108864
 product-small u n p q = mul-le-mul p q
 
 -- the size of a body with a value in it, from what is counted and measured
-size-put : (b v : Term) (u : Uses) (n w : ℕ) → u .end ≡ size b → u .uses ≡ uses b 0 → n ≡ size v → u .uses ≤ u .end
-    → w ≡ u .end - u .uses + u .uses * n → w ≡ size (b ⟦ v ⟧)
-size-put b v u n w be ue ve few we =
-    omega (arith, be, ue, few, we, ap₂ _*_ ue ve, size-substitute b v)
+put : (b v : Term) (u : Uses) (n w : ℕ) → Counted b 0 u → u .uses ≤ u .end → n ≡ size v → w ≡ u .end - u .uses + u .uses * n
+    → w ≡ size (b ⟦ v ⟧)
+put b v u n w c few ve we = omega (arith, c .end-is, c .uses-is, few, we, ap₂ _*_ (c .uses-is) ve, size-substitute b v)
+
+-- a value of one word leaves the size of a body
+put-word : (b v : Term) → 1 ≡ size v → size (b ⟦ v ⟧) ≡ size b
+put-word b v e = omega (arith, size-substitute b v, ap (λ (n : ℕ). uses b 0 * n) e)
+
+module _ {calls words : List ℕ} where
+  pub counted-with : {u : Uses} {n w : ℕ} → Counts calls words 0 u → w ≡ u .end - u .uses + u .uses * n → SizedWith calls words n w
+  counted-with {u} {n} {w} c e = record { told = λ b v rest h ve. put b v u n w (c .told b rest h) (c .few) ve e }
+
+  pub word-with : {n w : ℕ} → Sized calls words w → n ≡ 1 → SizedWith calls words n w
+  word-with s e = record { told = λ b v rest h ve. s .told b rest h ∙ sym (put-word b v (sym e ∙ ve)) }
 
 module _ (calls words : List ℕ) where
-  -- a body and a value, where they stand
-  put : (i j : ℕ) {b v : Term} {k l : List ℕ} {u : Uses} {n w : ℕ} → Holds calls (from words i) b k → Holds calls (from words j) v l
-      → Counts calls (from words i) 0 u → Sized calls (from words j) n → w ≡ u .end - u .uses + u .uses * n → w ≡ size (b ⟦ v ⟧)
-  put i j {b = b} {v = v} {k = k} {l = l} {u = u} {n = n} {w = w} hb hv c s e =
-      let d = c .told b k hb in size-put b v u n w (d .end-is) (d .uses-is) (s .told v l hv) (c .few) e
-
   applied : {x y : Term} {rest : List ℕ} → Holds calls words x rest → Fires allPure Apply x y
-      → (u : Uses) (n w : ℕ) → Counts calls (from words 2) 0 u → Sized calls (from words (2 + u .end)) n
-      → w ≡ u .end - u .uses + u .uses * n
-      → MeasuredAs calls words x y (record { plan = Substitute 2 (2 + u .end); read = 2 + u .end + n; wrote = w })
+      → (m n w : ℕ) → Sized calls (from words 2) m → Sized calls (from words (2 + m)) n → SizedWith calls (from words 2) n w
+      → MeasuredAs calls words x y (record { plan = Substitute 2 (2 + m); read = 2 + m + n; wrote = w })
   unfolding node joined
-  applied {rest = rest} h (f-apply {A = A} {b = b} {v = v} q) u n w c s e =
+  applied {rest = rest} h (f-apply {A = A} {b = b} {v = v} q) m n w s d f =
       let at : PartsAt calls words 2 (arg b (arg v done)) rest = parts-open calls words (parts-of calls words h) in
       let hb = part-here calls words at in
-      let be = c .told b _ hb .end-is in
-      let hv = part-here calls words (parts-past calls words at (u .end) be) in
+      let be = s .told b _ hb in
+      let hv = part-here calls words (parts-past calls words at m be) in
+      let ve = d .told v _ hv in
       record {
-        read-is = omega (arith, size-app (lam A b) v, size-lam A b, be, s .told v _ hv);
-        wrote-is = put 2 (2 + u .end) hb hv c s e;
+        read-is = omega (arith, size-app (lam A b) v, size-lam A b, be, ve);
+        wrote-is = f .told b v _ hb ve;
         laid = substitutes hb hv;
       }
 
-  pub apply-measures : (u : Uses) (n w : ℕ) → Counts calls (from words 2) 0 u → Sized calls (from words (2 + u .end)) n
-      → w ≡ u .end - u .uses + u .uses * n
-      → Measures Apply calls words (record { plan = Substitute 2 (2 + u .end); read = 2 + u .end + n; wrote = w })
-  apply-measures u n w c s e = record { told = λ x y rest h f. applied h (fired Apply x y f) u n w c s e }
+  pub apply-measures : (m n w : ℕ) → Sized calls (from words 2) m → Sized calls (from words (2 + m)) n
+      → SizedWith calls (from words 2) n w
+      → Measures Apply calls words (record { plan = Substitute 2 (2 + m); read = 2 + m + n; wrote = w })
+  apply-measures m n w s d f = record { told = λ x y rest h e. applied h (fired Apply x y e) m n w s d f }
 
-  pub let-measures : (n : ℕ) (u : Uses) (w : ℕ) → Sized calls (from words 1) n → Counts calls (from words (1 + n)) 0 u
-      → w ≡ u .end - u .uses + u .uses * n
-      → MeasuresLet calls words (record { plan = Substitute (1 + n) 1; read = 1 + n + u .end; wrote = w })
-  unfolding node
-  let-measures n u w s c e = record {
-    told = λ v b rest h.
+  -- a let: the bound part, then the body
+  module _ (n m : ℕ) (s : Sized calls (from words 1) n) (d : Sized calls (from words (1 + n)) m) where
+    put-in : {x y : Term} {rest : List ℕ} → Holds calls words x rest → Fires allPure LetValue x y
+        → (w : ℕ) → SizedWith calls (from words (1 + n)) n w
+        → MeasuredAs calls words x y (record { plan = Substitute (1 + n) 1; read = 1 + n + m; wrote = w })
+    unfolding node
+    put-in {rest = rest} h (f-value {v = v} {b = b} q) w f =
         let at : PartsAt calls words 1 (arg v (arg b done)) rest = parts-of calls words h in
         let hv = part-here calls words at in
         let ve = s .told v _ hv in
         let hb = part-here calls words (parts-past calls words at n ve) in
         record {
-          read-is = omega (arith, size-bind v b, ve, c .told b _ hb .end-is);
-          wrote-is = put (1 + n) 1 hb hv c s e;
+          read-is = omega (arith, size-bind v b, ve, d .told b _ hb);
+          wrote-is = f .told b v _ hb ve;
           laid = substitutes hb hv;
-        };
-  }
+        }
 
-  left : {x y : Term} {rest : List ℕ} → Holds calls words x rest → Fires allPure LeftCase x y
-      → (n : ℕ) (u : Uses) (m w : ℕ) → Sized calls (from words 2) n → Counts calls (from words (2 + n)) 0 u
-      → Sized calls (from words (2 + n + u .end)) m → w ≡ u .end - u .uses + u .uses * n
-      → MeasuredAs calls words x y (record { plan = Substitute (2 + n) 2; read = 2 + n + u .end + m; wrote = w })
-  unfolding node joined
-  left {rest = rest} h (f-left {A = A} {v = v} {l = l} {r = r} q) n u m w s c d e =
-      let at : PartsAt calls words 2 (arg v (arg l (arg r done))) rest = parts-open calls words (parts-of calls words h) in
-      let hv = part-here calls words at in
-      let ve = s .told v _ hv in
-      let at₂ = parts-past calls words at n ve in
-      let hl = part-here calls words at₂ in
-      let le = c .told l _ hl .end-is in
-      let hr = part-here calls words (parts-past calls words at₂ (u .end) le) in
-      record {
-        read-is = omega (arith, size-case (inl A v) l r, size-inl A v, ve, le, d .told r _ hr);
-        wrote-is = put (2 + n) 2 hl hv c s e;
-        laid = substitutes hl hv;
-      }
+    -- dropping an unused variable is substituting anything for it
+    dropped : {x y : Term} {rest : List ℕ} → Holds calls words x rest → Fires allPure Drop x y
+        → MeasuredAs calls words x y (record { plan = Substitute (1 + n) 1; read = 1 + n + m; wrote = m })
+    unfolding node
+    dropped {rest = rest} h (f-drop {e = v} {b = b} p q z) =
+        let at : PartsAt calls words 1 (arg v (arg b done)) rest = parts-of calls words h in
+        let hv = part-here calls words at in
+        let ve = s .told v _ hv in
+        let hb = part-here calls words (parts-past calls words at n ve) in
+        let be = d .told b _ hb in
+        record {
+          read-is = omega (arith, size-bind v b, ve, be);
+          wrote-is = be ∙ sym (size-rename b lower);
+          laid = subst (λ (y : Term). Laid calls words (Substitute (1 + n) 1) y) (sym (rename-lower b v (eqb→eq (uses b 0) 0 z)))
+              (substitutes hb hv);
+        }
 
-  pub left-measures : (n : ℕ) (u : Uses) (m w : ℕ) → Sized calls (from words 2) n → Counts calls (from words (2 + n)) 0 u
-      → Sized calls (from words (2 + n + u .end)) m → w ≡ u .end - u .uses + u .uses * n
-      → Measures LeftCase calls words (record { plan = Substitute (2 + n) 2; read = 2 + n + u .end + m; wrote = w })
-  left-measures n u m w s c d e = record { told = λ x y rest h f. left h (fired LeftCase x y f) n u m w s c d e }
+    pub value-measures : (w : ℕ) → SizedWith calls (from words (1 + n)) n w
+        → Measures LetValue calls words (record { plan = Substitute (1 + n) 1; read = 1 + n + m; wrote = w })
+    value-measures w f = record { told = λ x y rest h e. put-in h (fired LetValue x y e) w f }
 
-  right : {x y : Term} {rest : List ℕ} → Holds calls words x rest → Fires allPure RightCase x y
-      → (n m : ℕ) (u : Uses) (w : ℕ) → Sized calls (from words 2) n → Sized calls (from words (2 + n)) m
-      → Counts calls (from words (2 + n + m)) 0 u → w ≡ u .end - u .uses + u .uses * n
-      → MeasuredAs calls words x y (record { plan = Substitute (2 + n + m) 2; read = 2 + n + m + u .end; wrote = w })
-  unfolding node joined
-  right {rest = rest} h (f-right {A = A} {v = v} {l = l} {r = r} q) n m u w s d c e =
-      let at : PartsAt calls words 2 (arg v (arg l (arg r done))) rest = parts-open calls words (parts-of calls words h) in
-      let hv = part-here calls words at in
-      let ve = s .told v _ hv in
-      let at₂ = parts-past calls words at n ve in
-      let hl = part-here calls words at₂ in
-      let le = d .told l _ hl in
-      let hr = part-here calls words (parts-past calls words at₂ m le) in
-      record {
-        read-is = omega (arith, size-case (inr A v) l r, size-inr A v, ve, le, c .told r _ hr .end-is);
-        wrote-is = put (2 + n + m) 2 hr hv c s e;
-        laid = substitutes hr hv;
-      }
+    pub drop-measures : Measures Drop calls words (record { plan = Substitute (1 + n) 1; read = 1 + n + m; wrote = m })
+    drop-measures = record { told = λ x y rest h e. dropped h (fired Drop x y e) }
 
-  pub right-measures : (n m : ℕ) (u : Uses) (w : ℕ) → Sized calls (from words 2) n → Sized calls (from words (2 + n)) m
-      → Counts calls (from words (2 + n + m)) 0 u → w ≡ u .end - u .uses + u .uses * n
-      → Measures RightCase calls words (record { plan = Substitute (2 + n + m) 2; read = 2 + n + m + u .end; wrote = w })
-  right-measures n m u w s d c e = record { told = λ x y rest h f. right h (fired RightCase x y f) n m u w s d c e }
+  -- a case on an injection: the value, then the branches
+  module _ (n m k w : ℕ) (s₁ : Sized calls (from words 2) n) (s₂ : Sized calls (from words (2 + n)) m)
+      (s₃ : Sized calls (from words (2 + n + m)) k) where
+    left : {x y : Term} {rest : List ℕ} → Holds calls words x rest → Fires allPure LeftCase x y → SizedWith calls (from words (2 + n)) n w
+        → MeasuredAs calls words x y (record { plan = Substitute (2 + n) 2; read = 2 + n + m + k; wrote = w })
+    unfolding node joined
+    left {rest = rest} h (f-left {A = A} {v = v} {l = l} {r = r} q) f =
+        let at : PartsAt calls words 2 (arg v (arg l (arg r done))) rest = parts-open calls words (parts-of calls words h) in
+        let hv = part-here calls words at in
+        let ve = s₁ .told v _ hv in
+        let at₂ = parts-past calls words at n ve in
+        let hl = part-here calls words at₂ in
+        let le = s₂ .told l _ hl in
+        let hr = part-here calls words (parts-past calls words at₂ m le) in
+        record {
+          read-is = omega (arith, size-case (inl A v) l r, size-inl A v, ve, le, s₃ .told r _ hr);
+          wrote-is = f .told l v _ hl ve;
+          laid = substitutes hl hv;
+        }
+
+    right : {x y : Term} {rest : List ℕ} → Holds calls words x rest → Fires allPure RightCase x y
+        → SizedWith calls (from words (2 + n + m)) n w
+        → MeasuredAs calls words x y (record { plan = Substitute (2 + n + m) 2; read = 2 + n + m + k; wrote = w })
+    unfolding node joined
+    right {rest = rest} h (f-right {A = A} {v = v} {l = l} {r = r} q) f =
+        let at : PartsAt calls words 2 (arg v (arg l (arg r done))) rest = parts-open calls words (parts-of calls words h) in
+        let hv = part-here calls words at in
+        let ve = s₁ .told v _ hv in
+        let at₂ = parts-past calls words at n ve in
+        let hl = part-here calls words at₂ in
+        let le = s₂ .told l _ hl in
+        let hr = part-here calls words (parts-past calls words at₂ m le) in
+        record {
+          read-is = omega (arith, size-case (inr A v) l r, size-inr A v, ve, le, s₃ .told r _ hr);
+          wrote-is = f .told r v _ hr ve;
+          laid = substitutes hr hv;
+        }
+
+    pub left-measures : SizedWith calls (from words (2 + n)) n w
+        → Measures LeftCase calls words (record { plan = Substitute (2 + n) 2; read = 2 + n + m + k; wrote = w })
+    left-measures f = record { told = λ x y rest h e. left h (fired LeftCase x y e) f }
+
+    pub right-measures : SizedWith calls (from words (2 + n + m)) n w
+        → Measures RightCase calls words (record { plan = Substitute (2 + n + m) 2; read = 2 + n + m + k; wrote = w })
+    right-measures f = record { told = λ x y rest h e. right h (fired RightCase x y e) f }
 
   module _ (n m : ℕ) (s : Sized calls (from words 2) n) (d : Sized calls (from words (2 + n)) m) where
     left-half : {x y : Term} {rest : List ℕ} → Holds calls words x rest → Fires allPure First x y

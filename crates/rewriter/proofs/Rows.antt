@@ -3,18 +3,18 @@ use Prim.Native.Nat.{ℕ}
 use mathlib.Core.Path.{_≡_, refl, sym}
 use mathlib.Core.List.{List}
 use mathlib.Core.Option.{some}
-use Rattle.syntax.specs.Term.{Term, var, case, done, arg, node}
+use Rattle.syntax.specs.Term.{Term, var, done, arg, node}
 use Rattle.syntax.specs.Shaped.{count}
 use Rattle.syntax.proofs.Options.{every-at}
 use Rattle.syntax.proofs.Sizes.{size-var}
 use Rattle.reduction.specs.Rules.{allPure, fire}
 use Rattle.reduction.specs.declared.Rule.{Rule}
-use Rattle.reduction.specs.declared.Rule.the-variants.{LetOfLet, LetOfCase, Apply, First, Second, LeftCase, RightCase}
-use Rattle.reduction.proofs.Fires.{Fires, fires, f-let, f-case, f-apply, f-first, f-second, f-left, f-right}
+use Rattle.reduction.specs.declared.Rule.the-variants.{LetOfLet, LetOfCase, Apply, First, Second, LeftCase, RightCase, LetValue, Drop}
+use Rattle.reduction.proofs.Fires.{Fires, fires, f-let, f-case, f-apply, f-first, f-second, f-left, f-right, f-value, f-drop}
 use Rattle.parts.specs.Joined.{joined}
 use Rattle.parts.specs.Fronts.{Holds}
 use Rattle.parts.proofs.PartsAt.{PartsAt, parts-of, parts-open, parts-past, Row}
-use Rattle.rewriter.specs.Plans.{StartsRedex, StartsLet}
+use Rattle.rewriter.specs.Plans.{StartsRedex}
 
 pub fired : (r : Rule) (x y : Term) → fire allPure r x ≡ some y → Fires allPure r x y
 fired r x y e = every-at y (fires allPure r x) e
@@ -27,6 +27,11 @@ pub data Inner : Rule → ℕ → Type 0 where
   of-second : Inner Second 2
   of-left : Inner LeftCase 3
   of-right : Inner RightCase 3
+
+-- the rules that look no further than a let
+pub data Outer : Rule → Type 0 where
+  of-value : Outer LetValue
+  of-drop : Outer Drop
 
 module _ (calls words : List ℕ) where
   inner-row : {r : Rule} {n : ℕ} {x y : Term} {rest : List ℕ} → Inner r n → Fires allPure r x y → Holds calls words x rest
@@ -54,6 +59,10 @@ module _ (calls words : List ℕ) where
   case-row s = branches (fired LetOfCase (s .start .term) (s .contractum) (s .fires)) (s .start .holds)
 
   -- of a let
-  pub let-row : StartsLet calls words → Row calls words 1 2
+  bound-row : {r : Rule} {x y : Term} {rest : List ℕ} → Outer r → Fires allPure r x y → Holds calls words x rest → Row calls words 1 2
   unfolding node count
-  let-row s = record { parts = arg (s .bound) (arg (s .body) done); rest = s .rest; at = parts-of calls words (s .holds); many = refl }
+  bound-row of-value (f-value q) h = record { parts = _; rest = _; at = parts-of calls words h; many = refl }
+  bound-row of-drop (f-drop p q z) h = record { parts = _; rest = _; at = parts-of calls words h; many = refl }
+
+  pub let-row : {r : Rule} → Outer r → StartsRedex r calls words → Row calls words 1 2
+  let-row {r} o s = bound-row o (fired r (s .start .term) (s .contractum) (s .fires)) (s .start .holds)

@@ -47,6 +47,10 @@ pub data Laid (calls words : List ℕ) : Plan → Term → Type 0 where
   inserts : {index start n : ℕ} {x p z : Term} {m o : List ℕ} → Holds calls words x m → Inserted index x z
       → Holds calls (from words start) p o → n ≡ size p → Laid calls words (Insert index start n) (bind p z)
 
+-- with a value of n words for the variable that its node binds, the term at the front has w words
+pub record SizedWith (calls words : List ℕ) (n w : ℕ) : Type 0 where
+  pub told : (b v : Term) (rest : List ℕ) → Holds calls words b rest → n ≡ size v → w ≡ size (b ⟦ v ⟧)
+
 -- what was measured of a node x that becomes y
 pub record MeasuredAs (calls words : List ℕ) (x y : Term) (r : Measured) : Type 0 where
   pub read-is : r .read ≡ size x
@@ -62,14 +66,3 @@ pub record StartsRedex (rule : Rule) (calls words : List ℕ) : Type 0 where
 -- for whatever redex of the rule is at the front
 pub record Measures (rule : Rule) (calls words : List ℕ) (r : Measured) : Type 0 where
   pub told : (x y : Term) (rest : List ℕ) → Holds calls words x rest → fire allPure rule x ≡ some y → MeasuredAs calls words x y r
-
--- the words begin with a let
-pub record StartsLet (calls words : List ℕ) : Type 0 where
-  pub bound : Term
-  pub body : Term
-  pub rest : List ℕ
-  pub holds : Holds calls words (bind bound body) rest
-
--- for whatever let is at the front: its body with the bound part in it
-pub record MeasuresLet (calls words : List ℕ) (r : Measured) : Type 0 where
-  pub told : (e b : Term) (rest : List ℕ) → Holds calls words (bind e b) rest → MeasuredAs calls words (bind e b) (b ⟦ e ⟧) r

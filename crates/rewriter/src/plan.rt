@@ -6,7 +6,8 @@ ghost use Rattle.parts.specs.Fronts.{Starts, from};
 ghost use Rattle.parts.specs.Ends.{Sized};
 ghost use Rattle.parts.specs.Counts.{Counts};
 ghost use Rattle.reduction.specs.declared.Rule.the-variants.{LetInsertion, LetOfLet, LetOfCase, Apply, First, Second, LeftCase, RightCase};
-ghost use Rattle.rewriter.specs.Plans.{StartsRedex, StartsLet, Measures, MeasuresLet};
+ghost use Rattle.reduction.specs.declared.Rule.the-variants.{LetValue, Drop};
+ghost use Rattle.rewriter.specs.Plans.{StartsRedex, SizedWith, Measures};
 use parts::ends::part_size;
 use parts::uses::Uses;
 use parts::uses::count_uses;
@@ -55,33 +56,62 @@ fn uses_from(calls: &[u64], t: &[u64], at: usize) -> Uses
     count_uses(calls, &t[at..], 0)
 }
 
+// how many words the part of `end` words that starts at an index has with a value of `size` words for the variable that its node binds;
+// a value of one word leaves it as long as it is, so uses are counted only for longer ones
+fn written(calls: &[u64], t: &[u64], at: usize, end: usize, size: usize) -> usize
+    requires { ⌜ Starts (now calls) (from (now t) at) × (at ≤ length (now t)) × (length (now t) ≤ 8192) × Sized (now calls) (from (now t) at) end
+        × (size ≤ 8192) ⌝ }
+    ensures { λ r. ⌜ SizedWith (now (calls .entry)) (from (now (t .entry)) at) size r ⌝ }
+{
+    if size == 1 {
+        return end;
+    }
+    let body = uses_from(calls, t, at);
+    substituted(body.end, body.uses, size)
+}
+
 // apply: the body stands at 2, the value behind it
 fn apply(calls: &[u64], t: &[u64]) -> Measured
     requires { ⌜ StartsRedex Apply (now calls) (now t) × (length (now t) ≤ 8192) ⌝ }
     ensures { λ r. ⌜ Measures Apply (now (calls .entry)) (now (t .entry)) r ⌝ }
 {
-    let body = uses_from(calls, t, 2);
-    let value = 2 + body.end;
+    let end = size_from(calls, t, 2);
+    let value = 2 + end;
     let size = size_from(calls, t, value);
     Measured {
         plan: Plan::Substitute(2, value),
         read: value + size,
-        wrote: substituted(body.end, body.uses, size),
+        wrote: written(calls, t, 2, end, size),
     }
 }
 
-// let value and drop: the bound part stands at 1, the body behind it
+// let value: the bound part stands at 1, the body behind it
 fn let_value(calls: &[u64], t: &[u64]) -> Measured
-    requires { ⌜ StartsLet (now calls) (now t) × (length (now t) ≤ 8192) ⌝ }
-    ensures { λ r. ⌜ MeasuresLet (now (calls .entry)) (now (t .entry)) r ⌝ }
+    requires { ⌜ StartsRedex LetValue (now calls) (now t) × (length (now t) ≤ 8192) ⌝ }
+    ensures { λ r. ⌜ Measures LetValue (now (calls .entry)) (now (t .entry)) r ⌝ }
 {
     let size = size_from(calls, t, 1);
     let start = 1 + size;
-    let body = uses_from(calls, t, start);
+    let end = size_from(calls, t, start);
     Measured {
         plan: Plan::Substitute(start, 1),
-        read: start + body.end,
-        wrote: substituted(body.end, body.uses, size),
+        read: start + end,
+        wrote: written(calls, t, start, end, size),
+    }
+}
+
+// drop: as for let value; the variable is not used, so the body stays as long as it is
+fn drop_let(calls: &[u64], t: &[u64]) -> Measured
+    requires { ⌜ StartsRedex Drop (now calls) (now t) × (length (now t) ≤ 8192) ⌝ }
+    ensures { λ r. ⌜ Measures Drop (now (calls .entry)) (now (t .entry)) r ⌝ }
+{
+    let size = size_from(calls, t, 1);
+    let start = 1 + size;
+    let end = size_from(calls, t, start);
+    Measured {
+        plan: Plan::Substitute(start, 1),
+        read: start + end,
+        wrote: end,
     }
 }
 
@@ -92,13 +122,13 @@ fn left_case(calls: &[u64], t: &[u64]) -> Measured
 {
     let size = size_from(calls, t, 2);
     let left = 2 + size;
-    let body = uses_from(calls, t, left);
-    let right = left + body.end;
+    let end = size_from(calls, t, left);
+    let right = left + end;
     let other = size_from(calls, t, right);
     Measured {
         plan: Plan::Substitute(left, 2),
         read: right + other,
-        wrote: substituted(body.end, body.uses, size),
+        wrote: written(calls, t, left, end, size),
     }
 }
 
@@ -111,11 +141,11 @@ fn right_case(calls: &[u64], t: &[u64]) -> Measured
     let left = 2 + size;
     let other = size_from(calls, t, left);
     let right = left + other;
-    let body = uses_from(calls, t, right);
+    let end = size_from(calls, t, right);
     Measured {
         plan: Plan::Substitute(right, 2),
-        read: right + body.end,
-        wrote: substituted(body.end, body.uses, size),
+        read: right + end,
+        wrote: written(calls, t, right, end, size),
     }
 }
 
@@ -209,6 +239,6 @@ pub fn measure(rule: Rule, calls: &[u64], t: &[u64]) -> Measured
         Rule::LeftCase => left_case(calls, t),
         Rule::RightCase => right_case(calls, t),
         Rule::LetValue => let_value(calls, t),
-        Rule::Drop => let_value(calls, t),
+        Rule::Drop => drop_let(calls, t),
     }
 }

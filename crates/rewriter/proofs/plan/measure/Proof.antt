@@ -1,11 +1,12 @@
 -- Each rule has its measure.
-use Rattle.rewriter.proofs.ByRule.{redex-of, measures-of, value-let, drop-let, value-measures, drop-measures}
+use Rattle.rewriter.proofs.ByRule.{redex-of, measures-of}
 use borrow.Author.Needs.{needs}
 use Rattle.rewriter.proofs.plan.measure.Statement.{statement}
 use Rattle.rewriter.proofs.plan.measure.Tie as tie
 use Rattle.rewriter.proofs.plan.measure.Reads as reads
 use Rattle.rewriter.proofs.plan.measure.Lts as lts
 use Rattle.rewriter.proofs.plan.apply.Reads as apply-reads
+use Rattle.rewriter.proofs.plan.drop_let.Reads as drop-let-reads
 use Rattle.rewriter.proofs.plan.first.Reads as first-reads
 use Rattle.rewriter.proofs.plan.left_case.Reads as left-case-reads
 use Rattle.rewriter.proofs.plan.let_insertion.Reads as let-insertion-reads
@@ -54,11 +55,11 @@ measure-spec =
     (λ c. search needs)
     (λ c κs.
     let pre = c .before .before .before .before .pre in
-    (value-let (redex-of (c .enum-told9 .given .1) (pre .0)), pre .1))
+    (redex-of (c .enum-told9 .given .1) (pre .0), pre .1))
     (λ c. search needs)
     (λ c κs.
     let pre = c .before .before .before .before .pre in
-    (drop-let (redex-of (c .enum-told10 .given .1) (pre .0)), pre .1))
+    (redex-of (c .enum-told10 .given .1) (pre .0), pre .1))
     (λ c. measures-of (c .before .enum-told .given .1) (c .let-insertion .ensures))
     (λ c. measures-of (c .before .enum-told2 .given .1) (c .let-of-let .ensures))
     (λ c. measures-of (c .before .enum-told3 .given .1) (c .let-of-case .ensures))
@@ -67,5 +68,5 @@ measure-spec =
     (λ c. measures-of (c .before .enum-told6 .given .1) (c .second .ensures))
     (λ c. measures-of (c .before .enum-told7 .given .1) (c .left-case .ensures))
     (λ c. measures-of (c .before .enum-told8 .given .1) (c .right-case .ensures))
-    (λ c. measures-of (c .before .enum-told9 .given .1) (value-measures (c .let-value .ensures)))
-    (λ c. measures-of (c .before .enum-told10 .given .1) (drop-measures (c .let-value2 .ensures))))
+    (λ c. measures-of (c .before .enum-told9 .given .1) (c .let-value .ensures))
+    (λ c. measures-of (c .before .enum-told10 .given .1) (c .drop-let .ensures)))

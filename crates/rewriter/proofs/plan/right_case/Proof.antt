@@ -1,6 +1,6 @@
 -- The value and the branches stand in a row behind the two nodes.
 use native.Mathlib.Omega.{arith}
-use Rattle.parts.proofs.PartsAt.{row-high, row-starts, row-next, counts-sized}
+use Rattle.parts.proofs.PartsAt.{row-high, row-starts, row-next}
 use Rattle.rewriter.proofs.Rows.{redex-row, of-right}
 use Rattle.rewriter.proofs.Measuring.{right-measures}
 use Rattle.rewriter.proofs.plan.right_case.Statement.{statement}
@@ -8,8 +8,7 @@ use Rattle.rewriter.proofs.plan.right_case.Tie as tie
 use Rattle.rewriter.proofs.plan.right_case.Reads as reads
 use Rattle.rewriter.proofs.plan.right_case.Lts as lts
 use Rattle.rewriter.proofs.plan.size_from.Reads as size-from-reads
-use Rattle.rewriter.proofs.plan.substituted.Reads as substituted-reads
-use Rattle.rewriter.proofs.plan.uses_from.Reads as uses-from-reads
+use Rattle.rewriter.proofs.plan.written.Reads as written-reads
 
 pub right-case-spec : {M : Type 1} → statement M
 right-case-spec =
@@ -44,26 +43,23 @@ right-case-spec =
     let row₃ = row-next _ _ row₂ (omega arith) _ (c .size-from2 .ensures) in
     (row-starts _ _ row₃ (omega arith), row-high _ _ row₃, pre .1))
     (λ c.
-    let pre = c .before .before .before .before .before .before .pre in
-    let size-from = c .before .before .before .size-from in
-    let size-from2 = c .before .before .size-from2 in
+    let pre = c .before .before .before .before .before .pre in
+    let size-from = c .before .before .size-from in
+    let size-from2 = c .before .size-from2 in
     let row₁ = redex-row _ _ of-right (pre .0) in
     let row₂ = row-next _ _ row₁ (omega arith) _ (size-from .ensures) in
     let row₃ = row-next _ _ row₂ (omega arith) _ (size-from2 .ensures) in
-    let row₄ = row-next _ _ row₃ (omega arith) _ (counts-sized (c .before .uses-from .ensures)) in
+    let row₄ = row-next _ _ row₃ (omega arith) _ (c .size-from3 .ensures) in
     omega (arith, row-high _ _ row₄, pre .1))
     (λ c κs.
-    let pre = c .before .before .before .before .before .before .pre in
-    let size-from = c .before .before .before .size-from in
-    let size-from2 = c .before .before .size-from2 in
-    let uses-from = c .before .uses-from in
+    let pre = c .before .before .before .before .before .pre in
+    let size-from = c .before .before .size-from in
+    let size-from2 = c .before .size-from2 in
     let row₁ = redex-row _ _ of-right (pre .0) in
     let row₂ = row-next _ _ row₁ (omega arith) _ (size-from .ensures) in
     let row₃ = row-next _ _ row₂ (omega arith) _ (size-from2 .ensures) in
-    let row₄ = row-next _ _ row₃ (omega arith) _ (counts-sized (uses-from .ensures)) in
-    (uses-from .ensures .few, omega (arith, row-high _ _ row₄, pre .1), omega (arith, row-high _ _ row₂, pre .1)))
+    (row-starts _ _ row₃ (omega arith), row-high _ _ row₃, pre .1, c .size-from3 .ensures, omega (arith, row-high _ _ row₂, pre .1)))
     (λ c.
-    let size-from = c .before .before .before .before .size-from in
-    let size-from2 = c .before .before .before .size-from2 in
-    let uses-from = c .before .before .uses-from in
-    right-measures _ _ _ _ _ _ (size-from .ensures) (size-from2 .ensures) (uses-from .ensures) (c .substituted .ensures)))
+    let size-from = c .before .before .before .size-from in
+    let size-from2 = c .before .before .size-from2 in
+    right-measures _ _ _ _ _ _ (size-from .ensures) (size-from2 .ensures) (c .before .size-from3 .ensures) (c .written .ensures)))
