@@ -2,15 +2,13 @@
 use mathlib.Core.Path.{_≡_, refl, sym, _∙_, ap}
 use mathlib.Core.Bool.{Bool, true, false, _&&_, not}
 use mathlib.Core.List.{List, [], _∷_}
-use Prim.Native.Nat.{ℕ, _+_, _-_, _≤_, _<_}
+use Prim.Native.Nat.{ℕ, _+_, _≤_, _<_}
 use native.Mathlib.Omega.{arith}
 use native.Mathlib.Numerals.{add-one}
-use lib.Dec.{eqb}
-use lib.ListN.{length, getD, drop, take, drop-of-length-le}
+use lib.ListN.{length, getD, drop, drop-of-length-le}
 use lib.Seq.{drop-cons}
 use borrow.Author.Tests.{not-true, not-false}
-use Rattle.syntax.proofs.Nodes.{tail-part}
-use Rattle.typing.specs.TableChecks.{every, wellFormedType, wellFormedTypes, distinct}
+use Rattle.typing.specs.TableChecks.{every, wellFormedType, wellFormedTypes}
 
 -- what the code's answer b to a test a tells of the test
 pub told-true : {a b : Bool} → b ≡ a → not b ≡ false → a ≡ true
@@ -18,6 +16,10 @@ told-true e f = sym e ∙ not-false _ f
 
 pub told-false : {a b : Bool} → b ≡ a → not b ≡ true → a ≡ false
 told-false e f = sym e ∙ not-true _ f
+
+pub and-false : (b : Bool) → (b && false) ≡ false
+and-false true = refl
+and-false false = refl
 
 -- a test of a whole list from index i on: passed by no members, and by members of which the first passes its test and the others do
 pub record Test (whole : ℕ → List ℕ → Bool) (first : ℕ → ℕ → List ℕ → Bool) : Type 0 where
@@ -64,26 +66,3 @@ ordered-start = passing-start (record {
   none = λ i. refl;
   more = λ i x xs. ap (λ (n : ℕ). wellFormedType i x && wellFormedTypes n xs) (sym (add-one i));
 })
-
--- no word stands again behind it
-abbrev absent : ℕ → List ℕ → Bool
-absent w xs = every (λ x. not (eqb w x)) xs
-
-abbrev pub Apart : List ℕ → ℕ → Type 0
-Apart types i = Passing (λ i. distinct) (λ i x xs. absent x xs) types i
-
-pub apart-start : {types : List ℕ} → Apart types 0
-unfolding distinct
-apart-start = passing-start (record { none = λ i. refl; more = λ i x xs. refl })
-
--- behind it is the part of the slice that runs to its end
-module _ {types : List ℕ} {i : ℕ} {b : Bool} (p : Apart types i) (h : i < length types)
-    (e : b ≡ absent (getD types i 0) (take (length types - (i + 1)) (drop (i + 1) types))) where
-  behind : b ≡ absent (getD types i 0) (drop (i + 1) types)
-  behind = e ∙ ap (absent (getD types i 0)) (tail-part types (i + 1))
-
-  pub apart-next : not b ≡ false → Apart types (i + 1)
-  apart-next f = passing-next p h (told-true behind f)
-
-  pub apart-not : not b ≡ true → false ≡ distinct types
-  apart-not f = passing-not p h (told-false behind f)

@@ -1,6 +1,6 @@
 -- A call's type from its arguments' types: up to three arguments are typed and compared, and more than three fit no signature.
 use mathlib.Core.Path.{_≡_, refl, sym, _∙_, ap}
-use mathlib.Core.Bool.{Bool, true, false, _&&_}
+use mathlib.Core.Bool.{Bool, false, _&&_}
 use mathlib.Core.List.{List, [], _∷_}
 use mathlib.Core.Option.{Option, some, none, Option·some-injective, Option·none-ne-some}
 use Prim.Native.Nat.{ℕ, suc, _≤_, _<_}
@@ -15,6 +15,7 @@ use Rattle.syntax.specs.Kinds.{bindersAt}
 use Rattle.syntax.specs.Shaped.{count}
 use Rattle.typing.specs.Infer.{Context, equal, infer, inferAll}
 use Rattle.checker.specs.Nodes.{callType}
+use Rattle.checker.proofs.Every.{and-false}
 use Rattle.checker.proofs.PartTypes.{inferParts}
 use Rattle.checker.proofs.Clauses.{one, two, three}
 
@@ -65,10 +66,6 @@ longer : (As Bs : List ℕ) → length Bs < length As → equal As Bs ≡ false
 longer [] Bs h = absurd (omega arith)
 longer (A ∷ As) [] h = refl
 longer (A ∷ As) (B ∷ Bs) h = ap (λ (b : Bool). eqb A B && b) (longer As Bs (omega arith)) ∙ and-false (eqb A B)
-  where
-    and-false : (b : Bool) → (b && false) ≡ false
-    and-false true = refl
-    and-false false = refl
 
 too-long : (o : Option ℕ) (q : Option (List ℕ)) → ((As : List ℕ) → q ≡ some As → 3 < length As)
     → of-types (o >>= λ w. some (signatureOf w)) q ≡ none

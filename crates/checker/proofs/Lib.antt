@@ -1,4 +1,5 @@
 pub mod Every
+pub mod Residues
 pub mod Lookups
 pub mod Variables
 pub mod Scoping

@@ -1,3 +1,4 @@
 pub mod Answers
 pub mod Nodes
 pub mod Places
+pub mod Residues

@@ -7,6 +7,7 @@ ghost use Rattle.syntax.specs.Tables.{over};
 ghost use Rattle.typing.specs.TableChecks.{every, lengthsFit, wellFormedType, wellFormedTypes, distinct as distinctOf, wellFormedCall};
 ghost use Rattle.typing.specs.TableChecks.{wellFormedCalls, wellFormedInputs};
 ghost use Rattle.typing.specs.TermChecks.{fieldFits};
+ghost use Rattle.checker.specs.Residues.{residueOf, Noted};
 
 // 1: the lengths of the tables and of the term
 pub fn lengths_fit(limit: usize, types: &[u64], calls: &[u64], inputs: &[u64], term: &[u64]) -> bool
@@ -73,17 +74,39 @@ pub fn absent(words: &[u64], w: u64) -> bool
     true
 }
 
+// one mark for each residue by a prime: equal words have equal residues
+pub const RESIDUES: usize = 16381;
+
+pub fn residue(w: u64) -> usize
+    ensures { λ r. ⌜ r ≡ residueOf w ⌝ }
+{
+    w as usize % RESIDUES
+}
+
+// the same as `absent`, of words whose residues are marked
+pub fn absent_marked(marks: &[u8; RESIDUES], words: &[u64], w: u64) -> bool
+    requires { ⌜ Noted (now marks) (now words) ⌝ }
+    ensures { λ r. ⌜ r ≡ every (λ x. not (eqb w x)) (now (words .entry)) ⌝ }
+{
+    if marks[residue(w)] == 0 {
+        return true;
+    }
+    absent(words, w)
+}
+
+// from the last word to the first, each against those behind it
 pub fn distinct(types: &[u64]) -> bool
     ensures { λ r. ⌜ r ≡ distinctOf (now (types .entry)) ⌝ }
 {
-    let mut i: usize = 0;
-    while i < types.len() {
-        let w = types[i];
-        let next = i + 1;
-        if !absent(&types[next..], w) {
+    let mut marks: [u8; RESIDUES] = [0; RESIDUES];
+    let mut i = types.len();
+    while 0 < i {
+        let w = types[i - 1];
+        if !absent_marked(&marks, &types[i..], w) {
             return false;
         }
-        i = next;
+        marks[residue(w)] = 1;
+        i -= 1;
     }
     true
 }
