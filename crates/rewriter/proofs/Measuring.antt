@@ -21,9 +21,9 @@ use Rattle.parts.specs.Fronts.{Holds, from}
 use Rattle.parts.specs.Ends.{Sized}
 use Rattle.parts.specs.Counts.{Counted, Counts}
 use Rattle.parts.specs.declared.uses.Uses.{Uses}
-use Rattle.parts.proofs.PartsAt.{PartsAt, parts-of, parts-open, part-here, parts-past}
+use Rattle.parts.proofs.PartsAt.{PartsAt, parts-of, parts-open, part-here, parts-past, counts-sized}
 use Rattle.rewriter.specs.declared.plan.Plan.the-variants.{Substitute, Copy, MoveLet, MoveCase}
-use Rattle.rewriter.specs.Plans.{Laid, substitutes, copies, moves-let, moves-case, SizedWith, MeasuredAs, Measures}
+use Rattle.rewriter.specs.Plans.{Laid, substitutes, copies, moves-let, moves-case, SizedWith, BodyWith, MeasuredAs, Measures}
 use Rattle.rewriter.proofs.Rows.{fired}
 
 pub product-small : (u n : ℕ) → u ≤ 8192 → n ≤ 8192 → u * n ≤ 67108864
@@ -42,8 +42,16 @@ module _ {calls words : List ℕ} where
   pub counted-with : {u : Uses} {n w : ℕ} → Counts calls words 0 u → w ≡ u .end - u .uses + u .uses * n → SizedWith calls words n w
   counted-with {u} {n} {w} c e = record { told = λ b v rest h ve. put b v u n w (c .told b rest h) (c .few) ve e }
 
-  pub word-with : {n w : ℕ} → Sized calls words w → n ≡ 1 → SizedWith calls words n w
+  word-with : {n w : ℕ} → Sized calls words w → n ≡ 1 → SizedWith calls words n w
   word-with s e = record { told = λ b v rest h ve. s .told b rest h ∙ sym (put-word b v (sym e ∙ ve)) }
+
+  -- a body that is counted, and one for a value of one word
+  pub counted-body : {u : Uses} {n w : ℕ} → Counts calls words 0 u → w ≡ u .end - u .uses + u .uses * n
+      → BodyWith calls words n (record { end = u .end; wrote = w })
+  counted-body c e = record { ends = counts-sized c; becomes = counted-with c e }
+
+  pub word-body : {n w : ℕ} → Sized calls words w → n ≡ 1 → BodyWith calls words n (record { end = w; wrote = w })
+  word-body s e = record { ends = s; becomes = word-with s e }
 
 module _ (calls words : List ℕ) where
   applied : {x y : Term} {rest : List ℕ} → Holds calls words x rest → Fires allPure Apply x y

@@ -13,9 +13,11 @@ use Rattle.syntax.specs.Under.{raiseAt}
 use Rattle.reduction.specs.Rules.{allPure, fire}
 use Rattle.reduction.specs.declared.Rule.{Rule}
 use Rattle.parts.specs.Fronts.{Holds, Starts, from}
+use Rattle.parts.specs.Ends.{Sized}
 use Rattle.rewriter.specs.declared.plan.Plan.{Plan}
 use Rattle.rewriter.specs.declared.plan.Plan.the-variants.{Substitute, Copy, MoveLet, MoveCase, Insert}
 use Rattle.rewriter.specs.declared.plan.Measured.{Measured}
+use Rattle.rewriter.specs.declared.plan.Body.{Body}
 
 -- a part under b binders of a node that moves under a new binder: the part moved too, or the new variable for it
 abbrev pub insertPart : Bool → ℕ → Term → Term
@@ -50,6 +52,11 @@ pub data Laid (calls words : List ℕ) : Plan → Term → Type 0 where
 -- with a value of n words for the variable that its node binds, the term at the front has w words
 pub record SizedWith (calls words : List ℕ) (n w : ℕ) : Type 0 where
   pub told : (b v : Term) (rest : List ℕ) → Holds calls words b rest → n ≡ size v → w ≡ size (b ⟦ v ⟧)
+
+-- how many words the body at the front has, and how many with a value of n words for the variable that its node binds
+pub record BodyWith (calls words : List ℕ) (n : ℕ) (r : Body) : Type 0 where
+  pub ends : Sized calls words (r .end)
+  pub becomes : SizedWith calls words n (r .wrote)
 
 -- what was measured of a node x that becomes y
 pub record MeasuredAs (calls words : List ℕ) (x y : Term) (r : Measured) : Type 0 where

@@ -7,7 +7,7 @@ ghost use Rattle.parts.specs.Ends.{Sized};
 ghost use Rattle.parts.specs.Counts.{Counts};
 ghost use Rattle.reduction.specs.declared.Rule.the-variants.{LetInsertion, LetOfLet, LetOfCase, Apply, First, Second, LeftCase, RightCase};
 ghost use Rattle.reduction.specs.declared.Rule.the-variants.{LetValue, Drop};
-ghost use Rattle.rewriter.specs.Plans.{StartsRedex, SizedWith, Measures};
+ghost use Rattle.rewriter.specs.Plans.{StartsRedex, BodyWith, Measures};
 use parts::ends::part_size;
 use parts::uses::Uses;
 use parts::uses::count_uses;
@@ -29,6 +29,12 @@ pub enum Plan {
 pub struct Measured {
     pub plan: Plan,
     pub read: usize,
+    pub wrote: usize,
+}
+
+// how many words a body has, and how many it becomes with a value for its variable
+pub struct Body {
+    pub end: usize,
     pub wrote: usize,
 }
 
@@ -56,32 +62,38 @@ fn uses_from(calls: &[u64], t: &[u64], at: usize) -> Uses
     count_uses(calls, &t[at..], 0)
 }
 
-// how many words the part of `end` words that starts at an index has with a value of `size` words for the variable that its node binds;
-// a value of one word leaves it as long as it is, so uses are counted only for longer ones
-fn written(calls: &[u64], t: &[u64], at: usize, end: usize, size: usize) -> usize
-    requires { ⌜ Starts (now calls) (from (now t) at) × (at ≤ length (now t)) × (length (now t) ≤ 8192) × Sized (now calls) (from (now t) at) end
-        × (size ≤ 8192) ⌝ }
-    ensures { λ r. ⌜ SizedWith (now (calls .entry)) (from (now (t .entry)) at) size r ⌝ }
+// the body that starts at an index, with a value of `size` words for the variable that its node binds; a value of one word leaves it as long
+// as it is, so uses are counted only for longer ones
+fn body_with(calls: &[u64], t: &[u64], at: usize, size: usize) -> Body
+    requires { ⌜ Starts (now calls) (from (now t) at) × (at ≤ length (now t)) × (length (now t) ≤ 8192) × (size ≤ 8192) ⌝ }
+    ensures { λ r. ⌜ BodyWith (now (calls .entry)) (from (now (t .entry)) at) size r ⌝ }
 {
     if size == 1 {
-        return end;
+        let end = size_from(calls, t, at);
+        return Body {
+            end: end,
+            wrote: end,
+        };
     }
     let body = uses_from(calls, t, at);
-    substituted(body.end, body.uses, size)
+    Body {
+        end: body.end,
+        wrote: substituted(body.end, body.uses, size),
+    }
 }
 
-// apply: the body stands at 2, the value behind it
+// apply: the body stands at 2, the value behind it; the body comes first, so its uses are counted for every value
 fn apply(calls: &[u64], t: &[u64]) -> Measured
     requires { ⌜ StartsRedex Apply (now calls) (now t) × (length (now t) ≤ 8192) ⌝ }
     ensures { λ r. ⌜ Measures Apply (now (calls .entry)) (now (t .entry)) r ⌝ }
 {
-    let end = size_from(calls, t, 2);
-    let value = 2 + end;
+    let body = uses_from(calls, t, 2);
+    let value = 2 + body.end;
     let size = size_from(calls, t, value);
     Measured {
         plan: Plan::Substitute(2, value),
         read: value + size,
-        wrote: written(calls, t, 2, end, size),
+        wrote: substituted(body.end, body.uses, size),
     }
 }
 
@@ -92,11 +104,11 @@ fn let_value(calls: &[u64], t: &[u64]) -> Measured
 {
     let size = size_from(calls, t, 1);
     let start = 1 + size;
-    let end = size_from(calls, t, start);
+    let body = body_with(calls, t, start, size);
     Measured {
         plan: Plan::Substitute(start, 1),
-        read: start + end,
-        wrote: written(calls, t, start, end, size),
+        read: start + body.end,
+        wrote: body.wrote,
     }
 }
 
@@ -122,13 +134,13 @@ fn left_case(calls: &[u64], t: &[u64]) -> Measured
 {
     let size = size_from(calls, t, 2);
     let left = 2 + size;
-    let end = size_from(calls, t, left);
-    let right = left + end;
+    let body = body_with(calls, t, left, size);
+    let right = left + body.end;
     let other = size_from(calls, t, right);
     Measured {
         plan: Plan::Substitute(left, 2),
         read: right + other,
-        wrote: written(calls, t, left, end, size),
+        wrote: body.wrote,
     }
 }
 
@@ -141,11 +153,11 @@ fn right_case(calls: &[u64], t: &[u64]) -> Measured
     let left = 2 + size;
     let other = size_from(calls, t, left);
     let right = left + other;
-    let end = size_from(calls, t, right);
+    let body = body_with(calls, t, right, size);
     Measured {
         plan: Plan::Substitute(right, 2),
-        read: right + end,
-        wrote: written(calls, t, right, end, size),
+        read: right + body.end,
+        wrote: body.wrote,
     }
 }
 

@@ -1,14 +1,15 @@
 -- The body and the value stand in a row behind the two nodes.
 use native.Mathlib.Omega.{arith}
-use Rattle.parts.proofs.PartsAt.{row-high, row-starts, row-next}
+use Rattle.parts.proofs.PartsAt.{row-high, row-starts, row-next, counts-sized}
 use Rattle.rewriter.proofs.Rows.{redex-row, of-apply}
-use Rattle.rewriter.proofs.Measuring.{apply-measures}
+use Rattle.rewriter.proofs.Measuring.{apply-measures, counted-with}
 use Rattle.rewriter.proofs.plan.apply.Statement.{statement}
 use Rattle.rewriter.proofs.plan.apply.Tie as tie
 use Rattle.rewriter.proofs.plan.apply.Reads as reads
 use Rattle.rewriter.proofs.plan.apply.Lts as lts
 use Rattle.rewriter.proofs.plan.size_from.Reads as size-from-reads
-use Rattle.rewriter.proofs.plan.written.Reads as written-reads
+use Rattle.rewriter.proofs.plan.substituted.Reads as substituted-reads
+use Rattle.rewriter.proofs.plan.uses_from.Reads as uses-from-reads
 
 pub apply-spec : {M : Type 1} → statement M
 apply-spec =
@@ -17,25 +18,26 @@ apply-spec =
     let pre = c .before .before .pre in
     let row₁ = redex-row _ _ of-apply (pre .0) in
     (row-starts _ _ row₁ (omega arith), row-high _ _ row₁, pre .1)) (λ c.
-    let pre = c .before .before .before .pre in
+    let pre = c .before .before .before .before .pre in
     let row₁ = redex-row _ _ of-apply (pre .0) in
-    let row₂ = row-next _ _ row₁ (omega arith) _ (c .size-from .ensures) in
+    let row₂ = row-next _ _ row₁ (omega arith) _ (counts-sized (c .before .uses-from .ensures)) in
     omega (arith, row-high _ _ row₂, pre .1)) (λ c κs.
-    let pre = c .before .before .before .pre in
+    let pre = c .before .before .before .before .pre in
     let row₁ = redex-row _ _ of-apply (pre .0) in
-    let row₂ = row-next _ _ row₁ (omega arith) _ (c .size-from .ensures) in
+    let row₂ = row-next _ _ row₁ (omega arith) _ (counts-sized (c .before .uses-from .ensures)) in
     (row-starts _ _ row₂ (omega arith), row-high _ _ row₂, pre .1)) (λ c.
-    let pre = c .before .before .before .before .pre in
-    let size-from = c .before .size-from in
+    let pre = c .before .before .before .before .before .pre in
+    let uses-from = c .before .before .uses-from in
     let row₁ = redex-row _ _ of-apply (pre .0) in
-    let row₂ = row-next _ _ row₁ (omega arith) _ (size-from .ensures) in
-    let row₃ = row-next _ _ row₂ (omega arith) _ (c .size-from2 .ensures) in
+    let row₂ = row-next _ _ row₁ (omega arith) _ (counts-sized (uses-from .ensures)) in
+    let row₃ = row-next _ _ row₂ (omega arith) _ (c .size-from .ensures) in
     omega (arith, row-high _ _ row₃, pre .1)) (λ c κs.
-    let pre = c .before .before .before .before .pre in
-    let size-from = c .before .size-from in
+    let pre = c .before .before .before .before .before .pre in
+    let uses-from = c .before .before .uses-from in
     let row₁ = redex-row _ _ of-apply (pre .0) in
-    let row₂ = row-next _ _ row₁ (omega arith) _ (size-from .ensures) in
-    let row₃ = row-next _ _ row₂ (omega arith) _ (c .size-from2 .ensures) in
-    (row-starts _ _ row₁ (omega arith), row-high _ _ row₁, pre .1, size-from .ensures, omega (arith, row-high _ _ row₃, pre .1))) (λ c.
-    let size-from = c .before .before .size-from in
-    apply-measures _ _ _ _ _ (size-from .ensures) (c .before .size-from2 .ensures) (c .written .ensures)))
+    let row₂ = row-next _ _ row₁ (omega arith) _ (counts-sized (uses-from .ensures)) in
+    let row₃ = row-next _ _ row₂ (omega arith) _ (c .size-from .ensures) in
+    (uses-from .ensures .few, omega (arith, row-high _ _ row₂, pre .1), omega (arith, row-high _ _ row₃, pre .1))) (λ c.
+    let uses-from = c .before .before .before .uses-from in
+    let counts = uses-from .ensures in
+    apply-measures _ _ _ _ _ (counts-sized counts) (c .before .size-from .ensures) (counted-with counts (c .substituted .ensures))))

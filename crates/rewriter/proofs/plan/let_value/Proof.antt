@@ -7,34 +7,35 @@ use Rattle.rewriter.proofs.plan.let_value.Statement.{statement}
 use Rattle.rewriter.proofs.plan.let_value.Tie as tie
 use Rattle.rewriter.proofs.plan.let_value.Reads as reads
 use Rattle.rewriter.proofs.plan.let_value.Lts as lts
+use Rattle.rewriter.proofs.plan.body_with.Reads as body-with-reads
 use Rattle.rewriter.proofs.plan.size_from.Reads as size-from-reads
-use Rattle.rewriter.proofs.plan.written.Reads as written-reads
 
 pub let-value-spec : {M : Type 1} → statement M
 let-value-spec =
     tie.close
-    (tie.spec (λ c κs.
+    (tie.spec
+    (λ c κs.
     let pre = c .before .before .pre in
     let row₁ = let-row _ _ of-value (pre .0) in
-    (row-starts _ _ row₁ (omega arith), row-high _ _ row₁, pre .1)) (λ c.
+    (row-starts _ _ row₁ (omega arith), row-high _ _ row₁, pre .1))
+    (λ c.
     let pre = c .before .before .before .pre in
     let row₁ = let-row _ _ of-value (pre .0) in
     let row₂ = row-next _ _ row₁ (omega arith) _ (c .size-from .ensures) in
-    omega (arith, row-high _ _ row₂, pre .1)) (λ c κs.
+    omega (arith, row-high _ _ row₂, pre .1))
+    (λ c κs.
     let pre = c .before .before .before .pre in
     let row₁ = let-row _ _ of-value (pre .0) in
     let row₂ = row-next _ _ row₁ (omega arith) _ (c .size-from .ensures) in
-    (row-starts _ _ row₂ (omega arith), row-high _ _ row₂, pre .1)) (λ c.
-    let pre = c .before .before .before .before .pre in
-    let size-from = c .before .size-from in
-    let row₁ = let-row _ _ of-value (pre .0) in
-    let row₂ = row-next _ _ row₁ (omega arith) _ (size-from .ensures) in
-    let row₃ = row-next _ _ row₂ (omega arith) _ (c .size-from2 .ensures) in
-    omega (arith, row-high _ _ row₃, pre .1)) (λ c κs.
-    let pre = c .before .before .before .before .pre in
-    let size-from = c .before .size-from in
-    let row₁ = let-row _ _ of-value (pre .0) in
-    let row₂ = row-next _ _ row₁ (omega arith) _ (size-from .ensures) in
-    (row-starts _ _ row₂ (omega arith), row-high _ _ row₂, pre .1, c .size-from2 .ensures, omega (arith, row-high _ _ row₂, pre .1))) (λ c.
+    (row-starts _ _ row₂ (omega arith), row-high _ _ row₂, pre .1, omega (arith, row-high _ _ row₂, pre .1)))
+    (λ c.
+    let pre = c .before .before .before .before .before .pre in
     let size-from = c .before .before .size-from in
-    value-measures _ _ _ _ (size-from .ensures) (c .before .size-from2 .ensures) _ (c .written .ensures)))
+    let row₁ = let-row _ _ of-value (pre .0) in
+    let row₂ = row-next _ _ row₁ (omega arith) _ (size-from .ensures) in
+    let row₃ = row-next _ _ row₂ (omega arith) _ (c .before .body-with .ensures .ends) in
+    omega (arith, row-high _ _ row₃, pre .1))
+    (λ c.
+    let size-from = c .before .before .size-from in
+    let body = c .before .body-with .ensures in
+    value-measures _ _ _ _ (size-from .ensures) (body .ends) _ (body .becomes)))

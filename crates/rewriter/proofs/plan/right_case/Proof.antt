@@ -7,8 +7,8 @@ use Rattle.rewriter.proofs.plan.right_case.Statement.{statement}
 use Rattle.rewriter.proofs.plan.right_case.Tie as tie
 use Rattle.rewriter.proofs.plan.right_case.Reads as reads
 use Rattle.rewriter.proofs.plan.right_case.Lts as lts
+use Rattle.rewriter.proofs.plan.body_with.Reads as body-with-reads
 use Rattle.rewriter.proofs.plan.size_from.Reads as size-from-reads
-use Rattle.rewriter.proofs.plan.written.Reads as written-reads
 
 pub right-case-spec : {M : Type 1} → statement M
 right-case-spec =
@@ -41,25 +41,18 @@ right-case-spec =
     let row₁ = redex-row _ _ of-right (pre .0) in
     let row₂ = row-next _ _ row₁ (omega arith) _ (size-from .ensures) in
     let row₃ = row-next _ _ row₂ (omega arith) _ (c .size-from2 .ensures) in
-    (row-starts _ _ row₃ (omega arith), row-high _ _ row₃, pre .1))
+    (row-starts _ _ row₃ (omega arith), row-high _ _ row₃, pre .1, omega (arith, row-high _ _ row₂, pre .1)))
     (λ c.
-    let pre = c .before .before .before .before .before .pre in
-    let size-from = c .before .before .size-from in
-    let size-from2 = c .before .size-from2 in
+    let pre = c .before .before .before .before .before .before .pre in
+    let size-from = c .before .before .before .size-from in
+    let size-from2 = c .before .before .size-from2 in
     let row₁ = redex-row _ _ of-right (pre .0) in
     let row₂ = row-next _ _ row₁ (omega arith) _ (size-from .ensures) in
     let row₃ = row-next _ _ row₂ (omega arith) _ (size-from2 .ensures) in
-    let row₄ = row-next _ _ row₃ (omega arith) _ (c .size-from3 .ensures) in
+    let row₄ = row-next _ _ row₃ (omega arith) _ (c .before .body-with .ensures .ends) in
     omega (arith, row-high _ _ row₄, pre .1))
-    (λ c κs.
-    let pre = c .before .before .before .before .before .pre in
-    let size-from = c .before .before .size-from in
-    let size-from2 = c .before .size-from2 in
-    let row₁ = redex-row _ _ of-right (pre .0) in
-    let row₂ = row-next _ _ row₁ (omega arith) _ (size-from .ensures) in
-    let row₃ = row-next _ _ row₂ (omega arith) _ (size-from2 .ensures) in
-    (row-starts _ _ row₃ (omega arith), row-high _ _ row₃, pre .1, c .size-from3 .ensures, omega (arith, row-high _ _ row₂, pre .1)))
     (λ c.
     let size-from = c .before .before .before .size-from in
     let size-from2 = c .before .before .size-from2 in
-    right-measures _ _ _ _ _ _ (size-from .ensures) (size-from2 .ensures) (c .before .size-from3 .ensures) (c .written .ensures)))
+    let body = c .before .body-with .ensures in
+    right-measures _ _ _ _ _ _ (size-from .ensures) (size-from2 .ensures) (body .ends) (body .becomes)))

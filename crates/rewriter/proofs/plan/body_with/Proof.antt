@@ -1,0 +1,21 @@
+-- A value of one word leaves the size; for a longer one the uses are counted.
+use native.Mathlib.Omega.{arith}
+use Rattle.parts.proofs.Traversal.{from-length}
+use Rattle.rewriter.proofs.Measuring.{counted-body, word-body}
+use borrow.Author.Needs.{needs}
+use Rattle.rewriter.proofs.plan.body_with.Statement.{statement}
+use Rattle.rewriter.proofs.plan.body_with.Tie as tie
+use Rattle.rewriter.proofs.plan.body_with.Reads as reads
+use Rattle.rewriter.proofs.plan.body_with.Lts as lts
+use Rattle.rewriter.proofs.plan.size_from.Reads as size-from-reads
+use Rattle.rewriter.proofs.plan.substituted.Reads as substituted-reads
+use Rattle.rewriter.proofs.plan.uses_from.Reads as uses-from-reads
+
+pub body-with-spec : {M : Type 1} → statement M
+body-with-spec = tie.close (tie.spec (λ c κs. search needs) (λ c.
+    word-body (c .size-from .ensures) (c .before .if1 .taken)) (λ c κs. search needs) (λ c κs.
+    let start = c .before .before .before .before in
+    let counts = c .uses-from .ensures in
+    let long = from-length (start .args .t .now) (start .args .at) in
+    (counts .few, omega (arith, counts .within, long, start .pre .2), start .pre .3)) (λ c.
+    counted-body (c .before .uses-from .ensures) (c .substituted .ensures)))
