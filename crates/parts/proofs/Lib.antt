@@ -1,4 +1,5 @@
 pub mod Extents
+pub mod PartCounts
 pub mod Traversal
 pub mod Variables
 pub mod Joined

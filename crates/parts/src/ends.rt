@@ -5,7 +5,7 @@ ghost use lib.ListN.{length};
 ghost use Rattle.syntax.specs.Parts.{partEnd};
 ghost use Rattle.parts.specs.Ends.{endOf, Sized};
 ghost use Rattle.parts.specs.Fronts.{Starts};
-use crate::shape::part_count;
+use crate::shape::owed_count;
 
 pub enum End {
     At(usize),
@@ -24,7 +24,7 @@ pub fn part_end(calls: &[u64], t: &[u64]) -> End
             return End::Short;
         }
         let w = t[i];
-        owed = owed - 1 + part_count(calls, w);
+        owed = owed - 1 + owed_count(calls, w);
         i += 1;
     }
     End::At(i)

@@ -106,3 +106,15 @@ pub fn part_count(calls: &[u64], w: u64) -> usize
     let s = shape_of(k);
     s.parts
 }
+
+// the same by a table in a number, four bits a kind: faster where nothing else depends on the kind
+pub fn owed_count(calls: &[u64], w: u64) -> usize
+    ensures { λ r. ⌜ (r ≡ partCount (now (calls .entry)) w) × (r ≤ 15) ⌝ }
+{
+    let k = kind(w);
+    if k == 1 {
+        return arity(calls, number(w));
+    }
+    let table: u64 = 3371836776704;
+    (table >> (k * 4)) as usize % 16
+}

@@ -12,7 +12,7 @@ use crate::value::value_kind;
 use crate::value::value_test;
 use parts::ends::part_size;
 use parts::fields::kind;
-use parts::shape::part_count;
+use parts::shape::owed_count;
 use reduction::Found;
 use reduction::Phase;
 use reduction::Rule;
@@ -43,7 +43,7 @@ pub fn first_computation(calls: &[u64], t: &[u64]) -> Operand
     ensures { λ r. ⌜ Finds (now (calls .entry)) (now (t .entry)) r ⌝ }
 {
     let w = t[0];
-    let n = part_count(calls, w);
+    let n = owed_count(calls, w);
     let m = operand_count(kind(w), n);
     let mut at: usize = 1;
     let mut j: usize = 0;

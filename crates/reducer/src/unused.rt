@@ -8,7 +8,7 @@ use crate::value::value_test;
 use parts::fields::kind;
 use parts::fields::number;
 use parts::shape::outer_count;
-use parts::shape::part_count;
+use parts::shape::owed_count;
 use reduction::Found;
 use reduction::Rule;
 
@@ -83,7 +83,7 @@ fn scan_part(calls: &[u64], t: &[u64], used: &mut [u64], depth: usize, base: usi
                 at += 1;
                 owed -= 1;
             } else {
-                let n = part_count(calls, w);
+                let n = owed_count(calls, w);
                 let outer = outer_count(k, n);
                 if outer == n {
                     at += 1;

@@ -7,7 +7,7 @@ ghost use Rattle.reduction.specs.FitByKinds.{valueKind};
 ghost use Rattle.reducer.specs.ValueTest.{Tests};
 use parts::ends::part_size;
 use parts::fields::kind;
-use parts::shape::part_count;
+use parts::shape::owed_count;
 use parts::shape::shape_of;
 
 // whether a part is a value, and where it ends if it is
@@ -48,7 +48,7 @@ pub fn value_test(calls: &[u64], t: &[u64]) -> Value
             at = at + part_size(calls, &t[at..]);
             owed -= 1;
         } else {
-            owed = owed - 1 + part_count(calls, w);
+            owed = owed - 1 + owed_count(calls, w);
             at += 1;
         }
     }

@@ -38,12 +38,12 @@ returns c = sym (ap endOf (owing-short _ _ _ _ (c .before .loop-test .taken) (c 
 
 again : tie.Need-loop-again Inv-loop μ-loop
 again c = turn _ _ _ _ _ (c .before .before .before .before .loop .inv) (c .before .before .before .loop-test .taken)
-    (c .before .before .if1 .left) (c .part-count .ensures)
+    (c .before .before .if1 .left) (c .owed-count .ensures)
 
 add-owed : tie.Need-add-owed Inv-loop μ-loop
 add-owed c = omega (
   arith,
-  c .part-count .ensures .1,
+  c .owed-count .ensures .1,
   c .before .before .before .before .loop .inv .few,
   c .before .before .before .before .loop .inv
       .small,

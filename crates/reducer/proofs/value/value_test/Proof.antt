@@ -14,7 +14,7 @@ use Rattle.reducer.proofs.value.value_test.Reads as reads
 use Rattle.reducer.proofs.value.value_test.Lts as lts
 use Rattle.parts.proofs.ends.part_size.Reads as part-size-reads
 use Rattle.parts.proofs.fields.kind.Reads as kind-reads
-use Rattle.parts.proofs.shape.part_count.Reads as part-count-reads
+use Rattle.parts.proofs.shape.owed_count.Reads as owed-count-reads
 use Rattle.reducer.proofs.value.value_kind.Reads as value-kind-reads
 
 abbrev Inv-loop : tie.InvT-loop
@@ -97,7 +97,7 @@ value-test-spec =
     (λ c.
     let loop = c .before .before .before .before .before .before .before .loop in
     let pre = c .before .before .before .before .before .before .before .before .before .before .pre in
-    omega (arith, march-inside _ _ (loop .inv), c .part-count .ensures .1, pre .1))
+    omega (arith, march-inside _ _ (loop .inv), c .owed-count .ensures .1, pre .1))
     (λ c.
     let loop = c .before .before .before .before .before .before .before .loop in
     let pre = c .before .before .before .before .before .before .before .before .before .before .pre in
@@ -113,5 +113,5 @@ value-test-spec =
     let value-kind = c .before .before .before .value-kind in
     let if1 = c .before .before .if1 in
     test-open (loop .inv) (loop-test .taken) (kind .ensures) (value-kind .ensures) _ (not-false _ (if1 .left)) (c .before .if2 .left)
-    (c .part-count .ensures .0))
+    (c .owed-count .ensures .0))
     (λ c. test-end (c .before .loop .inv) _ (omega (arith, c .loop-test .left)) refl refl))
