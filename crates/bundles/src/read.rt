@@ -21,7 +21,7 @@ fn pair_at(bytes: &[u8], at: usize) -> u64
 }
 
 // the word of eight bytes, the most significant first
-fn word_at(bytes: &[u8], at: usize) -> u64
+pub fn word_at(bytes: &[u8], at: usize) -> u64
     requires { ⌜ at + 8 ≤ length (now bytes) ⌝ }
     ensures { λ r. ⌜ r ≡ fromBytes 0 (take 8 (drop at (now (bytes .entry)))) ⌝ }
 {

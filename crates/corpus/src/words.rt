@@ -2,6 +2,7 @@
 ghost use Prim.Native.Nat.{_+_, _*_, _≤_, _<_};
 ghost use lib.ListN.{length};
 ghost use mathlib.Core.Path.{_≡_};
+use bundles::read::word_at;
 
 // ten words
 pub const HEADER_BYTES: usize = 80;
@@ -13,30 +14,6 @@ pub const MOST_BYTES: usize = 96000;
 
 // the most words of a buffer
 pub const MOST_BUFFER: usize = 8256;
-
-fn wide(b: u8) -> u64
-    ensures { λ r. ⌜ r < 256 ⌝ }
-{
-    b as u64
-}
-
-fn pair_at(bytes: &[u8], at: usize) -> u64
-    requires { ⌜ at + 2 ≤ length (now bytes) ⌝ }
-    ensures { λ r. ⌜ r < 65536 ⌝ }
-{
-    wide(bytes[at]) * 256 + wide(bytes[at + 1])
-}
-
-// the word of eight bytes, the most significant first
-fn word_at(bytes: &[u8], at: usize) -> u64
-    requires { ⌜ at + 8 ≤ length (now bytes) ⌝ }
-{
-    let a = pair_at(bytes, at);
-    let b = pair_at(bytes, at + 2);
-    let c = pair_at(bytes, at + 4);
-    let d = pair_at(bytes, at + 6);
-    ((a * 65536 + b) * 65536 + c) * 65536 + d
-}
 
 pub fn header_word(head: &[u8; HEADER_BYTES], i: usize) -> u64
     requires { ⌜ i < 10 ⌝ }
