@@ -1,7 +1,7 @@
 -- The search of each phase answers the definition's first redex.
-use Prim.Native.Nat.{ℕ, zero, suc, _+_, _-_, _≤_, _<_, _^_}
+use Prim.Native.Nat.{ℕ, _+_, _-_, _≤_}
 use native.Mathlib.Omega.{arith}
-use mathlib.Core.Path.{_≡_, refl, sym, _∙_, ap, subst}
+use mathlib.Core.Path.{_≡_, sym, _∙_, ap}
 use mathlib.Core.List.{List, [], append-nil}
 use lib.ListN.{length, take, drop}
 use Rattle.syntax.specs.Term.{Term}
@@ -9,8 +9,6 @@ use Rattle.syntax.specs.Encoding.{encode, size}
 use Rattle.syntax.proofs.Nodes.{tail-part}
 use Rattle.syntax.proofs.Sites.{index-below}
 use Rattle.reduction.specs.Rules.{allPure}
-use Rattle.reduction.specs.Redex.{firstRedex}
-use Rattle.reduction.specs.declared.Rule.{Rule}
 use Rattle.reduction.specs.declared.Phase.{Phase}
 use Rattle.reduction.specs.declared.Phase.the-variants.{Insertion, Reduction, Dropping}
 use Rattle.reduction.specs.declared.Found.{Found}

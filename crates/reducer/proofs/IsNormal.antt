@@ -1,5 +1,5 @@
 -- The answer of `is_normal` from that of the checks: a term that is accepted is typed, so the grammar says whether a rule fits.
-use Prim.Native.Nat.{ℕ, _+_, _<_, _≤_}
+use Prim.Native.Nat.{ℕ, _≤_}
 use native.Mathlib.Omega.{arith}
 use mathlib.Core.Path.{_≡_, refl, sym, _∙_, ap}
 use mathlib.Core.Bool.{Bool, true, false, _&&_}
@@ -8,9 +8,8 @@ use lib.Dec.{T, leb}
 use lib.ListN.{length, replicate, length-replicate}
 use borrow.Author.Tests.{leb-true}
 use Rattle.syntax.specs.Tables.{Tables}
-use Rattle.syntax.specs.Term.{Term}
 use Rattle.typing.specs.TableChecks.{lengthsFit}
-use Rattle.typing.specs.Refusals.{Typed, elaborate, otherLimit}
+use Rattle.typing.specs.Refusals.{elaborate, otherLimit}
 use Rattle.typing.proofs.Accepted.{Passed}
 use Rattle.reduction.specs.Rules.{allPure}
 use Rattle.reduction.specs.Grammar.{inGrammar}

@@ -6,7 +6,9 @@ pub mod Scanning
 pub mod Marking
 pub mod Passing
 pub mod OpenMarks
+pub mod Cutting
 pub mod UnusedRows
+pub mod UnusedSteps
 pub mod ByParts
 pub mod TestedParts
 pub mod NormalTests

@@ -9,7 +9,7 @@ use Rattle.syntax.specs.Words.{kindOf}
 use Rattle.syntax.specs.Term.{Term, var, call, lam, app, bind, pair, fst, snd, inl, inr, case, node}
 use Rattle.parts.specs.Fronts.{Holds, Starts, from}
 use Rattle.parts.proofs.Traversal.{front-of}
-use Rattle.parts.proofs.PartsAt.{PartsAt, parts-of, part-here}
+use Rattle.parts.proofs.PartsAt.{parts-of, part-here}
 use Rattle.reducer.specs.ValueTest.{Tests}
 use Rattle.reducer.specs.declared.value.Value.{Value}
 use Rattle.reducer.specs.Unused.{openMark, Opens}

@@ -1,12 +1,12 @@
 -- The marks of the nodes passed tell the first redex of phase 3: a node is a let that can be dropped exactly if its mark is in the end its
 -- place, and any other mark is at least 65536.
-use Prim.Native.Nat.{ℕ, _+_, _-_, _*_, _≤_, _<_}
+use Prim.Native.Nat.{ℕ, _+_, _-_, _≤_, _<_}
 use native.Mathlib.Omega.{arith}
 use native.Mathlib.Decide.{ℕ-discrete, decLt}
 use mathlib.Core.Path.{_≡_, refl, sym, _∙_, ap, ap₂, subst}
 use mathlib.Core.Bool.{Bool, true, false, cond, not, _&&_}
 use mathlib.Core.List.{List, [], append-nil}
-use mathlib.Core.Option.{Option, some, none, Option·some-injective, Option·none-ne-some}
+use mathlib.Core.Option.{Option, some, none, Option·some-injective}
 use lib.Dec.{eqb}
 use lib.ListN.{length, drop, getElem?}
 use lib.Seq.{drop-drop}
@@ -171,11 +171,12 @@ module _ {calls words old new : List ℕ} {r : Scan} (a : Scans calls words 0 0 
 
   module _ (lt : r .first < 65536) where
     -- the node at the place found cannot stay
-    no-further : ((u : Term) (rest : List ℕ) → (r .first) < r .end → Holds calls (from words (r .first)) u rest → 65536 ≤ finalMark (0 + (r .first)) u) → ⊥
-    no-further q = let le = a .greatest ((r .first) + 1) (omega (arith, lt)) passed in omega (arith, le)
+    no-further : ((u : Term) (rest : List ℕ) → r .first < r .end → Holds calls (from words (r .first)) u rest
+        → 65536 ≤ finalMark (0 + r .first) u) → ⊥
+    no-further q = let le = a .greatest (r .first + 1) (omega (arith, lt)) passed in omega (arith, le)
       where
-        go : (i : ℕ) (u : Term) (rest : List ℕ) → i < r .end → Holds calls (from words i) u rest → Dec (i < (r .first)) → Dec (i ≡ (r .first))
-            → finalMark (0 + i) u ≡ 0 + i → (r .first) + 1 ≤ finalMark (0 + i) u
+        go : (i : ℕ) (u : Term) (rest : List ℕ) → i < r .end → Holds calls (from words i) u rest → Dec (i < r .first) → Dec (i ≡ r .first)
+            → finalMark (0 + i) u ≡ 0 + i → r .first + 1 ≤ finalMark (0 + i) u
         go i u rest l h (yes b) e m =
             absurd (omega (arith, b, m, a .before (r .first) (omega arith) (omega (arith, lt)) .marks i u rest l h))
         go i u rest l h (no b) (yes e) m = absurd (omega (
@@ -188,26 +189,27 @@ module _ {calls words old new : List ℕ} {r : Scan} (a : Scans calls words 0 0 
         go i u rest l h (no b) (no e) m = omega (arith, b, e, m)
 
         judged : (i : ℕ) (u : Term) (rest : List ℕ) → i < r .end → Holds calls (from words i) u rest → Judged (0 + i) u
-            → (r .first) + 1 ≤ finalMark (0 + i) u
+            → r .first + 1 ≤ finalMark (0 + i) u
         judged i u rest l h (stays f m) = omega (arith, m, lt)
         judged i u rest l h (drops c f e m) = go i u rest l h (decLt i (r .first)) (ℕ-discrete i (r .first)) m
 
-        passed : Passed calls words 0 ((r .first) + 1) (r .end)
+        passed : Passed calls words 0 (r .first + 1) (r .end)
         passed = record { marks = λ i u rest l h. judged i u rest l h (judge (0 + i) u) }
 
     first-unused : Redex Drop (r .first) ≡ firstRedex allPure Dropping t
     unfolding firstRedex
     first-unused = sym (inside (decLt (r .first) (size t)))
       where
-        here : (p : PositionAt t (r .first)) → Judged (0 + (r .first)) (p .position .subterm) → firstRedex allPure Dropping t ≡ Redex Drop (r .first)
+        here : (p : PositionAt t (r .first)) → Judged (0 + r .first) (p .position .subterm) → firstRedex allPure Dropping t ≡ Redex Drop (r .first)
         here p (stays f m) = absurd (no-further λ u rest l h.
-            subst (λ (z : Term). 65536 ≤ finalMark (0 + (r .first)) z) (sym (same-at words (r .first) h (subterm-at (r .first) (p .position) (p .is)))) m)
+            subst (λ (z : Term). 65536 ≤ finalMark (0 + r .first) z)
+            (sym (same-at words (r .first) h (subterm-at (r .first) (p .position) (p .is)))) m)
         here p (drops c f q m) =
             ap foundOf (first-at allPure Dropping t (r .first) (p .position) c (clear-first (r .first) (omega arith) (omega (arith, lt))) (p .is) f)
             ∙ ap (λ (k : Rule). Redex k (r .first)) q
 
-        inside : Dec ((r .first) < size t) → firstRedex allPure Dropping t ≡ Redex Drop (r .first)
-        inside (yes l) = let p = position-at t (r .first) l in here p (judge (0 + (r .first)) (p .position .subterm))
+        inside : Dec (r .first < size t) → firstRedex allPure Dropping t ≡ Redex Drop (r .first)
+        inside (yes l) = let p = position-at t (r .first) l in here p (judge (0 + r .first) (p .position .subterm))
         inside (no l) = absurd (no-further λ u rest b h. absurd (omega (arith, l, b, ends)))
 
 module _ {calls words old new : List ℕ} {r : Scan} (a : Scans calls words 0 0 old new r) (small : length words ≤ 8192) where

@@ -1,19 +1,17 @@
 -- Testing part by part: the whole passes exactly if the parts still to come do, and as long as each part passes its uses are marked.
 use Prim.Native.Nat.{ℕ, suc, _+_, _-_, _≤_, _<_}
-use native.Mathlib.Omega.{arith}
 use native.Mathlib.Numerals.{add-one}
-use mathlib.Core.Path.{_≡_, refl, sym, _∙_, ap, subst}
+use mathlib.Core.Path.{_≡_, sym, _∙_, ap}
 use mathlib.Core.Bool.{Bool, true, false, _&&_, true≢false}
-use mathlib.Core.List.{List, _++_}
+use mathlib.Core.List.{List}
 use lib.ListN.{length, getD}
 use Rattle.syntax.specs.Words.{kindOf}
 use Rattle.syntax.specs.Kinds.{bindersAt}
-use Rattle.syntax.specs.Term.{Term, Terms, done, arg, node}
-use Rattle.syntax.specs.Encoding.{encodeAll, size}
+use Rattle.syntax.specs.Term.{Term, Terms, node}
 use Rattle.syntax.specs.Parts.{partCount}
 use Rattle.parts.specs.Fronts.{Holds, Starts, from}
-use Rattle.parts.proofs.Traversal.{front-of, from-length, Going, enter, Does, Next, upcoming, next, reached, onward, leave}
-use Rattle.reducer.specs.Marks.{Marked, Space}
+use Rattle.parts.proofs.Traversal.{front-of, from-length, Going, enter, Does, upcoming, next, reached, onward, leave}
+use Rattle.reducer.specs.Marks.{Space}
 use Rattle.reducer.specs.NormalTest.{Passed, Told, Tests, no}
 use Rattle.reducer.specs.declared.normal.Part.{Part}
 use Rattle.reducer.proofs.Marking.{Opened, Marking, mark-enter, mark-next, mark-leave, Grown, grown-none, grown-next, space-next}

@@ -1,9 +1,8 @@
 -- Phases 1 and 2 by a scan from the place on, phase 3 by one pass.
 use native.Mathlib.Omega.{arith}
-use Prim.Native.Nat.{ℕ, _≤_, _<_, _+_, _-_}
-use mathlib.Core.Path.{_≡_, refl, sym, _∙_, ap, subst}
+use Prim.Native.Nat.{ℕ, _-_}
+use mathlib.Core.Path.{_≡_, sym, subst}
 use mathlib.Core.List.{List}
-use lib.ListN.{length, take, drop}
 use Rattle.reduction.specs.declared.Phase.{Phase}
 use Rattle.reduction.specs.declared.Phase.the-variants.{Insertion, Reduction, Dropping}
 use Rattle.reduction.specs.declared.Found.{Found}
@@ -16,11 +15,6 @@ use Rattle.normalizer.proofs.Seeking.{marks-open, finds-unused}
 use borrow.Author.Needs.{needs}
 use Rattle.normalizer.proofs.find.find.Statement.{statement}
 use Rattle.normalizer.proofs.find.find.Tie as tie
-use Rattle.normalizer.proofs.find.find.Reads as reads
-use Rattle.normalizer.proofs.find.find.Lts as lts
-use Rattle.reducer.proofs.search.search.Reads as search-reads
-use Rattle.reducer.proofs.unused.first_unused.Reads as first-unused-reads
-use Rattle.reducer.proofs.search.moved_by.Reads as moved-by-reads
 
 searchable-at : {p : Phase} (q : Phase) {calls words : List ℕ} {i : ℕ} {marks : List ℕ} → p ≡ q → Searchable p calls words i marks
     → Searchable q calls words i marks

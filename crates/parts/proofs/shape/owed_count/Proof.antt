@@ -11,8 +11,6 @@ use Rattle.syntax.specs.Kinds.{partsOfKind}
 use Rattle.parts.proofs.PartCounts.{of-call, of-kind}
 use Rattle.parts.proofs.shape.owed_count.Statement.{statement}
 use Rattle.parts.proofs.shape.owed_count.Tie as tie
-use Rattle.parts.proofs.shape.owed_count.Reads as reads
-use Rattle.parts.proofs.shape.owed_count.Lts as lts
 
 -- a test passes at every number below n
 abbrev passes : (ℕ → Bool) → ℕ → Bool

@@ -5,8 +5,6 @@ use Rattle.reducer.proofs.Marking.{mark-binder, mark-input}
 use borrow.Author.Needs.{needs}
 use Rattle.reducer.proofs.marks.mark.Statement.{statement}
 use Rattle.reducer.proofs.marks.mark.Tie as tie
-use Rattle.reducer.proofs.marks.mark.Reads as reads
-use Rattle.reducer.proofs.marks.mark.Lts as lts
 
 pub mark-spec : {M : Type 1} → statement M
 mark-spec =

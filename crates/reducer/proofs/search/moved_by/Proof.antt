@@ -1,14 +1,10 @@
 -- A place in a part is that many words further in the whole.
-use Prim.Native.Nat.{ℕ, _+_}
 use native.Mathlib.Omega.{arith}
-use mathlib.Core.Path.{_≡_, refl, sym, _∙_, ap}
-use Rattle.reduction.specs.declared.Found.{Found}
+use mathlib.Core.Path.{sym, ap}
 use Rattle.reducer.specs.Searches.{movedBy, placeOf}
 use borrow.Author.Needs.{needs}
 use Rattle.reducer.proofs.search.moved_by.Statement.{statement}
 use Rattle.reducer.proofs.search.moved_by.Tie as tie
-use Rattle.reducer.proofs.search.moved_by.Reads as reads
-use Rattle.reducer.proofs.search.moved_by.Lts as lts
 
 pub moved-by-spec : {M : Type 1} → statement M
 moved-by-spec = tie.close (tie.spec (λ c. search needs) (λ c.

@@ -1,13 +1,13 @@
 -- Ahead are the terms of the front, and under one binder more those of the back; the final marks tell the least place.
 use borrow.Author.Needs.{needs}
-use Prim.Native.Nat.{_≤_, _+_, _-_, _*_}
+use Prim.Native.Nat.{_+_, _-_, _*_}
 use native.Mathlib.Omega.{arith}
-use mathlib.Core.Path.{_≡_, refl, sym, _∙_, ap}
+use mathlib.Core.Path.{refl}
 use lib.ListN.{length}
 use Rattle.parts.proofs.Traversal.{from-length}
 use Rattle.parts.proofs.Rows.{march-inside}
 use Rattle.reducer.proofs.UnusedRows.{Scanning, scan-begin, scan-end, scan-open, scan-deep, scan-starts, scan-room, scan-raisable}
-use Rattle.reducer.proofs.UnusedRows.{part-moves, scan-part, scan-variable, outer-few, scan-flat, scan-enter}
+use Rattle.reducer.proofs.UnusedSteps.{part-moves, scan-part, scan-variable, outer-few, scan-flat, scan-enter}
 use Prim.Native.Nat.{ℕ, _<_}
 use borrow.Fn.Kinds.{In}
 use borrow.Fn.PlainCycle.{Measures, is, falls, and}
@@ -94,8 +94,8 @@ pub +scan-part-spec : {M : Type 1} → statement M
     let at-loop-test = c .before in
     let at-loop = at-loop-test .before in
     let start = at-loop .before .before .before .before in
-    scan-open _ _ _ _ _ (at-loop .loop .inv) (c .if1 .taken) (omega (arith, c .if1 .taken, at-loop-test .loop-test .taken)) (scan-deep _ _ _ _ _
-    (at-loop .loop .inv) (start .pre .1 .0 .1) (omega (arith, c .if1 .taken, at-loop-test .loop-test .taken))))
+    scan-open _ _ _ _ _ (at-loop .loop .inv) (c .if1 .taken) (omega (arith, c .if1 .taken, at-loop-test .loop-test .taken))
+    (scan-deep _ _ _ _ _ (at-loop .loop .inv) (start .pre .1 .0 .1) (omega (arith, c .if1 .taken, at-loop-test .loop-test .taken))))
     (λ c.
     let at-loop = c .before .before in
     let start = at-loop .before .before .before .before in
@@ -129,7 +129,7 @@ pub +scan-part-spec : {M : Type 1} → statement M
     let at-kind = at-if2 .before in
     let at-if1 = at-kind .before .before in
     let at-loop = at-if1 .before .before in
-    scan-variable _ _ _ _ _ (at-loop .loop .inv) (omega (arith, at-if1 .if1 .left)) _ (at-kind .kind .ensures) _ _ (at-if2 .if2 .taken)
+    scan-variable (at-loop .loop .inv) (omega (arith, at-if1 .if1 .left)) _ (at-kind .kind .ensures) _ _ (at-if2 .if2 .taken)
     (at-number .number .ensures) (at-mark .mark .ensures) (at-mark .mark .kept .0))
     (λ c κs. search needs)
     (λ c κs. search needs)
@@ -156,8 +156,8 @@ pub +scan-part-spec : {M : Type 1} → statement M
     let at-kind = at-if2 .before in
     let at-if1 = at-kind .before .before in
     let at-loop = at-if1 .before .before in
-    scan-flat _ _ _ _ _ (at-loop .loop .inv) (omega (arith, at-if1 .if1 .left)) _ (at-kind .kind .ensures) (at-if2 .if2 .left) _ _ (at-owed-count
-    .owed-count .ensures .0) (at-outer-count .outer-count .ensures) (c .if3 .taken))
+    scan-flat (at-loop .loop .inv) (omega (arith, at-if1 .if1 .left)) _ (at-kind .kind .ensures) (at-if2 .if2 .left) _ _
+    (at-owed-count .owed-count .ensures .0) (at-outer-count .outer-count .ensures) (c .if3 .taken))
     (λ c.
     let at-loop = c .before .before .before .before .before .before .before .before in
     let start = at-loop .before .before .before .before in
@@ -184,12 +184,7 @@ pub +scan-part-spec : {M : Type 1} → statement M
     let at-loop = at-if1 .before .before in
     let start = at-loop .before .before .before .before in (
       scan-starts _ _ _ _ _ (at-loop .loop .inv) (omega (arith, at-if1 .if1 .left)),
-      omega (
-        arith,
-        from-length (start .args .t .now) (at-loop
-            .loop .at),
-        start .pre .1 .1 .0,
-      ),
+      omega (arith, from-length (start .args .t .now) (at-loop .loop .at), start .pre .1 .1 .0),
       omega (arith, march-inside _ _ (at-loop .loop .inv .going), start .pre .1 .1 .1),
     ))
     (λ c.
@@ -203,8 +198,8 @@ pub +scan-part-spec : {M : Type 1} → statement M
     let at-kind = at-if2 .before in
     let at-if1 = at-kind .before .before in
     let at-loop = at-if1 .before .before in
-    outer-few _ _ _ _ _ (at-loop .loop .inv) (omega (arith, at-if1 .if1 .left)) _ (at-kind .kind .ensures) (at-if2 .if2 .left) _ _ (at-owed-count
-    .owed-count .ensures .0) (at-outer-count .outer-count .ensures))
+    outer-few (at-loop .loop .inv) (omega (arith, at-if1 .if1 .left)) _ (at-kind .kind .ensures) (at-if2 .if2 .left) _ _
+    (at-owed-count .owed-count .ensures .0) (at-outer-count .outer-count .ensures))
     (λ c.
     let at-owed-count = c .before .before .before .before .before in
     let at-if1 = at-owed-count .before .before .before .before in
@@ -219,9 +214,9 @@ pub +scan-part-spec : {M : Type 1} → statement M
     let at-kind = at-if2 .before in
     let at-if1 = at-kind .before .before in
     let at-loop = at-if1 .before .before in
-    scan-enter _ _ _ _ _ (at-loop .loop .inv) (omega (arith, at-if1 .if1 .left)) _ (at-kind .kind .ensures) (at-if2 .if2 .left) _ _
-    (at-owed-count .owed-count .ensures .0) (at-outer-count .outer-count .ensures) _ (at-if3 .if3 .left) (at-if4 .if4 .taken) (c .open-mark
-    .ensures))
+    scan-enter (at-loop .loop .inv) (omega (arith, at-if1 .if1 .left)) _ (at-kind .kind .ensures) (at-if2 .if2 .left) _ _
+    (at-owed-count .owed-count .ensures .0) (at-outer-count .outer-count .ensures) _ (at-if3 .if3 .left) (at-if4 .if4 .taken)
+    (c .open-mark .ensures))
     (λ c.
     let at-loop = c .before .before .before .before .before .before .before .before .before in
     let start = at-loop .before .before .before .before in
@@ -245,23 +240,13 @@ pub +scan-part-spec : {M : Type 1} → statement M
     let at-loop = at-if1 .before .before in
     let start = at-loop .before .before .before .before in
     let l = from-length (start .args .t .now) (at-loop .loop .at) in (
-      omega (
-        arith,
-        l,
-        march-inside _ _ (at-loop .loop .inv .going),
-        at-loop
-            .loop .inv .further (at-if4 .if4 .left),
-        at-if1 .if1 .left,
-      ),
+      omega (arith, l, march-inside _ _ (at-loop .loop .inv .going), at-loop .loop .inv .further (at-if4 .if4 .left), at-if1 .if1 .left),
       (
         (
           scan-starts _ _ _ _ _ (at-loop .loop .inv) (omega (arith, at-if1 .if1 .left)),
           scan-room _ _ _ _ _ (at-loop .loop .inv) (omega (arith, at-if1 .if1 .left)) (start .pre .1 .0 .1),
         ),
-        (
-          omega (arith, l, start .pre .1 .1 .0),
-          omega (arith, l, march-inside _ _ (at-loop .loop .inv .going), start .pre .1 .1 .1),
-        ),
+        (omega (arith, l, start .pre .1 .1 .0), omega (arith, l, march-inside _ _ (at-loop .loop .inv .going), start .pre .1 .1 .1)),
       ),
     ))
     (λ c κs. search needs)
@@ -274,8 +259,7 @@ pub +scan-part-spec : {M : Type 1} → statement M
       march-inside _ _ (at-loop .loop .inv .going),
       start .pre .1 .1 .0,
       at-scan-part .scan-part .ensures .within,
-      from-length (start
-          .args .t .now) (at-loop .loop .at),
+      from-length (start .args .t .now) (at-loop .loop .at),
     ))
     (λ c.
     let at-if1 = c .before .before .before .before .before .before .before .before .before .before .before .before .before .before in
@@ -288,29 +272,20 @@ pub +scan-part-spec : {M : Type 1} → statement M
       arith,
       march-inside _ _ (at-loop .loop .inv .going),
       at-if1 .if1 .left,
-      part-moves _ _ _ _ _ (at-loop .loop .inv) (omega (
-        arith,
-        at-if1 .if1 .left,
-      )) (at-scan-part .scan-part .ensures),
+      part-moves (at-loop .loop .inv) (omega (arith, at-if1 .if1 .left)) (at-scan-part .scan-part .ensures),
     ))
     (λ c.
     let at-lesser = c .before in
     let at-scan-part = at-lesser .before .before .before in
     let at-if1 = at-scan-part .before .before .before .before .before .before .before .before .before .before in
     let at-loop = at-if1 .before .before in
-    scan-part _ _ _ _ _ (at-loop .loop .inv) (omega (arith, at-if1 .if1 .left)) _ _ _ (at-scan-part .scan-part .ensures) (at-lesser .lesser
-    .ensures) (at-scan-part .scan-part .kept .1 .1 .0))
+    scan-part (at-loop .loop .inv) (omega (arith, at-if1 .if1 .left)) _ _ _ (at-scan-part .scan-part .ensures) (at-lesser .lesser .ensures)
+    (at-scan-part .scan-part .kept .1 .1 .0))
     (λ c κs.
     let at-loop = c .before .before in
     let start = at-loop .before .before .before .before in (
       at-loop .loop .inv .begun,
-      omega (
-        arith,
-        at-loop .loop .inv .near,
-        march-inside _ _ (at-loop .loop .inv .going),
-        start .pre .1 .0 .1 .deep,
-        at-loop .loop .inv .len,
-      ),
+      omega (arith, at-loop .loop .inv .near, march-inside _ _ (at-loop .loop .inv .going), start .pre .1 .0 .1 .deep, at-loop .loop .inv .len),
     ))
     (λ c.
     let at-loop = c .before .before .before in

@@ -3,9 +3,6 @@ use borrow.Author.Needs.{needs}
 use Rattle.reducer.proofs.Passing.{finds-redex, finds-nothing}
 use Rattle.reducer.proofs.unused.first_unused.Statement.{statement}
 use Rattle.reducer.proofs.unused.first_unused.Tie as tie
-use Rattle.reducer.proofs.unused.first_unused.Reads as reads
-use Rattle.reducer.proofs.unused.first_unused.Lts as lts
-use Rattle.reducer.proofs.unused.scan_part.Reads as scan-part-reads
 
 pub first-unused-spec : {M : Type 1} → statement M
 first-unused-spec =

@@ -2,16 +2,13 @@
 use Prim.Native.Nat.{ℕ, _+_, _-_, _≤_, _<_}
 use native.Mathlib.Omega.{arith}
 use native.Mathlib.Decide.{ℕ-discrete}
-use mathlib.Core.Path.{_≡_, refl, sym, subst}
+use mathlib.Core.Path.{_≡_, sym, subst}
 use mathlib.Core.List.{List}
-use lib.ListN.{length, getD}
+use lib.ListN.{getD}
 use borrow.Author.Needs.{needs}
 use Rattle.reducer.specs.Unused.{Least, LeastMark}
 use Rattle.reducer.proofs.unused.least_mark.Statement.{statement}
 use Rattle.reducer.proofs.unused.least_mark.Tie as tie
-use Rattle.reducer.proofs.unused.least_mark.Reads as reads
-use Rattle.reducer.proofs.unused.least_mark.Lts as lts
-use Rattle.reducer.proofs.unused.lesser.Reads as lesser-reads
 
 record Sofar (used : List ℕ) (start end first least d : ℕ) : Type 0 where
   from : start ≤ d

@@ -1,14 +1,12 @@
 -- A let that binds a computation has its place for a mark.
 use native.Mathlib.Omega.{arith}
-use mathlib.Core.Path.{_≡_, refl, sym, _∙_, ap}
+use mathlib.Core.Path.{sym, _∙_}
 use borrow.Author.Needs.{needs}
 use Rattle.parts.proofs.Traversal.{not-empty, from-length}
 use borrow.Author.Tests.{not-true, not-false}
 use Rattle.reducer.proofs.OpenMarks.{bound-starts, opens-let, opens-value, opens-other}
 use Rattle.reducer.proofs.unused.open_mark.Statement.{statement}
 use Rattle.reducer.proofs.unused.open_mark.Tie as tie
-use Rattle.reducer.proofs.unused.open_mark.Reads as reads
-use Rattle.reducer.proofs.unused.open_mark.Lts as lts
 
 pub open-mark-spec : {M : Type 1} → statement M
 open-mark-spec =
