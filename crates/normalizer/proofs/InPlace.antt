@@ -1,25 +1,22 @@
 -- The redex at a place is measured, written to the second buffer and spliced in: the term there is the term with its subterm replaced.
 use Prim.Native.Nat.{ℕ, _+_, _-_, _≤_, _<_}
 use native.Mathlib.Omega.{arith}
-use mathlib.Core.Path.{_≡_, refl, sym, _∙_, ap, subst}
+use mathlib.Core.Path.{_≡_, refl, sym, _∙_, ap}
 use mathlib.Core.List.{List}
-use lib.ListN.{length, take, drop, length-take, length-drop}
-use lib.Seq.{sets, length-sets}
+use lib.ListN.{length, take, drop}
+use lib.Seq.{sets}
 use Rattle.syntax.specs.Term.{Term}
 use Rattle.syntax.specs.Encoding.{encode, size}
 use Rattle.syntax.specs.Positions.{Position}
 use Rattle.syntax.proofs.Sizes.{size-positive}
-use Rattle.syntax.proofs.Sites.{size-site, size-plugged}
 use Rattle.reduction.specs.declared.Rule.{Rule}
-use Rattle.rewriter.specs.Plans.{Laid, MeasuredAs, StartsRedex, Measures}
-use Rattle.rewriter.specs.Writers.{Planned, PlannedAs, Writes}
+use Rattle.rewriter.specs.Plans.{MeasuredAs, StartsRedex, Measures}
+use Rattle.rewriter.specs.Writers.{PlannedAs, Writes}
 use Rattle.rewriter.specs.declared.plan.Measured.{Measured}
-use Rattle.normalizer.specs.Currents.{Front, Current}
 use Rattle.normalizer.specs.Splices.{Spliceable, Splices}
-use Rattle.normalizer.specs.Rewrites.{RedexAt, Rewritable, RewrittenTo, full, next, Rewrites}
-use Rattle.normalizer.specs.declared.rewrite.Rewritten.{Rewritten}
+use Rattle.normalizer.specs.Rewrites.{RedexAt, Rewritable, full, next, Rewrites}
 use Rattle.normalizer.specs.declared.rewrite.Rewritten.the-variants.{Full, Next}
-use Rattle.normalizer.proofs.Rewriting.{here, holds-at-place, place-inside, plugged-length, rewritten, written-front}
+use Rattle.normalizer.proofs.Rewriting.{holds-at-place, place-inside, plugged-length, rewritten, written-front}
 
 module _ (rule : Rule) (calls words : List ℕ) (len place : ℕ) where
   module _ {capacity : ℕ} {second : List ℕ} (r : Rewritable rule calls words len place capacity second) where

@@ -1,18 +1,16 @@
 -- An accepted term is copied to a scratch buffer, and can be reduced there.
-use Prim.Native.Nat.{ℕ, _+_, _-_, _≤_, _<_, min}
+use Prim.Native.Nat.{ℕ, _+_, _-_, _≤_, min}
 use native.Mathlib.Omega.{arith}
-use mathlib.Core.Path.{_≡_, refl, sym, _∙_, ap, subst}
-use mathlib.Core.List.{List, [], append-nil}
-use lib.ListN.{length, take, drop}
+use mathlib.Core.Path.{_≡_, _∙_, ap}
+use mathlib.Core.List.{List, append-nil}
+use lib.ListN.{length, take}
 use lib.Seq.{paste, take-paste, length-paste, take-all}
-use Rattle.syntax.specs.Tables.{Tables, over}
-use Rattle.syntax.specs.Term.{Term}
+use Rattle.syntax.specs.Tables.{over}
 use Rattle.syntax.specs.Encoding.{encode, size}
-use Rattle.typing.specs.Refusals.{Typed, elaborate, accepted, normalizeLimit}
+use Rattle.typing.specs.Refusals.{Typed, accepted, normalizeLimit}
 use Rattle.typing.proofs.Accepted.{Passed}
-use Rattle.outcomes.specs.Normalize.{Buffers, capacityOf}
 use Rattle.checker.proofs.Verdicts.{accepted-holds}
-use Rattle.normalizer.specs.Currents.{Front, Current}
+use Rattle.normalizer.specs.Currents.{Current}
 use Rattle.normalizer.specs.Reductions.{Reducible}
 
 module _ (types calls inputs words : List ℕ) (x : Typed) (p : Passed normalizeLimit (over types calls inputs) words x) where

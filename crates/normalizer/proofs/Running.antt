@@ -1,14 +1,13 @@
 -- Each way the call can go is the definition's: refused by a check, too long, stopped on the way, or come through.
-use Prim.Native.Nat.{ℕ, suc, _+_, _≤_, _<_}
+use Prim.Native.Nat.{ℕ, suc, _+_, _<_}
 use native.Mathlib.Omega.{arith}
-use mathlib.Core.Path.{_≡_, refl, sym, _∙_, ap, ap₂, subst}
+use mathlib.Core.Path.{_≡_, refl, sym, _∙_, ap, ap₂}
 use mathlib.Core.List.{List, [], _++_}
-use lib.ListN.{length, take, drop}
+use lib.ListN.{length, drop}
 use lib.Seq.{paste}
 use Rattle.syntax.specs.Tables.{Tables}
-use Rattle.syntax.specs.Term.{Term}
 use Rattle.syntax.specs.Encoding.{encode, size}
-use Rattle.typing.specs.Refusals.{Verdict, refused, accepted, Typed, elaborate, normalizeLimit}
+use Rattle.typing.specs.Refusals.{refused, accepted, Typed, elaborate, normalizeLimit}
 use Rattle.reduction.specs.Rules.{allPure}
 use Rattle.reduction.specs.Reduction.{Counts, zeroCounts, Settings, Progress, stopped, reached, reduce}
 use Rattle.outcomes.specs.Buffers.{overwrite}

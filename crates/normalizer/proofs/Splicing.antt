@@ -1,9 +1,9 @@
 -- A stretch is replaced: the words behind it move, then the new stretch is copied in; neither touches what the other needs.
 use Prim.Native.Nat.{ℕ, _+_, _-_, _≤_}
 use native.Mathlib.Omega.{arith}
-use mathlib.Core.Path.{_≡_, refl, sym, _∙_, ap, ap₂}
+use mathlib.Core.Path.{_≡_, sym, _∙_, ap, ap₂}
 use mathlib.Core.List.{List, _++_, append-assoc}
-use lib.ListN.{length, take, drop, length-append, length-drop, length-take}
+use lib.ListN.{length, take, drop, length-drop}
 use lib.Seq.{paste, length-paste, length-paste-head, length-take-le, take-append-add, take-append-le, drop-append-add, take-take, take-at}
 use Rattle.normalizer.specs.Splices.{Spliceable, Splices}
 

@@ -1,8 +1,8 @@
 -- Where the reduction stands between two turns: a typed term in the buffer, no redex before the place where the search goes on,
 -- and what is left to do makes up the whole.
-use Prim.Native.Nat.{ℕ, suc, _+_, _-_, _≤_, _<_, _^_}
+use Prim.Native.Nat.{ℕ, _-_, _≤_, _<_}
 use native.Mathlib.Omega.{arith}
-use mathlib.Core.Path.{_≡_, refl, sym, _∙_, ap, subst}
+use mathlib.Core.Path.{_≡_, sym, _∙_, ap}
 use mathlib.Core.List.{List}
 use mathlib.Core.Option.{some, none}
 use lib.ListN.{length}
@@ -29,7 +29,6 @@ use Rattle.theory.proofs.NextReduction.{next-reduction, operands-next}
 use Rattle.normalizer.specs.Begun.{Begun}
 use Rattle.normalizer.specs.Currents.{Front, Current}
 use Rattle.normalizer.specs.Turns.{At, Ready, Turned, stops, spent, full, goes, Turns, nextFrom}
-use Rattle.normalizer.specs.declared.turn.Turn.{Turn}
 use Rattle.normalizer.specs.declared.turn.Turn.the-variants.{Stop, Refused, Step as Stepped}
 use Rattle.reduction.proofs.Remaining.{onwards, onwards-stopped, turn-stops, turn-spent, turn-full, turn-goes, insertion-ends}
 use Rattle.reduction.proofs.Remaining.{reduction-ends}

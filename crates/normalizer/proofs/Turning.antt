@@ -1,29 +1,25 @@
 -- A turn is the definition's step: what the search found is the first redex, and rewriting it gives the next term.
-use Prim.Native.Nat.{ℕ, _≤_, _<_}
+use Prim.Native.Nat.{ℕ, _<_}
 use native.Mathlib.Omega.{arith}
-use mathlib.Core.Path.{_≡_, refl, sym, _∙_, ap, subst}
-use mathlib.Core.Bool.{Bool}
+use mathlib.Core.Path.{_≡_, refl, sym, _∙_, subst}
 use mathlib.Core.List.{List, [], _∷_}
 use mathlib.Core.Option.{Option, some, none, Option·some-injective, Option·none-ne-some}
 use lib.ListN.{length, take, getElem?, length-take}
 use Rattle.syntax.specs.Term.{Term}
-use Rattle.syntax.specs.Encoding.{size}
-use Rattle.syntax.specs.Positions.{Position, positions}
+use Rattle.syntax.specs.Positions.{positions}
 use Rattle.reduction.specs.Rules.{allPure, fire, rules}
-use Rattle.reduction.specs.Redex.{Contraction, contract, Step, step, foundOf, firstRedex}
+use Rattle.reduction.specs.Redex.{Contraction, contract, step, firstRedex}
 use Rattle.reduction.specs.declared.Rule.{Rule}
 use Rattle.reduction.specs.declared.Phase.{Phase}
 use Rattle.reduction.specs.declared.Found.{Found}
 use Rattle.reduction.specs.declared.Found.the-variants.{Redex, Nothing}
 use Rattle.reduction.proofs.Clear.{FirstAt, step-at}
 use Rattle.reduction.proofs.SearchAnswer.{StepAt, redex-step, nothing-none}
-use Rattle.normalizer.specs.Currents.{Front, Current}
 use Rattle.normalizer.specs.Finds.{SearchAt, Searchable, Finds}
 use Rattle.normalizer.specs.Rewrites.{RedexAt, Rewritable, RewrittenTo, full, next, Rewrites}
 use Rattle.normalizer.specs.Turns.{At, Ready, Turned, stops, spent, full as too-long, goes, Turns}
 use Rattle.normalizer.specs.declared.rewrite.Rewritten.{Rewritten}
 use Rattle.normalizer.specs.declared.rewrite.Rewritten.the-variants.{Full, Next}
-use Rattle.normalizer.specs.declared.turn.Turn.{Turn}
 use Rattle.normalizer.specs.declared.turn.Turn.the-variants.{Stop, Refused, Step as Stepped}
 
 -- what a phase makes of a node is what the rule it names makes of it

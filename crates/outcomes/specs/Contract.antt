@@ -6,7 +6,7 @@ use lib.ListN.{length, take}
 use Rattle.syntax.specs.Tables.{Tables}
 use Rattle.reduction.specs.Reduction.{Settings}
 use Rattle.semantics.specs.Claim.{Claim}
-use Rattle.outcomes.specs.Normalize.{Buffers, Outcome, normalizeOutcome}
+use Rattle.outcomes.specs.Normalize.{Buffers, normalizeOutcome}
 use Rattle.outcomes.specs.declared.Answer.{Answer}
 
 -- `before` and `after` are the buffers at entry and at exit

@@ -1,6 +1,6 @@
 -- The outcome of the public call `is_normal` (paper 01: a yes or no whether a term is flat).
 use Prim.Native.Nat.{ℕ}
-use mathlib.Core.Bool.{Bool, false}
+use mathlib.Core.Bool.{false}
 use mathlib.Core.List.{List}
 use Rattle.syntax.specs.Tables.{Tables}
 use Rattle.typing.specs.Refusals.{Verdict, refused, accepted, Typed, elaborate, otherLimit}

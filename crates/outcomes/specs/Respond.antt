@@ -1,6 +1,6 @@
 -- The program as one function from the bytes it reads to the bytes it writes, and the outcome of the public call `respond`.
 use Prim.Native.Nat.{ℕ, zero, suc, _+_}
-use mathlib.Core.List.{List, [], _∷_}
+use mathlib.Core.List.{List, []}
 use lib.ListN.{take, drop, replicate}
 use Rattle.syntax.specs.Tables.{Tables}
 use Rattle.reduction.specs.Reduction.{Settings, zeroCounts}

@@ -1,5 +1,5 @@
 -- The step by structure: a node first, then its parts in order, each place moved by the words before the part.
-use mathlib.Core.Path.{_≡_, refl, sym, _∙_, ap, ap₂}
+use mathlib.Core.Path.{_≡_, refl, _∙_, ap, ap₂}
 use mathlib.Core.Bool.{Bool}
 use mathlib.Core.List.{List, [], _∷_, _++_, map}
 use mathlib.Core.Option.{Option, some, none, Option·map}
@@ -8,7 +8,7 @@ use native.Mathlib.Omega.{arith}
 use lib.ListN.{length, length-map}
 use Rattle.syntax.specs.Term.{Term, Terms, var, call, lam, app, bind, pair, fst, snd, inl, inr, case, done, arg}
 use Rattle.syntax.specs.Encoding.{size}
-use Rattle.syntax.specs.Positions.{Position, root, within, bound, positions, positionsAll}
+use Rattle.syntax.specs.Positions.{Position, within, bound, positions, positionsAll}
 use Rattle.syntax.proofs.Positions.{length-positions}
 use Rattle.reduction.specs.Rules.{rules}
 use Rattle.reduction.specs.declared.Phase.{Phase}

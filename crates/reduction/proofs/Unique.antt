@@ -1,8 +1,8 @@
 -- There is one reduction sequence from a term: a step is a function of the phase and the term.
 use mathlib.Core.Path.{_≡_, refl, sym, _∙_, ap, ap₂}
 use mathlib.Core.Bool.{Bool}
-use mathlib.Core.List.{List, [], _∷_, _++_, map}
-use mathlib.Core.Option.{Option, some, none, Option·some-injective, Option·none-ne-some}
+use mathlib.Core.List.{List, _∷_, _++_, map}
+use mathlib.Core.Option.{Option·some-injective, Option·none-ne-some}
 use Rattle.syntax.specs.Term.{Term}
 use Rattle.reduction.specs.declared.Phase.{Phase}
 use Rattle.reduction.specs.declared.Phase.the-variants.{Insertion, Reduction, Dropping}

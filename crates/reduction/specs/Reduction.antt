@@ -1,15 +1,15 @@
 -- Reduction under a step budget and a capacity, with refusals 10 and 11 and the ten counts.
 use Prim.Native.Nat.{ℕ, zero, suc, _+_}
 use mathlib.Core.Bool.{Bool, true, false}
-use mathlib.Core.List.{List, [], _∷_}
-use mathlib.Core.Option.{Option, some, none}
+use mathlib.Core.List.{List}
+use mathlib.Core.Option.{some, none}
 use lib.Dec.{leb}
 use lib.ListN.{getD, set, replicate}
 use Rattle.syntax.specs.Term.{Term}
 use Rattle.syntax.specs.Encoding.{size}
 use Rattle.reduction.specs.declared.Phase.{Phase}
 use Rattle.reduction.specs.declared.Phase.the-variants.{Insertion, Reduction, Dropping}
-use Rattle.reduction.specs.Redex.{Step, step}
+use Rattle.reduction.specs.Redex.{step}
 use Rattle.reduction.specs.declared.Rule.{Rule}
 use Rattle.reduction.specs.declared.Rule.the-variants.{LetInsertion, LetOfLet, LetOfCase, Apply, First, Second, LeftCase, RightCase}
 use Rattle.reduction.specs.declared.Rule.the-variants.{LetValue, Drop}

@@ -5,7 +5,7 @@ use mathlib.Core.List.{List, [], _∷_}
 use mathlib.Core.Option.{Option, some, none}
 use lib.Dec.{eqb}
 use Rattle.syntax.specs.Maybe.{_>>=_, given}
-use Rattle.syntax.specs.Term.{Term, Terms, var, bind, case, asVar, asLam, asApp, asBind, asPair, asFst, asSnd, asInl, asInr, asCase}
+use Rattle.syntax.specs.Term.{Term, var, bind, case, asVar, asLam, asApp, asBind, asPair, asFst, asSnd, asInl, asInr, asCase}
 use Rattle.syntax.specs.Values.{isValue, isComputation, Operand, operands, uses}
 use Rattle.syntax.specs.Substitution.{rename, weaken, weakenBody, _⟦_⟧}
 use Rattle.reduction.specs.declared.Phase.{Phase}

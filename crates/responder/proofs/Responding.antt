@@ -4,7 +4,7 @@ use Prim.{⊥}
 use native.Mathlib.Omega.{arith}
 use mathlib.Core.Path.{_≡_, refl, sym, _∙_, ap, subst}
 use mathlib.Core.Bool.{Bool, true, false}
-use mathlib.Core.List.{List, [], _∷_, _++_}
+use mathlib.Core.List.{List, [], _++_}
 use lib.ListN.{length, take, drop, replicate, length-append}
 use borrow.Author.Tests.{le-leb}
 use Rattle.syntax.specs.Tables.{Tables, over}

@@ -2,13 +2,13 @@
 use mathlib.Core.Path.{_≡_, refl, sym, _∙_, ap, subst}
 use mathlib.Core.List.{List, [], _∷_}
 use mathlib.Core.Option.{Option, some, none, Option·map, Option·some-injective, Option·none-ne-some}
-use Prim.Native.Nat.{ℕ, zero, suc, _+_, _^_, _≤_, _<_, _/_, _%_}
+use Prim.Native.Nat.{ℕ, zero, suc, _+_, _^_, _≤_, _<_}
 use native.Mathlib.Omega.{arith}
 use lib.ListN.{length, getElem?}
 use Rattle.syntax.specs.Maybe.{_>>=_}
 use Rattle.syntax.specs.Words.{kindOf, numberOf, typeOf}
 use Rattle.syntax.specs.Tables.{arity}
-use Rattle.syntax.specs.Term.{Term, Terms, var, call, lam, app, bind, pair, fst, snd, inl, inr, case, done, arg}
+use Rattle.syntax.specs.Term.{Term, Terms, call, done, arg}
 use Rattle.syntax.specs.Decoding.{leaf, unary, binary, ternary, splitForest, callBuilder, builders, graft, decodeForest, single}
 use Rattle.syntax.specs.Decoding.{decode}
 use Rattle.syntax.specs.Kinds.{partsOfKind}

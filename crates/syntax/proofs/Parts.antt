@@ -2,13 +2,13 @@
 use mathlib.Core.Path.{_≡_, refl, sym, _∙_, ap, subst}
 use mathlib.Core.List.{List, [], _∷_, _++_, append-assoc}
 use mathlib.Core.Option.{Option, some, none, Option·map}
-use Prim.Native.Nat.{ℕ, zero, suc, _+_, _^_, _<_}
+use Prim.Native.Nat.{ℕ, suc, _+_, _^_, _<_}
 use native.Mathlib.Omega.{arith}
 use lib.ListN.{length, length-append}
-use Rattle.syntax.specs.Words.{pack, kindOf, numberOf}
+use Rattle.syntax.specs.Words.{pack, numberOf}
 use Rattle.syntax.specs.Tables.{arity}
 use Rattle.syntax.specs.Term.{Term, Terms, var, call, lam, app, bind, pair, fst, snd, inl, inr, case, done, arg, node}
-use Rattle.syntax.specs.Encoding.{wordOf, encode, encodeAll, size}
+use Rattle.syntax.specs.Encoding.{encode, encodeAll, size}
 use Rattle.syntax.specs.Kinds.{partsOfKind}
 use Rattle.syntax.specs.Parts.{partCount, extent, partEnd}
 use Rattle.syntax.proofs.Decoding.{kind-pack, number-pack}

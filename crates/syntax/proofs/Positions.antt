@@ -1,11 +1,11 @@
 -- A position's place among the positions is its node's index among the words.
 use mathlib.Core.Path.{_≡_, refl, sym, _∙_, ap, ap₂}
-use mathlib.Core.List.{List, [], _∷_, _++_, map, map-append}
-use Prim.Native.Nat.{ℕ, zero, suc}
+use mathlib.Core.List.{List, [], _∷_, _++_, map}
+use Prim.Native.Nat.{ℕ}
 use lib.ListN.{length, length-map}
 use Rattle.syntax.specs.Term.{Term, Terms, var, call, lam, app, bind, pair, fst, snd, inl, inr, case, done, arg, node}
 use Rattle.syntax.specs.Encoding.{wordOf, encode, encodeAll, size}
-use Rattle.syntax.specs.Positions.{Position, root, within, bound, positions, positionsAll, subterms}
+use Rattle.syntax.specs.Positions.{Position, within, bound, positions, positionsAll, subterms}
 
 -- the words of the subterms at these positions
 abbrev words : {X : Type 0} → List (Position X) → List ℕ

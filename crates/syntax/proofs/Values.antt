@@ -1,9 +1,9 @@
 -- A traversal that puts values for variables keeps values values and computations computations: an equation of the tests, for every kit.
 use mathlib.Core.Path.{_≡_, refl, sym, ap₂, subst}
-use mathlib.Core.Bool.{Bool, true, _&&_}
+use mathlib.Core.Bool.{true, _&&_}
 use lib.Dec.{T}
 use Prim.Native.Nat.{ℕ}
-use Rattle.syntax.specs.Term.{Term, Terms, var, call, lam, app, bind, pair, fst, snd, inl, inr, case}
+use Rattle.syntax.specs.Term.{Term, var, call, lam, app, bind, pair, fst, snd, inl, inr, case}
 use Rattle.syntax.specs.Substitution.{Kit, traverse, renaming, rename, substitution, substitute}
 use Rattle.syntax.specs.Values.{isValue}
 

@@ -2,7 +2,7 @@
 -- kind is a value's, and no rule looks further than at the first part of a node's first part.
 use mathlib.Core.Path.{_≡_, refl, sym, _∙_, ap}
 use mathlib.Core.Bool.{Bool, true, false, _&&_, not}
-use mathlib.Core.List.{List, [], _++_, append-assoc}
+use mathlib.Core.List.{List, _++_, append-assoc}
 use mathlib.Core.Option.{Option, some, none, Option·map}
 use lib.Dec.{T}
 use lib.ListN.{getD}

@@ -1,18 +1,18 @@
 -- Words that pass check 6 and decode are the words of the term they stand for.
 use mathlib.Core.Path.{_≡_, refl, sym, _∙_, ap, ap₂}
-use mathlib.Core.Bool.{Bool, true, false, _&&_, _||_}
+use mathlib.Core.Bool.{Bool, true, false, _&&_}
 use mathlib.Core.List.{List, [], _∷_, _++_, append-assoc, append-nil}
 use mathlib.Core.Option.{Option, some, none, Option·some-injective, Option·none-ne-some}
-use Prim.Native.Nat.{ℕ, zero, suc, _+_, _*_, _/_, _%_, _^_, _<_, _≤_}
+use Prim.Native.Nat.{ℕ, zero, suc, _+_}
 use native.Mathlib.Omega.{arith}
-use lib.Dec.{T, leb, ltb, eqb, eqb→eq}
+use lib.Dec.{T, ltb, eqb, eqb→eq}
 use lib.ListN.{length, getElem?}
 use Rattle.syntax.specs.Maybe.{_>>=_}
 use Rattle.syntax.specs.Words.{pack, kindOf, numberOf, typeOf}
 use Rattle.syntax.specs.Tables.{Tables, arity}
 use Rattle.syntax.specs.Term.{Term, Terms, var, call, lam, app, bind, pair, fst, snd, inl, inr, case, done, arg, node}
-use Rattle.syntax.specs.Encoding.{wordOf, encode, encodeAll}
-use Rattle.syntax.specs.Decoding.{Builder, leaf, unary, binary, ternary, splitForest, callBuilder, builders, graft, decodeForest, single}
+use Rattle.syntax.specs.Encoding.{encode, encodeAll}
+use Rattle.syntax.specs.Decoding.{leaf, unary, binary, ternary, splitForest, callBuilder, builders, graft, decodeForest, single}
 use Rattle.syntax.specs.Decoding.{decode}
 use Rattle.typing.specs.TableChecks.{every}
 use Rattle.typing.specs.TermChecks.{wellFormedFields, wellFormedWord, wellFormedWords}

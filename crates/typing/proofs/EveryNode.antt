@@ -1,12 +1,12 @@
 -- Every node of a term that has a type has a type.
 use mathlib.Core.Path.{_≡_, refl, sym, subst}
-use mathlib.Core.Bool.{Bool, true, false, _&&_}
+use mathlib.Core.Bool.{_&&_}
 use mathlib.Core.List.{List, [], _∷_, _++_}
 use mathlib.Core.Option.{Option, some, none, Option·some-injective, Option·none-ne-some}
 use Prim.Native.Nat.{ℕ}
-use lib.Dec.{T, eqb}
-use Rattle.syntax.specs.Maybe.{_>>=_, given, isSome}
-use Rattle.syntax.specs.Tables.{Tables, arrow, product, sum, components, Signature, signature}
+use lib.Dec.{eqb}
+use Rattle.syntax.specs.Maybe.{_>>=_, given}
+use Rattle.syntax.specs.Tables.{Tables, arrow, product, sum, components, signature}
 use Rattle.syntax.specs.Term.{Term, Terms, var, call, lam, app, bind, pair, fst, snd, inl, inr, case, done, arg}
 use Rattle.typing.specs.Infer.{Context, equal, infer, inferAll}
 use Rattle.typing.specs.NodeTypes.{_then_, _and_, nodeTypes, nodeTypesAll}

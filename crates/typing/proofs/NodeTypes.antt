@@ -1,14 +1,13 @@
 -- The list of node types has one entry for each node.
 use mathlib.Core.Path.{_≡_, refl, sym, _∙_, ap}
-use mathlib.Core.List.{List, [], _∷_, _++_}
+use mathlib.Core.List.{List, _∷_, _++_}
 use mathlib.Core.Option.{Option, some, none}
 use Prim.Native.Nat.{ℕ, suc, _+_}
-use native.Mathlib.Omega.{arith}
 use lib.ListN.{length, length-append}
 use Rattle.syntax.specs.Maybe.{_>>=_}
 use Rattle.syntax.specs.Tables.{Tables, arrow, sum, components}
 use Rattle.syntax.specs.Term.{Term, Terms, var, call, lam, app, bind, pair, fst, snd, inl, inr, case, done, arg}
-use Rattle.syntax.specs.Encoding.{encode, encodeAll, size}
+use Rattle.syntax.specs.Encoding.{encode, encodeAll}
 use Rattle.typing.specs.Infer.{Context, infer}
 use Rattle.typing.specs.NodeTypes.{_then_, _and_, nodeTypes, nodeTypesAll}
 

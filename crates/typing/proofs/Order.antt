@@ -8,13 +8,12 @@ use native.Mathlib.Omega.{arith}
 use lib.ListN.{length}
 use Rattle.syntax.specs.Maybe.{isSome}
 use Rattle.syntax.specs.Tables.{Tables}
-use Rattle.syntax.specs.Term.{Term}
 use Rattle.syntax.specs.Decoding.{decode}
 use Rattle.syntax.proofs.Options.{Every, every-none, every-some, every-to}
 use Rattle.typing.specs.Infer.{infer}
 use Rattle.typing.specs.TableChecks.{lengthsFit, wellFormedTypes, distinct, wellFormedCalls, wellFormedInputs}
 use Rattle.typing.specs.TermChecks.{wellFormedWords, scoped}
-use Rattle.typing.specs.Refusals.{Verdict, refused, accepted, _>>=_, require, provide, Typed, elaborate}
+use Rattle.typing.specs.Refusals.{Verdict, refused, accepted, _>>=_, require, provide, elaborate}
 
 -- whether there is an answer that passes a test
 abbrev pub holds : {X : Type 0} → (X → Bool) → Option X → Bool

@@ -1,7 +1,7 @@
 -- The tests on term words and variables: refusals 6 and 8.
 use Prim.Native.Nat.{ℕ, _+_}
 use mathlib.Core.Bool.{Bool, true, false, _&&_, _||_}
-use mathlib.Core.List.{List, [], _∷_}
+use mathlib.Core.List.{List}
 use mathlib.Core.Option.{Option, some, none}
 use lib.Dec.{leb, ltb, eqb}
 use lib.ListN.{length}
@@ -9,7 +9,7 @@ use Rattle.syntax.specs.Kinds.{usesNumber, usesType}
 use Rattle.syntax.specs.Words.{kindOf, numberOf, typeOf}
 use Rattle.syntax.specs.Tables.{Tables}
 use Rattle.syntax.specs.Term.{Term, asVar}
-use Rattle.syntax.specs.Positions.{Position, positions}
+use Rattle.syntax.specs.Positions.{positions}
 use Rattle.typing.specs.TableChecks.{every}
 
 -- a field that is used is below its bound, one that is unused is zero

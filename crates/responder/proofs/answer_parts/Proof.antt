@@ -3,9 +3,6 @@ use Rattle.responder.proofs.Responding.{parts-answered}
 use borrow.Author.Needs.{needs}
 use Rattle.responder.proofs.answer_parts.Statement.{statement}
 use Rattle.responder.proofs.answer_parts.Tie as tie
-use Rattle.responder.proofs.answer_parts.Reads as reads
-use Rattle.responder.proofs.answer_parts.Lts as lts
-use Rattle.responder.proofs.answer_to.Reads as answer-to-reads
 
 pub answer-parts-spec : {M : Type 1} → statement M
 answer-parts-spec =

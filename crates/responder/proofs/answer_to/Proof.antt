@@ -4,10 +4,6 @@ use Rattle.responder.proofs.Responding.{listing-normalized, full-capaci
 use borrow.Author.Needs.{needs}
 use Rattle.responder.proofs.answer_to.Statement.{statement}
 use Rattle.responder.proofs.answer_to.Tie as tie
-use Rattle.responder.proofs.answer_to.Reads as reads
-use Rattle.responder.proofs.answer_to.Lts as lts
-use Rattle.bundles.proofs.listing.listing.Reads as listing-reads
-use Rattle.normalizer.proofs.normalize.normalize.Reads as normalize-reads
 
 pub answer-to-spec : {M : Type 1} → statement M
 answer-to-spec =

@@ -3,9 +3,6 @@ use Rattle.responder.proofs.Responding.{refusal-listed}
 use borrow.Author.Needs.{needs}
 use Rattle.responder.proofs.refuse.Statement.{statement}
 use Rattle.responder.proofs.refuse.Tie as tie
-use Rattle.responder.proofs.refuse.Reads as reads
-use Rattle.responder.proofs.refuse.Lts as lts
-use Rattle.bundles.proofs.listing.listing.Reads as listing-reads
 
 pub refuse-spec : {M : Type 1} → statement M
 refuse-spec = tie.close (tie.spec (λ c. search needs) (λ c κs. search needs) (λ c. search needs) (λ c.

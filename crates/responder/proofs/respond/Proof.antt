@@ -3,11 +3,6 @@ use borrow.Author.Needs.{needs}
 use Rattle.responder.proofs.Responding.{refused-responds, read-responds, reading-fits}
 use Rattle.responder.proofs.respond.Statement.{statement}
 use Rattle.responder.proofs.respond.Tie as tie
-use Rattle.responder.proofs.respond.Reads as reads
-use Rattle.responder.proofs.respond.Lts as lts
-use Rattle.bundles.proofs.read.read_bundle.Reads as read-bundle-reads
-use Rattle.responder.proofs.answer_parts.Reads as answer-parts-reads
-use Rattle.responder.proofs.refuse.Reads as refuse-reads
 
 pub respond-spec : {M : Type 1} → statement M
 respond-spec =

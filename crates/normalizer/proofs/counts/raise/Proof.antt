@@ -5,16 +5,13 @@ use native.Mathlib.Omega.{arith}
 use Rattle.reduction.specs.declared.Rule.{Rule}
 use Rattle.reduction.specs.declared.Rule.the-variants.{LetInsertion, LetOfLet, LetOfCase, Apply, First, Second, LeftCase, RightCase}
 use Rattle.reduction.specs.declared.Rule.the-variants.{LetValue, Drop}
-use Rattle.reduction.specs.Reduction.{index, raise}
+use Rattle.reduction.specs.Reduction.{index}
 use lib.ListN.{getD, set}
 use mathlib.Core.List.{List}
 use Prim.Native.Nat.{_+_}
 use borrow.Author.Needs.{needs}
 use Rattle.normalizer.proofs.counts.raise.Statement.{statement}
 use Rattle.normalizer.proofs.counts.raise.Tie as tie
-use Rattle.normalizer.proofs.counts.raise.Reads as reads
-use Rattle.normalizer.proofs.counts.raise.Lts as lts
-use Rattle.normalizer.proofs.counts.index_of.Reads as index-of-reads
 
 below : (r : Rule) → index r < 10
 below LetInsertion = omega arith

@@ -1,16 +1,14 @@
 -- The first i words are zeros, the rest as it was.
 use borrow.Author.Needs.{needs}
-use Prim.Native.Nat.{ℕ, zero, _≤_, _<_, _+_, _-_}
+use Prim.Native.Nat.{ℕ, _≤_, _<_, _+_, _-_}
 use native.Mathlib.Omega.{arith}
-use mathlib.Core.Path.{_≡_, refl, sym, _∙_, ap}
+use mathlib.Core.Path.{_≡_, refl, ap}
 use mathlib.Core.List.{List, _++_}
 use lib.ListN.{length, drop, set, replicate, length-set, length-drop, length-append, length-replicate}
 use Rattle.outcomes.specs.Buffers.{cleared}
 use Rattle.normalizer.proofs.Pasting.{zeros-next, zeros-all}
 use Rattle.normalizer.proofs.moves.clear.Statement.{statement}
 use Rattle.normalizer.proofs.moves.clear.Tie as tie
-use Rattle.normalizer.proofs.moves.clear.Reads as reads
-use Rattle.normalizer.proofs.moves.clear.Lts as lts
 
 record Cleared (l₀ l : List ℕ) (i : ℕ) : Type 0 where
   upto : i ≤ length l₀

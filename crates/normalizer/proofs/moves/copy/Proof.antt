@@ -2,16 +2,14 @@
 use borrow.Author.Needs.{needs}
 use Prim.Native.Nat.{ℕ, _≤_, _<_, _+_, _-_}
 use native.Mathlib.Omega.{arith}
-use mathlib.Core.Path.{_≡_, refl, sym, _∙_, ap}
-use mathlib.Core.List.{List, _++_}
-use lib.ListN.{length, getD, drop, set, length-set, length-drop}
+use mathlib.Core.Path.{_≡_, sym, _∙_, ap}
+use mathlib.Core.List.{List}
+use lib.ListN.{length, getD, set}
 use lib.Seq.{paste, length-paste}
 use lib.Seq.{paste-suc, paste-zero}
 use native.Mathlib.Numerals.{add-one}
 use Rattle.normalizer.proofs.moves.copy.Statement.{statement}
 use Rattle.normalizer.proofs.moves.copy.Tie as tie
-use Rattle.normalizer.proofs.moves.copy.Reads as reads
-use Rattle.normalizer.proofs.moves.copy.Lts as lts
 
 record Copied (src dst₀ dst : List ℕ) (n at i : ℕ) : Type 0 where
   upto : i ≤ n

@@ -1,17 +1,14 @@
 -- i words are moved; the word read next stands behind what is written.
 use borrow.Author.Needs.{needs}
-use Prim.Native.Nat.{ℕ, suc, _≤_, _<_, _+_, _-_}
+use Prim.Native.Nat.{ℕ, _≤_, _<_, _+_, _-_}
 use native.Mathlib.Omega.{arith}
-use native.Mathlib.Numerals.{add-one}
-use mathlib.Core.Path.{_≡_, refl, sym, _∙_, ap}
-use mathlib.Core.List.{List, _++_}
-use lib.ListN.{length, getD, drop, set, length-set, length-drop}
+use mathlib.Core.Path.{_≡_, _∙_, ap}
+use mathlib.Core.List.{List}
+use lib.ListN.{length, getD, drop, set, length-drop}
 use lib.Seq.{paste, length-paste}
 use Rattle.normalizer.proofs.Pasting.{paste-none, paste-next, getD-paste-past}
 use Rattle.normalizer.proofs.moves.move_down.Statement.{statement}
 use Rattle.normalizer.proofs.moves.move_down.Tie as tie
-use Rattle.normalizer.proofs.moves.move_down.Reads as reads
-use Rattle.normalizer.proofs.moves.move_down.Lts as lts
 
 record Moved (l₀ l : List ℕ) (from n to i : ℕ) : Type 0 where
   upto : i ≤ n

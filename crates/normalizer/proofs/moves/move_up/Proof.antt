@@ -2,16 +2,13 @@
 use borrow.Author.Needs.{needs}
 use Prim.Native.Nat.{ℕ, suc, _≤_, _<_, _+_, _-_}
 use native.Mathlib.Omega.{arith}
-use native.Mathlib.Numerals.{add-one}
-use mathlib.Core.Path.{_≡_, refl, sym, _∙_, ap}
-use mathlib.Core.List.{List, _++_}
-use lib.ListN.{length, getD, drop, set, length-set, length-drop}
+use mathlib.Core.Path.{_≡_, refl, _∙_, ap}
+use mathlib.Core.List.{List}
+use lib.ListN.{length, getD, drop, set, length-drop}
 use lib.Seq.{paste, length-paste}
 use Rattle.normalizer.proofs.Pasting.{paste-none, paste-previous, getD-paste-before}
 use Rattle.normalizer.proofs.moves.move_up.Statement.{statement}
 use Rattle.normalizer.proofs.moves.move_up.Tie as tie
-use Rattle.normalizer.proofs.moves.move_up.Reads as reads
-use Rattle.normalizer.proofs.moves.move_up.Lts as lts
 
 record Moved (l₀ l : List ℕ) (from n to i : ℕ) : Type 0 where
   upto : i ≤ n

@@ -1,18 +1,14 @@
 -- Down first to last, up last to first, or not at all: the same words stand at the new place.
 use native.Mathlib.Omega.{arith}
-use Prim.Native.Nat.{ℕ, _≤_, _<_, _+_}
-use mathlib.Core.Path.{_≡_, refl, sym, _∙_, ap}
+use Prim.Native.Nat.{ℕ, _≤_}
+use mathlib.Core.Path.{_≡_, _∙_, ap}
 use mathlib.Core.List.{List}
-use lib.ListN.{length, drop}
+use lib.ListN.{drop}
 use lib.Seq.{paste}
 use Rattle.normalizer.proofs.Pasting.{paste-same}
 use borrow.Author.Needs.{needs}
 use Rattle.normalizer.proofs.moves.move_words.Statement.{statement}
 use Rattle.normalizer.proofs.moves.move_words.Tie as tie
-use Rattle.normalizer.proofs.moves.move_words.Reads as reads
-use Rattle.normalizer.proofs.moves.move_words.Lts as lts
-use Rattle.normalizer.proofs.moves.move_down.Reads as move-down-reads
-use Rattle.normalizer.proofs.moves.move_up.Reads as move-up-reads
 
 in-place : (l : List ℕ) (from n to : ℕ) → from ≤ to → to ≤ from → l ≡ paste l to (drop from l) n
 in-place l from n to h g = let e : from ≡ to = omega (arith, h, g) in paste-same l from n ∙ ap (λ (i : ℕ). paste l i (drop from l) n) e

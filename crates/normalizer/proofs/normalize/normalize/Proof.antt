@@ -1,12 +1,12 @@
 -- The run's outcome with both scratch buffers cleared is the definition's; the claim follows from the equation.
 use Prim.Native.Nat.{ℕ}
-use mathlib.Core.Path.{_≡_, refl, sym, _∙_, ap, subst}
+use mathlib.Core.Path.{_≡_, _∙_, ap}
 use mathlib.Core.List.{List}
 use lib.ListN.{length}
 use Rattle.syntax.specs.Tables.{Tables}
 use Rattle.reduction.specs.Reduction.{Settings}
-use Rattle.outcomes.specs.Buffers.{overwrite, cleared}
-use Rattle.outcomes.specs.Normalize.{Buffers, Outcome, normalizeWithin, capacityOf, normalizeOutcome}
+use Rattle.outcomes.specs.Buffers.{cleared}
+use Rattle.outcomes.specs.Normalize.{Buffers, Outcome, normalizeOutcome}
 use Rattle.outcomes.specs.Contract.{Normalizes}
 use Rattle.outcomes.specs.declared.Answer.{Answer}
 use Rattle.theory.proofs.Contracted.{normalizes}
@@ -14,10 +14,6 @@ use Rattle.normalizer.specs.Runs.{Runs}
 use borrow.Author.Needs.{needs}
 use Rattle.normalizer.proofs.normalize.normalize.Statement.{statement}
 use Rattle.normalizer.proofs.normalize.normalize.Tie as tie
-use Rattle.normalizer.proofs.normalize.normalize.Reads as reads
-use Rattle.normalizer.proofs.normalize.normalize.Lts as lts
-use Rattle.normalizer.proofs.moves.clear.Reads as clear-reads
-use Rattle.normalizer.proofs.normalize.run.Reads as run-reads
 
 same-cleared : (l m : List ℕ) → length l ≡ length m → cleared l ≡ cleared m
 unfolding cleared

@@ -1,21 +1,11 @@
 -- Each way the call can go is the definition's: refused by a check, too long, stopped on the way, or come through.
 use native.Mathlib.Omega.{arith}
-use Prim.Native.Nat.{ℕ, _≤_, _<_, _+_, _-_, min}
-use mathlib.Core.Path.{_≡_, refl, sym, _∙_, ap, subst}
-use mathlib.Core.List.{List}
-use lib.ListN.{length}
-use lib.Seq.{length-paste}
+use Prim.Native.Nat.{ℕ, _-_, min}
+use mathlib.Core.Path.{_≡_, refl, _∙_, ap}
 use Rattle.normalizer.proofs.Deciding.{run-refused, run-too-long, run-reducible, run-stopped, run-ended, run-room}
 use borrow.Author.Needs.{needs}
 use Rattle.normalizer.proofs.normalize.run.Statement.{statement}
 use Rattle.normalizer.proofs.normalize.run.Tie as tie
-use Rattle.normalizer.proofs.normalize.run.Reads as reads
-use Rattle.normalizer.proofs.normalize.run.Lts as lts
-use Rattle.checker.proofs.check.verdict.Reads as verdict-reads
-use Rattle.normalizer.proofs.moves.copy.Reads as copy-reads
-use Rattle.normalizer.proofs.normalize.refused.Reads as refused-reads
-use Rattle.normalizer.proofs.normalize.smaller.Reads as smaller-reads
-use Rattle.normalizer.proofs.reduce.reduce.Reads as reduce-reads
 
 capacity-of : (o f s k m c : ℕ) → k ≡ min f s → m ≡ min o k → c ≡ min m 8192 → c ≡ min (min o (min f s)) 8192
 capacity-of o f s k m c e g h = h ∙ ap (λ (x : ℕ). min x 8192) (g ∙ ap (min o) e)

@@ -8,8 +8,6 @@ use Rattle.normalizer.specs.Turns.{nextFrom}
 use borrow.Author.Needs.{needs}
 use Rattle.normalizer.proofs.phases.next_from.Statement.{statement}
 use Rattle.normalizer.proofs.phases.next_from.Tie as tie
-use Rattle.normalizer.proofs.phases.next_from.Reads as reads
-use Rattle.normalizer.proofs.phases.next_from.Lts as lts
 
 at : (p q : Phase) (place r : ℕ) → p ≡ q → r ≡ nextFrom q place → r ≡ nextFrom p place
 at p q place r e h = h ∙ ap (λ (x : Phase). nextFrom x place) (sym e)

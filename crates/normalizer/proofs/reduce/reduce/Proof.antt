@@ -14,11 +14,6 @@ use Rattle.normalizer.proofs.PhaseLoop.{Outer, inner-begins, outer-begi
 use Rattle.normalizer.proofs.PhaseLoop.{phasesAfter}
 use Rattle.normalizer.proofs.reduce.reduce.Statement.{statement}
 use Rattle.normalizer.proofs.reduce.reduce.Tie as tie
-use Rattle.normalizer.proofs.reduce.reduce.Reads as reads
-use Rattle.normalizer.proofs.reduce.reduce.Lts as lts
-use Rattle.normalizer.proofs.counts.raise.Reads as raise-reads
-use Rattle.normalizer.proofs.phases.next_from.Reads as next-from-reads
-use Rattle.normalizer.proofs.turn.take_turn.Reads as take-turn-reads
 
 abbrev Inv-loop : tie.InvT-loop
 Inv-loop calls current₀ start budget capacity second₀ counts₀ left₀ phase refusal₀ length₀ from₀ current second counts left refusal length

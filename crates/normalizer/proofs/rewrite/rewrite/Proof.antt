@@ -1,19 +1,14 @@
 -- The redex is measured, written to the second buffer, and spliced in; or the next term is too long.
 use native.Mathlib.Omega.{arith}
-use Prim.Native.Nat.{ℕ, _≤_, _<_, _+_, _-_}
-use mathlib.Core.Path.{_≡_, refl, sym, _∙_, ap}
+use Prim.Native.Nat.{ℕ, _≤_, _-_}
+use mathlib.Core.Path.{refl}
 use mathlib.Core.List.{List}
-use lib.ListN.{length, take, drop, length-drop, length-take}
+use lib.ListN.{length, take, drop, length-take}
 use Rattle.normalizer.proofs.InPlace.{place-below, redex-starts, read-inside, planned, spliceable, rewrites-over, rewrites-full}
 use Rattle.normalizer.proofs.InPlace.{rewrites-next}
 use borrow.Author.Needs.{needs}
 use Rattle.normalizer.proofs.rewrite.rewrite.Statement.{statement}
 use Rattle.normalizer.proofs.rewrite.rewrite.Tie as tie
-use Rattle.normalizer.proofs.rewrite.rewrite.Reads as reads
-use Rattle.normalizer.proofs.rewrite.rewrite.Lts as lts
-use Rattle.normalizer.proofs.splice.splice.Reads as splice-reads
-use Rattle.rewriter.proofs.plan.measure.Reads as measure-reads
-use Rattle.rewriter.proofs.write.write.Reads as write-reads
 
 small-part : (l : List ℕ) (n i : ℕ) → n ≤ 8192 → length (take (n - i) (drop i l)) ≤ 8192
 small-part l n i h = omega (arith, h, length-take (n - i) (drop i l))

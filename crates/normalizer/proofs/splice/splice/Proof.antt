@@ -1,17 +1,10 @@
 -- The words behind the stretch move to their new place, then the new stretch is copied in.
-use native.Mathlib.Omega.{arith}
-use Prim.Native.Nat.{ℕ, _≤_, _<_, _+_, _-_}
-use mathlib.Core.Path.{_≡_, refl, sym, _∙_, ap}
-use mathlib.Core.List.{List}
-use lib.ListN.{length, drop}
+use Prim.Native.Nat.{_-_}
+use mathlib.Core.Path.{refl}
 use Rattle.normalizer.proofs.Splicing.{spliced}
 use borrow.Author.Needs.{needs}
 use Rattle.normalizer.proofs.splice.splice.Statement.{statement}
 use Rattle.normalizer.proofs.splice.splice.Tie as tie
-use Rattle.normalizer.proofs.splice.splice.Reads as reads
-use Rattle.normalizer.proofs.splice.splice.Lts as lts
-use Rattle.normalizer.proofs.moves.copy.Reads as copy-reads
-use Rattle.normalizer.proofs.moves.move_words.Reads as move-words-reads
 
 pub splice-spec : {M : Type 1} → statement M
 splice-spec =

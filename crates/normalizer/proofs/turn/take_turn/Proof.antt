@@ -1,10 +1,9 @@
 -- What is found is the definition's step; the budget is looked at before the next term's length.
 use native.Mathlib.Omega.{arith}
-use Prim.Native.Nat.{ℕ, _≤_, _<_, _+_, _-_}
-use mathlib.Core.Path.{_≡_, refl, sym, _∙_, ap, subst}
+use Prim.Native.Nat.{ℕ, _-_}
+use mathlib.Core.Path.{_≡_, sym, _∙_, subst}
 use mathlib.Core.List.{List}
-use lib.ListN.{length, take, drop, length-take}
-use lib.Seq.{length-front}
+use lib.ListN.{length, length-take}
 use Rattle.normalizer.proofs.Turning.{turn-searchable, turn-finds, turn-rewritable, turned-stops, turned-spent, turned-full}
 use Rattle.normalizer.proofs.Turning.{turned-goes}
 use Rattle.reduction.specs.declared.Rule.{Rule}
@@ -13,10 +12,6 @@ use Rattle.normalizer.specs.declared.rewrite.Rewritten.{Rewritten}
 use borrow.Author.Needs.{needs}
 use Rattle.normalizer.proofs.turn.take_turn.Statement.{statement}
 use Rattle.normalizer.proofs.turn.take_turn.Tie as tie
-use Rattle.normalizer.proofs.turn.take_turn.Reads as reads
-use Rattle.normalizer.proofs.turn.take_turn.Lts as lts
-use Rattle.normalizer.proofs.find.find.Reads as find-reads
-use Rattle.normalizer.proofs.rewrite.rewrite.Reads as rewrite-reads
 
 told-as : {rule : Rule} {calls before : List ℕ} {len place capacity : ℕ} {after : List ℕ} {r : Rewritten} (w : Rewritten) → r ≡ w
     → Rewrites rule calls before len place capacity after r → Rewrites rule calls before len place capacity after w

@@ -5,8 +5,6 @@ use native.Mathlib.Omega.{arith}
 use Rattle.parts.proofs.Copying.{Copied, copy-none, copy-next, copy-all}
 use Rattle.parts.proofs.copy.copy_into.Statement.{statement}
 use Rattle.parts.proofs.copy.copy_into.Tie as tie
-use Rattle.parts.proofs.copy.copy_into.Reads as reads
-use Rattle.parts.proofs.copy.copy_into.Lts as lts
 
 abbrev Inv-loop : tie.InvT-loop
 Inv-loop src start n dst₀ at i₀ dst i = Copied src dst₀ dst start n at i

@@ -3,9 +3,6 @@ use Rattle.parts.proofs.Sized.{sized, never-short}
 use borrow.Author.Needs.{needs}
 use Rattle.parts.proofs.ends.part_size.Statement.{statement}
 use Rattle.parts.proofs.ends.part_size.Tie as tie
-use Rattle.parts.proofs.ends.part_size.Reads as reads
-use Rattle.parts.proofs.ends.part_size.Lts as lts
-use Rattle.parts.proofs.ends.part_end.Reads as part-end-reads
 
 pub part-size-spec : {M : Type 1} → statement M
 part-size-spec = tie.close (tie.spec (λ c κs. search needs) (λ c. search needs) (λ c. search needs) (λ c.

@@ -1,7 +1,6 @@
 -- A call word's argument fields by place.
 use mathlib.Core.Path.{_≡_, refl}
 use Prim.Native.Nat.{ℕ, zero, suc, _/_, _%_, _^_}
-use native.Mathlib.Omega.{arith}
 use Rattle.parts.specs.Shapes.{argumentOf}
 use Rattle.parts.proofs.fields.argument.Statement.{statement}
 use Rattle.parts.proofs.fields.argument.Tie as tie

@@ -1,9 +1,9 @@
 -- What is written and what the row ahead will be make up the whole row, renamed; inner parts are renamed under one binder more.
 use borrow.Author.Needs.{needs}
-use Prim.Native.Nat.{_≤_, _+_, _-_}
+use Prim.Native.Nat.{_+_, _-_}
 use native.Mathlib.Omega.{arith}
-use mathlib.Core.Path.{_≡_, refl, sym, _∙_, ap}
-use lib.ListN.{length, getD, length-set}
+use mathlib.Core.Path.{refl, sym, _∙_}
+use lib.ListN.{length}
 use Rattle.parts.proofs.Traversal.{from-length}
 use Rattle.parts.proofs.Rows.{march-inside}
 use Rattle.parts.proofs.Tracing.{trace-begin, trace-end, trace-room, variable-word, trace-flat, trace-enter, outer-few}

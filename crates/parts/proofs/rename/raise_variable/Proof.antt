@@ -1,13 +1,9 @@
 -- A variable below the cut stays, one from the cut on goes up.
 use native.Mathlib.Omega.{arith}
-use mathlib.Core.Path.{_≡_, refl, sym, _∙_, ap}
 use Rattle.parts.proofs.Renaming.{raise-below, raise-above}
 use borrow.Author.Needs.{needs}
 use Rattle.parts.proofs.rename.raise_variable.Statement.{statement}
 use Rattle.parts.proofs.rename.raise_variable.Tie as tie
-use Rattle.parts.proofs.rename.raise_variable.Reads as reads
-use Rattle.parts.proofs.rename.raise_variable.Lts as lts
-use Rattle.parts.proofs.fields.number.Reads as number-reads
 
 pub raise-variable-spec : {M : Type 1} → statement M
 raise-variable-spec = tie.close (tie.spec (λ c κs. search needs) (λ c.

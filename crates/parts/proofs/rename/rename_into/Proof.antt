@@ -3,9 +3,6 @@ use Rattle.parts.proofs.Renaming.{rename-one-room, renames-one}
 use borrow.Author.Needs.{needs}
 use Rattle.parts.proofs.rename.rename_into.Statement.{statement}
 use Rattle.parts.proofs.rename.rename_into.Tie as tie
-use Rattle.parts.proofs.rename.rename_into.Reads as reads
-use Rattle.parts.proofs.rename.rename_into.Lts as lts
-use Rattle.parts.proofs.rename.rename_parts.Reads as rename-parts-reads
 
 pub rename-into-spec : {M : Type 1} → statement M
 rename-into-spec = tie.close (tie.spec (λ c κs.

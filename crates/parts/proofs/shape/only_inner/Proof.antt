@@ -1,13 +1,10 @@
 -- Two tests, one after the other.
-use borrow.Author.Needs.{needs}
-use mathlib.Core.Path.{_≡_, sym, ap}
+use mathlib.Core.Path.{sym, ap}
 use mathlib.Core.Bool.{Bool, _&&_}
 use lib.Dec.{eqb}
 use borrow.Author.Tests.{eq-eqb, ne-eqb}
 use Rattle.parts.proofs.shape.only_inner.Statement.{statement}
 use Rattle.parts.proofs.shape.only_inner.Tie as tie
-use Rattle.parts.proofs.shape.only_inner.Reads as reads
-use Rattle.parts.proofs.shape.only_inner.Lts as lts
 
 pub only-inner-spec : {M : Type 1} → statement M
 only-inner-spec = tie.close (tie.spec (λ c. sym (ap (λ (x : Bool). x && eqb (c .before .args .outer) 0) (eq-eqb _ _ (c .if1 .taken))))

@@ -1,17 +1,14 @@
 -- A kind that binds has its free parts outside, any other all its parts.
-use mathlib.Core.Path.{_≡_, refl, sym, _∙_, ap}
+use mathlib.Core.Path.{_≡_, sym, _∙_, ap}
 use mathlib.Core.Bool.{Bool, true, false, cond}
 use Prim.Native.Nat.{ℕ}
-use Rattle.syntax.specs.Kinds.{bindsOf, freeOf}
+use Rattle.syntax.specs.Kinds.{bindsOf}
 use Rattle.parts.specs.Binding.{outerCount}
 use Rattle.parts.specs.Shapes.{Shaping}
 use Rattle.parts.specs.declared.shape.Shape.{Shape}
 use borrow.Author.Needs.{needs}
 use Rattle.parts.proofs.shape.outer_count.Statement.{statement}
 use Rattle.parts.proofs.shape.outer_count.Tie as tie
-use Rattle.parts.proofs.shape.outer_count.Reads as reads
-use Rattle.parts.proofs.shape.outer_count.Lts as lts
-use Rattle.parts.proofs.shape.shape_of.Reads as shape-of-reads
 
 module _ (k n : ℕ) (s : Shape) (h : Shaping k s) where
   by-shape : cond (s .binds) (s .free) n ≡ outerCount k n

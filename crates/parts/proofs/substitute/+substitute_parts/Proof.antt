@@ -1,8 +1,8 @@
 -- What is written and what the row ahead will be make up the whole row, with the value in it; inner parts take it under one binder more.
 use borrow.Author.Needs.{needs}
-use Prim.Native.Nat.{_≤_, _+_, _-_}
+use Prim.Native.Nat.{_+_, _-_}
 use native.Mathlib.Omega.{arith}
-use mathlib.Core.Path.{_≡_, refl, sym, _∙_, ap}
+use mathlib.Core.Path.{refl, sym, _∙_}
 use lib.ListN.{length}
 use Rattle.parts.proofs.Traversal.{from-length}
 use Rattle.parts.proofs.Rows.{march-inside}

@@ -1,13 +1,9 @@
 -- A variable below the one that goes stays, one past it comes down.
 use native.Mathlib.Omega.{arith}
-use mathlib.Core.Path.{_≡_, refl, sym, _∙_, ap}
 use Rattle.parts.proofs.Substituting.{lower-below, lower-above}
 use borrow.Author.Needs.{needs}
 use Rattle.parts.proofs.substitute.lower_variable.Statement.{statement}
 use Rattle.parts.proofs.substitute.lower_variable.Tie as tie
-use Rattle.parts.proofs.substitute.lower_variable.Reads as reads
-use Rattle.parts.proofs.substitute.lower_variable.Lts as lts
-use Rattle.parts.proofs.fields.number.Reads as number-reads
 
 pub lower-variable-spec : {M : Type 1} → statement M
 lower-variable-spec = tie.close (tie.spec (λ c κs. search needs) (λ c.

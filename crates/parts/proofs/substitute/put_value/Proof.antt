@@ -1,14 +1,9 @@
 -- Under no binder the value is copied.
 use native.Mathlib.Omega.{arith}
-use mathlib.Core.Path.{_≡_, refl, sym, _∙_, ap}
 use Rattle.parts.proofs.Substituting.{whole-room, raises-copied, raises-renamed}
 use borrow.Author.Needs.{needs}
 use Rattle.parts.proofs.substitute.put_value.Statement.{statement}
 use Rattle.parts.proofs.substitute.put_value.Tie as tie
-use Rattle.parts.proofs.substitute.put_value.Reads as reads
-use Rattle.parts.proofs.substitute.put_value.Lts as lts
-use Rattle.parts.proofs.copy.copy_into.Reads as copy-into-reads
-use Rattle.parts.proofs.rename.rename_into.Reads as rename-into-reads
 
 pub put-value-spec : {M : Type 1} → statement M
 put-value-spec =

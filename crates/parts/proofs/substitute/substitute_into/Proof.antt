@@ -1,7 +1,7 @@
 -- One part is a row of one, and the part of the value is cut off first.
 use Prim.Native.Nat.{ℕ, _-_}
 use native.Mathlib.Omega.{arith}
-use mathlib.Core.Path.{_≡_, refl, sym, _∙_, ap}
+use mathlib.Core.Path.{_≡_, ap}
 use mathlib.Core.List.{List}
 use lib.ListN.{take}
 use lib.Seq.{length-take-le}
@@ -9,10 +9,6 @@ use Rattle.parts.proofs.Substituting.{substitute-one-room, substitutes-
 use borrow.Author.Needs.{needs}
 use Rattle.parts.proofs.substitute.substitute_into.Statement.{statement}
 use Rattle.parts.proofs.substitute.substitute_into.Tie as tie
-use Rattle.parts.proofs.substitute.substitute_into.Reads as reads
-use Rattle.parts.proofs.substitute.substitute_into.Lts as lts
-use Rattle.parts.proofs.ends.part_size.Reads as part-size-reads
-use Rattle.parts.proofs.substitute.substitute_parts.Reads as substitute-parts-reads
 
 front : (l : List ℕ) (m : ℕ) → take (m - 0) l ≡ take m l
 front l m = let e : m - 0 ≡ m = omega arith in ap (λ (k : ℕ). take k l) e

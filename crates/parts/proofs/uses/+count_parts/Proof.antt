@@ -1,8 +1,8 @@
 -- The uses counted so far and those of the row ahead make up the whole row's; inner parts are counted under one binder more.
 use borrow.Author.Needs.{needs}
-use Prim.Native.Nat.{_≤_, _+_, _-_}
+use Prim.Native.Nat.{_+_, _-_}
 use native.Mathlib.Omega.{arith}
-use mathlib.Core.Path.{_≡_, refl, sym, _∙_, ap}
+use mathlib.Core.Path.{refl, sym, _∙_}
 use lib.ListN.{length}
 use Rattle.parts.proofs.Traversal.{from-length}
 use Rattle.parts.proofs.Rows.{march-inside, march-starts}

@@ -1,12 +1,8 @@
 -- One part is a row of one.
-use borrow.Author.Needs.{needs}
 use Rattle.parts.proofs.Rows.{one-starts}
 use Rattle.parts.proofs.Counting.{counts-one}
 use Rattle.parts.proofs.uses.count_uses.Statement.{statement}
 use Rattle.parts.proofs.uses.count_uses.Tie as tie
-use Rattle.parts.proofs.uses.count_uses.Reads as reads
-use Rattle.parts.proofs.uses.count_uses.Lts as lts
-use Rattle.parts.proofs.uses.count_parts.Reads as count-parts-reads
 
 pub count-uses-spec : {M : Type 1} → statement M
 count-uses-spec = tie.close (tie.spec (λ c κs.

@@ -1,13 +1,10 @@
 -- A comparison, counted.
-use borrow.Author.Needs.{needs}
 use native.Mathlib.Omega.{arith}
 use mathlib.Core.Path.{sym, ap}
 use borrow.Author.Tests.{eq-eqb, ne-eqb}
 use Rattle.syntax.specs.Values.{counts}
 use Rattle.parts.proofs.uses.same.Statement.{statement}
 use Rattle.parts.proofs.uses.same.Tie as tie
-use Rattle.parts.proofs.uses.same.Reads as reads
-use Rattle.parts.proofs.uses.same.Lts as lts
 
 pub same-spec : {M : Type 1} → statement M
 same-spec = tie.close (tie.spec (λ c. (ap counts (sym (eq-eqb _ _ (c .if1 .taken))), omega arith))

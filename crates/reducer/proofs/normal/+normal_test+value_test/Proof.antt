@@ -1,10 +1,9 @@
 -- Each part is tested as its place demands, and the whole passes exactly if every part does; a normal value is a normal form of the kind of
 -- a value.
 use borrow.Author.Needs.{needs}
-use Prim.Native.Nat.{_≤_, _+_, _-_, _*_}
+use Prim.Native.Nat.{_+_, _-_, _*_}
 use native.Mathlib.Omega.{arith}
-use mathlib.Core.Path.{_≡_, refl, sym, ap, _∙_}
-use mathlib.Core.Bool.{Bool}
+use mathlib.Core.Path.{sym, _∙_}
 use lib.ListN.{length, length-set}
 use Rattle.reduction.specs.Rules.{allPure}
 use Rattle.reduction.specs.Grammar.{inGrammar}

@@ -1,14 +1,10 @@
 -- The arms of the match are those of the definition.
-use mathlib.Core.Path.{_≡_, refl, sym, _∙_, ap}
+use mathlib.Core.Path.{sym, _∙_, ap}
 use Rattle.reducer.specs.Roles.{suits}
 use Rattle.reducer.specs.declared.normal.Role.{Role}
 use borrow.Author.Needs.{needs}
 use Rattle.reducer.proofs.normal.admits.Statement.{statement}
 use Rattle.reducer.proofs.normal.admits.Tie as tie
-use Rattle.reducer.proofs.normal.admits.Reads as reads
-use Rattle.reducer.proofs.normal.admits.Lts as lts
-use Rattle.reducer.proofs.normal.operation_kind.Reads as operation-kind-reads
-use Rattle.reducer.proofs.value.value_kind.Reads as value-kind-reads
 
 pub admits-spec : {M : Type 1} → statement M
 unfolding suits

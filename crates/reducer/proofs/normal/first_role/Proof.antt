@@ -1,11 +1,9 @@
 -- The arms of the match are those of the definition.
-use mathlib.Core.Path.{_≡_, refl, sym, ap}
+use mathlib.Core.Path.{sym, ap}
 use borrow.Author.Tests.{ne-eqb}
 use Rattle.reducer.specs.Roles.{firstRole}
 use Rattle.reducer.proofs.normal.first_role.Statement.{statement}
 use Rattle.reducer.proofs.normal.first_role.Tie as tie
-use Rattle.reducer.proofs.normal.first_role.Reads as reads
-use Rattle.reducer.proofs.normal.first_role.Lts as lts
 
 pub first-role-spec : {M : Type 1} → statement M
 first-role-spec = tie.close

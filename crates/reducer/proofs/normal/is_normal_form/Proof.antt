@@ -3,9 +3,6 @@ use Rattle.reducer.proofs.IsNormal.{space-none, decides}
 use borrow.Author.Needs.{needs}
 use Rattle.reducer.proofs.normal.is_normal_form.Statement.{statement}
 use Rattle.reducer.proofs.normal.is_normal_form.Tie as tie
-use Rattle.reducer.proofs.normal.is_normal_form.Reads as reads
-use Rattle.reducer.proofs.normal.is_normal_form.Lts as lts
-use Rattle.reducer.proofs.normal.normal_test.Reads as normal-test-reads
 
 pub is-normal-form-spec : {M : Type 1} → statement M
 is-normal-form-spec = tie.close (tie.spec (λ c. search needs) (λ c κs.

@@ -1,13 +1,8 @@
 -- Only a let's body has to use its variable.
-use mathlib.Core.Path.{_≡_, refl, sym, _∙_, ap}
-use mathlib.Core.Bool.{Bool, true, cond}
-use lib.Dec.{eqb, leb}
 use borrow.Author.Tests.{eq-eqb, ne-eqb}
 use Rattle.reducer.specs.Roles.{keepsVariable}
 use Rattle.reducer.proofs.normal.keeps.Statement.{statement}
 use Rattle.reducer.proofs.normal.keeps.Tie as tie
-use Rattle.reducer.proofs.normal.keeps.Reads as reads
-use Rattle.reducer.proofs.normal.keeps.Lts as lts
 
 pub keeps-spec : {M : Type 1} → statement M
 unfolding keepsVariable

@@ -1,12 +1,10 @@
 -- The arms of the match are those of the definition.
-use mathlib.Core.Path.{_≡_, refl, sym, ap}
+use mathlib.Core.Path.{sym, ap}
 use mathlib.Core.Logic.{⊎-elim, inl, inr}
 use borrow.Author.Tests.{ne-eqb}
 use Rattle.reducer.specs.Roles.{laterRole}
 use Rattle.reducer.proofs.normal.later_role.Statement.{statement}
 use Rattle.reducer.proofs.normal.later_role.Tie as tie
-use Rattle.reducer.proofs.normal.later_role.Reads as reads
-use Rattle.reducer.proofs.normal.later_role.Lts as lts
 
 pub later-role-spec : {M : Type 1} → statement M
 later-role-spec = tie.close

@@ -1,5 +1,5 @@
 -- The kinds that the match names are the kinds of operations.
-use Prim.Native.Nat.{ℕ, _≤_, _<_}
+use Prim.Native.Nat.{ℕ, _≤_}
 use native.Mathlib.Omega.{arith}
 use mathlib.Core.Path.{_≡_, refl, sym, ap}
 use mathlib.Core.Bool.{Bool, true, false}
@@ -9,8 +9,6 @@ use borrow.Author.Tests.{ne-eqb, eqb-true, eqb-false}
 use Rattle.reducer.specs.Roles.{operationKind}
 use Rattle.reducer.proofs.normal.operation_kind.Statement.{statement}
 use Rattle.reducer.proofs.normal.operation_kind.Tie as tie
-use Rattle.reducer.proofs.normal.operation_kind.Reads as reads
-use Rattle.reducer.proofs.normal.operation_kind.Lts as lts
 
 is-key : (k : ℕ) → (k ≡ 1) ⊎ (k ≡ 3) → true ≡ operationKind k
 unfolding operationKind

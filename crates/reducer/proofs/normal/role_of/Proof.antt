@@ -1,16 +1,11 @@
 -- The first part or a later one.
-use mathlib.Core.Path.{_≡_, refl, sym, _∙_, ap}
+use mathlib.Core.Path.{sym, _∙_, ap}
 use mathlib.Core.Bool.{Bool, cond}
 use borrow.Author.Tests.{eq-eqb, ne-eqb}
 use Rattle.reducer.specs.Roles.{firstRole, laterRole, roleOf}
-use Rattle.reducer.specs.declared.normal.Role.{Role}
 use borrow.Author.Needs.{needs}
 use Rattle.reducer.proofs.normal.role_of.Statement.{statement}
 use Rattle.reducer.proofs.normal.role_of.Tie as tie
-use Rattle.reducer.proofs.normal.role_of.Reads as reads
-use Rattle.reducer.proofs.normal.role_of.Lts as lts
-use Rattle.reducer.proofs.normal.first_role.Reads as first-role-reads
-use Rattle.reducer.proofs.normal.later_role.Reads as later-role-reads
 
 pub role-of-spec : {M : Type 1} → statement M
 unfolding roleOf

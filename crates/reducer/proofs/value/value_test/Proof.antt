@@ -1,6 +1,6 @@
 -- The words passed are those of values as long as the test goes on, so the row holds values only if the row ahead does.
 use borrow.Author.Needs.{needs}
-use Prim.Native.Nat.{ℕ, _+_, _-_}
+use Prim.Native.Nat.{_-_}
 use native.Mathlib.Omega.{arith}
 use mathlib.Core.Path.{refl}
 use lib.ListN.{length}
@@ -10,12 +10,6 @@ use Rattle.parts.proofs.Rows.{Marching, march-inside, march-first}
 use Rattle.reducer.proofs.Testing.{Testing, test-begin, test-end, test-fails, test-function, function-words, test-open}
 use Rattle.reducer.proofs.value.value_test.Statement.{statement}
 use Rattle.reducer.proofs.value.value_test.Tie as tie
-use Rattle.reducer.proofs.value.value_test.Reads as reads
-use Rattle.reducer.proofs.value.value_test.Lts as lts
-use Rattle.parts.proofs.ends.part_size.Reads as part-size-reads
-use Rattle.parts.proofs.fields.kind.Reads as kind-reads
-use Rattle.parts.proofs.shape.owed_count.Reads as owed-count-reads
-use Rattle.reducer.proofs.value.value_kind.Reads as value-kind-reads
 
 abbrev Inv-loop : tie.InvT-loop
 Inv-loop calls t owed₀ at₀ owed at = Marching calls t Testing 1 at owed
