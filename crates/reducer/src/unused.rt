@@ -12,7 +12,10 @@ use parts::shape::owed_count;
 use reduction::Found;
 use reduction::Rule;
 
-// where a part ends, and the least place in it of a let that can be dropped; 65536 if there is none
+// past every place: the mark of a binder that cannot be dropped, and what each use adds to a mark
+const NO_PLACE: u64 = 65536;
+
+// where a part ends, and the least place in it of a let that can be dropped, or NO_PLACE
 pub struct Scan {
     pub end: usize,
     pub first: u64,
@@ -38,7 +41,7 @@ fn open_mark(calls: &[u64], t: &[u64], place: usize) -> u64
             return place as u64;
         }
     }
-    65536
+    NO_PLACE
 }
 
 // the least of `first` and the marks of the binders from a depth to another
@@ -68,7 +71,7 @@ fn scan_part(calls: &[u64], t: &[u64], used: &mut [u64], depth: usize, base: usi
     let mut fresh: u64 = 0;
     let mut under = depth;
     let mut at: usize = 0;
-    let mut first: u64 = 65536;
+    let mut first: u64 = NO_PLACE;
     while 0 < owed + later {
         if owed == 0 {
             used[under] = fresh;
@@ -79,7 +82,7 @@ fn scan_part(calls: &[u64], t: &[u64], used: &mut [u64], depth: usize, base: usi
             let w = t[at];
             let k = kind(w);
             if k == 0 {
-                mark(used, under, number(w) as usize, 65536);
+                mark(used, under, number(w) as usize, NO_PLACE);
                 at += 1;
                 owed -= 1;
             } else {
@@ -116,7 +119,7 @@ pub fn first_unused(calls: &[u64], t: &[u64], used: &mut [u64]) -> Found
 {
     let scan = scan_part(calls, t, used, 0, 0);
     let first = scan.first;
-    if first < 65536 {
+    if first < NO_PLACE {
         return Found::Redex(Rule::Drop, first as usize);
     }
     Found::Nothing
