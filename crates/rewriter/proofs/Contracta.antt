@@ -178,14 +178,14 @@ module _ (calls words : List ℕ) where
   pub record InsertingLet (index start n len : ℕ) : Type 0 where
     pub inside : start + n ≤ length words
     pub room : 1 + n ≤ len
-    pub node : NodeRoom calls words index len (1 + n)
+    pub node : NodeRoom calls words index n len (1 + n)
 
   laid-insert : {index start n len : ℕ} {y : Term} → Laid calls words (Insert index start n) y → size y ≤ len
       → InsertingLet index start n len
-  laid-insert {start = start} (inserts {x = x} {p = p} {z = z} hx i hp ne) r = record {
+  laid-insert {start = start} (inserts {x = x} {p = p} {z = z} hx i hp ne ns) r = record {
     inside = omega (arith, ne, held-inside words start hp);
     room = omega (arith, ne, r, size-bind p z);
-    node = record { start = held-starts hx; node = z; inserted = i; room = omega (arith, ne, r, size-bind p z) };
+    node = record { start = held-starts hx; sized = ns; node = z; inserted = i; room = omega (arith, ne, r, size-bind p z) };
   }
 
   pub inserting-let : (index start n len : ℕ) → Planned calls words (Insert index start n) len → InsertingLet index start n len
@@ -195,7 +195,7 @@ module _ (calls words : List ℕ) where
       → d ≡ sets (set old 0 4611686018427387904) 1 (take n (drop start words)) → InsertsNode calls words index d new (1 + n)
       → new ≡ sets old 0 (encode y)
   unfolding encode node size
-  let-inserted old {start = start} {n = n} (inserts {x = x} {p = p} {z = z} {m = m} hx i hp ne) de f =
+  let-inserted old {start = start} {n = n} (inserts {x = x} {p = p} {z = z} {m = m} hx i hp ne ns) de f =
       let first = write-word old 0 4611686018427387904 (wordOf (bind p z)) (encode (bind p z)) (encode p ++ encode z) refl refl in
       let bound = write-next (encode p) (encode z) 1 n first refl
       (de ∙ ap (sets (set old 0 4611686018427387904) 1) (held-words words start hp n ne)) ne in

@@ -1,7 +1,7 @@
 -- Measuring a let insertion: the first computation that is found is the part that is bound, since the parts before either are values.
 use Prim.Native.Nat.{ℕ, _+_}
 use native.Mathlib.Omega.{arith}
-use mathlib.Core.Path.{_≡_, refl, sym, _∙_, ap, subst}
+use mathlib.Core.Path.{_≡_, refl, sym, _∙_, ap, ap₂, subst}
 use mathlib.Core.Bool.{Bool, true, false, _&&_}
 use mathlib.Core.List.{List}
 use mathlib.Core.Option.{some}
@@ -23,7 +23,7 @@ use Rattle.reducer.specs.Operands.{allValues, FirstComputation, Finds}
 use Rattle.reducer.specs.declared.fits.Operand.{Operand}
 use Rattle.reducer.proofs.Testing.{apart}
 use Rattle.rewriter.specs.declared.plan.Plan.the-variants.{Insert as InsertPlan}
-use Rattle.rewriter.specs.Plans.{Laid, inserts, Inserted, MeasuredAs, Measures}
+use Rattle.rewriter.specs.Plans.{Laid, inserts, Inserted, partSize, PartSized, MeasuredAs, Measures}
 use Rattle.rewriter.proofs.Rows.{fired}
 use Rattle.rewriter.proofs.NamedPart.{NamedPart, named-part}
 
@@ -47,6 +47,15 @@ same-first (arg t fs) (arg u gs) p q ts us e f g pe qe =
     let k : fs ≡ gs = r .0 in
     ((cc), r .1)
 
+-- the size of a part, by the parts before it
+size-behind : (fs ts : Terms) (p : Term) → partSize (joined fs (arg p ts)) (count fs) ≡ size p
+unfolding joined count partSize
+size-behind done ts p = refl
+size-behind (arg t fs) ts p = size-behind fs ts p
+
+found-size : (x : Term) (r : Operand) → FirstComputation x r → r .size ≡ partSize (node x .parts) (r .index)
+found-size x r c = c .size-is ∙ sym (size-behind (c .front) (c .later) (c .part)) ∙ ap₂ partSize (sym (c .parts)) (sym (c .index-is))
+
 module _ (calls words : List ℕ) where
   -- the parts behind some of them
   parts-behind : (fs ts : Terms) (i : ℕ) (rest : List ℕ) → PartsAt calls words i (joined fs ts) rest
@@ -61,8 +70,8 @@ module _ (calls words : List ℕ) where
 
   module _ (r : Operand) (n : ℕ) where
     laid : {x y : Term} {rest : List ℕ} → Holds calls words x rest → NamedPart x y → FirstComputation x r
-        → Laid calls words (InsertPlan (r .index) (r .start) (r .size)) y
-    laid {x = x} {rest = rest} h s c =
+        → PartSized calls words (r .index) (r .size) → Laid calls words (InsertPlan (r .index) (r .start) (r .size)) y
+    laid {x = x} {rest = rest} h s c ns =
         let e = same-first (s .front) (c .front) (s .part) (c .part) (s .later) (c .later) (sym (s .parts) ∙ c .parts) (s .values)
         (c .values) (s .computation) (c .computation) in
         let i : count (s .front) ≡ r .index = ap count (e .0) ∙ sym (c .index-is) in
@@ -71,15 +80,15 @@ module _ (calls words : List ℕ) where
         (subst (λ (ts : Terms). PartsAt calls words 1 ts rest) (s .parts) (parts-of calls words h)) in
         let hp = part-here calls words (subst (λ (j : ℕ). PartsAt calls words j (arg (s .part) (s .later)) rest) k at) in
         subst (Laid calls words (InsertPlan (r .index) (r .start) (r .size))) (sym (s .is))
-        (inserts h (subst (λ (j : ℕ). Inserted j x (s .node-under)) i (s .inserted)) hp (c .size-is ∙ ap size (sym (e .1))))
+        (inserts h (subst (λ (j : ℕ). Inserted j x (s .node-under)) i (s .inserted)) hp (c .size-is ∙ ap size (sym (e .1))) ns)
 
     inserted : {x y : Term} {rest : List ℕ} → Holds calls words x rest → Fires allPure LetInsertion x y → FirstComputation x r
-        → n ≡ size x
+        → PartSized calls words (r .index) (r .size) → n ≡ size x
         → MeasuredAs calls words x y (record { plan = InsertPlan (r .index) (r .start) (r .size); read = n; wrote = n + 2 })
-    inserted h (f-insertion i) c e = record {
+    inserted h (f-insertion i) c ns e = record {
       read-is = e;
       wrote-is = omega (arith, e, size-letInsertion i);
-      laid = laid h (named-part i) c;
+      laid = laid h (named-part i) c ns;
     }
 
     pub insertion-measures : Finds calls words r → Sized calls words n
@@ -88,5 +97,7 @@ module _ (calls words : List ℕ) where
     insertion-measures f s = record {
       told = λ x y rest h e.
           let a = f .told x rest h in
-          inserted h (fired LetInsertion x y e) (a .first (a .found-is ∙ ap isSome e)) (s .told x rest h);
+          let found : r .found ≡ true = a .found-is ∙ ap isSome e in
+          inserted h (fired LetInsertion x y e) (a .first found)
+          (record { told = λ t more g. found-size t r (f .told t more g .first found) }) (s .told x rest h);
     }

@@ -1,5 +1,5 @@
 -- What a redex becomes, as a plan says it: from which words it is put together.
-use Prim.Native.Nat.{ℕ, suc, _+_}
+use Prim.Native.Nat.{ℕ, zero, suc, _+_}
 use mathlib.Core.Path.{_≡_}
 use mathlib.Core.Bool.{Bool, true, false}
 use mathlib.Core.List.{List}
@@ -34,6 +34,16 @@ pub record Inserted (i : ℕ) (x z : Term) : Type 0 where
   pub word : wordOf z ≡ wordOf x
   pub parts : node z .parts ≡ insertParts (node x .kind) i 0 (node x .parts)
 
+-- how many words part i of these has; 0 if there is no such part
+unfoldable pub partSize : Terms → ℕ → ℕ
+partSize done i = 0
+partSize (arg t ts) zero = size t
+partSize (arg t ts) (suc i) = partSize ts i
+
+-- part i of the node at the front has n words
+pub record PartSized (calls words : List ℕ) (i n : ℕ) : Type 0 where
+  pub told : (x : Term) (rest : List ℕ) → Holds calls words x rest → n ≡ partSize (node x .parts) i
+
 -- what a plan writes: the parts stand where it says
 pub data Laid (calls words : List ℕ) : Plan → Term → Type 0 where
   substitutes : {body value : ℕ} {b v : Term} {m n : List ℕ} → Holds calls (from words body) b m → Holds calls (from words value) v n
@@ -47,7 +57,8 @@ pub data Laid (calls words : List ℕ) : Plan → Term → Type 0 where
       → right ≡ 3 + size l → third ≡ right + size r
       → Laid calls words (MoveCase right third) (case (var z) (bind l (weakenBody c)) (bind r (weakenBody c)))
   inserts : {index start n : ℕ} {x p z : Term} {m o : List ℕ} → Holds calls words x m → Inserted index x z
-      → Holds calls (from words start) p o → n ≡ size p → Laid calls words (Insert index start n) (bind p z)
+      → Holds calls (from words start) p o → n ≡ size p → PartSized calls words index n
+      → Laid calls words (Insert index start n) (bind p z)
 
 -- with a value of n words for the variable that its node binds, the term at the front has w words
 pub record SizedWith (calls words : List ℕ) (n w : ℕ) : Type 0 where

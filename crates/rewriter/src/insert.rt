@@ -2,29 +2,29 @@
 ghost use Prim.Native.Nat.{ℕ, _≤_};
 ghost use lib.ListN.{length};
 ghost use Rattle.rewriter.specs.Insertion.{PartRoom, InsertsPart, NodeRoom, InsertsNode};
-use parts::ends::part_size;
 use parts::fields::kind;
 use parts::rename::rename_into;
 use parts::shape::binders;
 use parts::shape::part_count;
 use parts::substitute::Moved;
 
-// a part moves too, its variables from `cut` on raised, or the new variable stands for it
+// a part moves too, its variables from `cut` on raised, or the new variable stands for it; `size` is then how many words it has
 fn insert_part(
     calls: &[u64],
     t: &[u64],
     here: bool,
+    size: usize,
     dst: &mut [u64],
     at: usize,
     cut: usize,
 ) -> Moved
-    requires { ⌜ PartRoom (now calls) (now t) here (length (now dst)) at cut × (cut ≤ 1) × (length (now t) ≤ 8192) ⌝ }
+    requires { ⌜ PartRoom (now calls) (now t) here size (length (now dst)) at cut × (cut ≤ 1) × (length (now t) ≤ 8192) ⌝ }
     ensures { λ r. ⌜ InsertsPart (now (calls .entry)) (now (t .entry)) here (now (dst .entry)) (now (dst .exit)) at cut r ⌝ }
 {
     if here {
         dst[at] = 0;
         return Moved {
-            read: part_size(calls, t),
+            read: size,
             wrote: 1,
         };
     }
@@ -32,9 +32,9 @@ fn insert_part(
     Moved { read: n, wrote: n }
 }
 
-// the node at the front, with the new variable for the part of an index
-pub fn insert_node(calls: &[u64], t: &[u64], index: usize, dst: &mut [u64], at: usize)
-    requires { ⌜ NodeRoom (now calls) (now t) index (length (now dst)) at × (length (now t) ≤ 8192) ⌝ }
+// the node at the front, with the new variable for the part of an index, which has `size` words
+pub fn insert_node(calls: &[u64], t: &[u64], index: usize, size: usize, dst: &mut [u64], at: usize)
+    requires { ⌜ NodeRoom (now calls) (now t) index size (length (now dst)) at × (length (now t) ≤ 8192) ⌝ }
     ensures { λ r. ⌜ InsertsNode (now (calls .entry)) (now (t .entry)) index (now (dst .entry)) (now (dst .exit)) at ⌝ }
 {
     let w = t[0];
@@ -47,7 +47,7 @@ pub fn insert_node(calls: &[u64], t: &[u64], index: usize, dst: &mut [u64], at: 
     while j < n {
         let cut = binders(k, j);
         let here = j == index;
-        let part = insert_part(calls, &t[m..], here, dst, at + o, cut);
+        let part = insert_part(calls, &t[m..], here, size, dst, at + o, cut);
         m = m + part.read;
         o = o + part.wrote;
         j += 1;

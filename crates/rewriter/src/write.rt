@@ -65,7 +65,7 @@ fn insert_let(calls: &[u64], t: &[u64], index: usize, start: usize, size: usize,
 {
     dst[0] = 4611686018427387904;
     copy_into(t, start, size, dst, 1);
-    insert_node(calls, t, index, dst, 1 + size);
+    insert_node(calls, t, index, size, dst, 1 + size);
 }
 
 // what the plan says, so many words, to the front of dst

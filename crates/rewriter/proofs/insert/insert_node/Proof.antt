@@ -17,10 +17,10 @@ use Rattle.parts.proofs.shape.part_count.Reads as part-count-reads
 use Rattle.rewriter.proofs.insert.insert_part.Reads as insert-part-reads
 
 abbrev Inv-loop : tie.InvT-loop
-Inv-loop calls t index dst₀ at w k n m₀ o₀ j₀ dst m o j = Inserting calls t dst₀ dst at index k n m o j
+Inv-loop calls t index size dst₀ at w k n m₀ o₀ j₀ dst m o j = Inserting calls t dst₀ dst at index size k n m o j
 
 abbrev μ-loop : tie.MeasureT-loop
-μ-loop calls t index dst₀ at w k n m₀ o₀ j₀ dst m o j = n - j
+μ-loop calls t index size dst₀ at w k n m₀ o₀ j₀ dst m o j = n - j
 
 pub insert-node-spec : {M : Type 1} → statement M
 insert-node-spec =
@@ -40,7 +40,7 @@ insert-node-spec =
     (λ c.
     let args = c .before .before .before .before .before .before .args in
     let pre = c .before .before .before .before .before .before .pre in
-    insert-enter _ _ (args .dst .now) _ _ _ (c .before .kind .ensures) _ (getD (args .t .now) 0 0) (pre .0) (c .part-count .ensures .0))
+    insert-enter _ _ (args .dst .now) _ _ _ _ (c .before .kind .ensures) _ (getD (args .t .now) 0 0) (pre .0) (c .part-count .ensures .0))
     (λ c κs. search needs)
     (λ c.
     let loop = c .before .before .loop in
@@ -110,7 +110,7 @@ insert-node-spec =
     let loop-test = c .before .before .before .before .before .before .before .before .loop-test in
     let binders = c .before .before .before .before .before .before .before .binders in
     let insert-part = c .before .before .before .before .insert-part in
-    insert-next (loop .inv) (loop-test .taken) _ (binders .ensures .0) _ refl _ _ (insert-part .ensures) (insert-part .kept .1 .1 .1 .0))
+    insert-next (loop .inv) (loop-test .taken) _ (binders .ensures .0) _ refl _ _ (insert-part .ensures) (insert-part .kept .1 .1 .1 .1 .0))
     (λ c.
     let args = c .before .before .before .before .before .before .before .before .args in
     c .before .loop .inv .len ∙ length-set (args .dst .now) (args .at) _)
@@ -118,4 +118,4 @@ insert-node-spec =
     let args = c .before .before .before .before .before .before .before .before .args in
     let kind = c .before .before .before .kind in
     let loop = c .before .loop in
-    insert-leave _ _ (args .dst .now) _ _ _ (kind .ensures) _ _ _ _ _ (loop .inv) (c .loop-test .left)))
+    insert-leave _ _ (args .dst .now) _ _ _ _ (kind .ensures) _ _ _ _ _ (loop .inv) (c .loop-test .left)))

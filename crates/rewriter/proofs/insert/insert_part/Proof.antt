@@ -6,7 +6,6 @@ use Rattle.rewriter.proofs.insert.insert_part.Statement.{statement}
 use Rattle.rewriter.proofs.insert.insert_part.Tie as tie
 use Rattle.rewriter.proofs.insert.insert_part.Reads as reads
 use Rattle.rewriter.proofs.insert.insert_part.Lts as lts
-use Rattle.parts.proofs.ends.part_size.Reads as part-size-reads
 use Rattle.parts.proofs.rename.rename_into.Reads as rename-into-reads
 
 pub insert-part-spec : {M : Type 1} → statement M
@@ -17,11 +16,10 @@ insert-part-spec =
     (λ c.
     let pre = c .before .before .before .before .pre in
     part-space (pre .0))
-    (λ c κs.
-    let pre = c .before .before .before .before .pre in
-    (pre .0 .start, pre .2))
     (λ c. search needs)
-    (λ c. part-replaced _ _ _ _ _ _ _ (c .before .if1 .taken) (c .part-size .ensures))
+    (λ c.
+    let taken = c .if1 .taken in
+    part-replaced _ _ _ _ _ _ _ taken (c .before .before .before .before .pre .0 .sized taken))
     (λ c κs.
     let pre = c .before .before .before .before .before .pre in
     (part-room (pre .0) (c .before .if1 .left), omega (arith, pre .1, pre .2), omega arith))

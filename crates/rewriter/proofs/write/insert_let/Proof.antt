@@ -38,7 +38,7 @@ insert-let-spec =
     let insert-node = c .before .before .insert-node in
     let copy-into = c .before .before .before .before .before .before .copy-into in
     let args = c .before .before .before .before .before .before .before .before .before .before .before .args in
-    insert-node .kept .1 .1 .1 .0 ∙ (copy-into .kept .1 .1 .1 .0 ∙ length-set (args .dst .now) 0 _))
+    insert-node .kept .1 .1 .1 .1 .0 ∙ (copy-into .kept .1 .1 .1 .0 ∙ length-set (args .dst .now) 0 _))
     (λ c.
     let args = c .before .before .before .before .before .before .before .before .before .before .before .args in
     let copy-into = c .before .before .before .before .before .before .copy-into in
