@@ -2,19 +2,13 @@
 use borrow.Author.Needs.{needs}
 use native.Mathlib.Omega.{arith}
 use Prim.Native.Nat.{_-_}
-use mathlib.Core.Path.{_≡_, refl, _∙_}
-use lib.ListN.{length, getD, length-set}
+use mathlib.Core.Path.{refl, _∙_}
+use lib.ListN.{getD, length-set}
 use Rattle.parts.proofs.Traversal.{not-empty, from-length}
 use Rattle.rewriter.proofs.Inserting.{Inserting, node-space, part-space, insert-enter, insert-room, insert-reached, insert-wrote}
 use Rattle.rewriter.proofs.Inserting.{insert-next, insert-leave}
 use Rattle.rewriter.proofs.insert.insert_node.Statement.{statement}
 use Rattle.rewriter.proofs.insert.insert_node.Tie as tie
-use Rattle.rewriter.proofs.insert.insert_node.Reads as reads
-use Rattle.rewriter.proofs.insert.insert_node.Lts as lts
-use Rattle.parts.proofs.fields.kind.Reads as kind-reads
-use Rattle.parts.proofs.shape.binders.Reads as binders-reads
-use Rattle.parts.proofs.shape.part_count.Reads as part-count-reads
-use Rattle.rewriter.proofs.insert.insert_part.Reads as insert-part-reads
 
 abbrev Inv-loop : tie.InvT-loop
 Inv-loop calls t index size dst₀ at w k n m₀ o₀ j₀ dst m o j = Inserting calls t dst₀ dst at index size k n m o j

@@ -4,9 +4,6 @@ use Rattle.rewriter.proofs.Inserting.{part-space, part-room, part-repla
 use borrow.Author.Needs.{needs}
 use Rattle.rewriter.proofs.insert.insert_part.Statement.{statement}
 use Rattle.rewriter.proofs.insert.insert_part.Tie as tie
-use Rattle.rewriter.proofs.insert.insert_part.Reads as reads
-use Rattle.rewriter.proofs.insert.insert_part.Lts as lts
-use Rattle.parts.proofs.rename.rename_into.Reads as rename-into-reads
 
 pub insert-part-spec : {M : Type 1} → statement M
 insert-part-spec =

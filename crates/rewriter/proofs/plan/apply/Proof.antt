@@ -5,11 +5,6 @@ use Rattle.rewriter.proofs.Rows.{redex-row, of-apply}
 use Rattle.rewriter.proofs.Measuring.{apply-measures, counted-with}
 use Rattle.rewriter.proofs.plan.apply.Statement.{statement}
 use Rattle.rewriter.proofs.plan.apply.Tie as tie
-use Rattle.rewriter.proofs.plan.apply.Reads as reads
-use Rattle.rewriter.proofs.plan.apply.Lts as lts
-use Rattle.rewriter.proofs.plan.size_from.Reads as size-from-reads
-use Rattle.rewriter.proofs.plan.substituted.Reads as substituted-reads
-use Rattle.rewriter.proofs.plan.uses_from.Reads as uses-from-reads
 
 pub apply-spec : {M : Type 1} → statement M
 apply-spec =

@@ -5,11 +5,6 @@ use Rattle.rewriter.proofs.Measuring.{counted-body, word-body}
 use borrow.Author.Needs.{needs}
 use Rattle.rewriter.proofs.plan.body_with.Statement.{statement}
 use Rattle.rewriter.proofs.plan.body_with.Tie as tie
-use Rattle.rewriter.proofs.plan.body_with.Reads as reads
-use Rattle.rewriter.proofs.plan.body_with.Lts as lts
-use Rattle.rewriter.proofs.plan.size_from.Reads as size-from-reads
-use Rattle.rewriter.proofs.plan.substituted.Reads as substituted-reads
-use Rattle.rewriter.proofs.plan.uses_from.Reads as uses-from-reads
 
 pub body-with-spec : {M : Type 1} → statement M
 body-with-spec = tie.close (tie.spec (λ c κs. search needs) (λ c.

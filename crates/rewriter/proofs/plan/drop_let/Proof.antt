@@ -5,9 +5,6 @@ use Rattle.rewriter.proofs.Rows.{let-row, of-drop}
 use Rattle.rewriter.proofs.Measuring.{drop-measures}
 use Rattle.rewriter.proofs.plan.drop_let.Statement.{statement}
 use Rattle.rewriter.proofs.plan.drop_let.Tie as tie
-use Rattle.rewriter.proofs.plan.drop_let.Reads as reads
-use Rattle.rewriter.proofs.plan.drop_let.Lts as lts
-use Rattle.rewriter.proofs.plan.size_from.Reads as size-from-reads
 
 pub drop-let-spec : {M : Type 1} → statement M
 drop-let-spec = tie.close (tie.spec (λ c κs.

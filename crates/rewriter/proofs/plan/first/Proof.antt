@@ -5,9 +5,6 @@ use Rattle.rewriter.proofs.Rows.{redex-row, of-first}
 use Rattle.rewriter.proofs.Measuring.{first-measures}
 use Rattle.rewriter.proofs.plan.first.Statement.{statement}
 use Rattle.rewriter.proofs.plan.first.Tie as tie
-use Rattle.rewriter.proofs.plan.first.Reads as reads
-use Rattle.rewriter.proofs.plan.first.Lts as lts
-use Rattle.rewriter.proofs.plan.size_from.Reads as size-from-reads
 
 pub first-spec : {M : Type 1} → statement M
 first-spec = tie.close (tie.spec (λ c κs.

@@ -3,10 +3,6 @@ use Rattle.rewriter.proofs.MeasuringInsertion.{insertion-measures}
 use borrow.Author.Needs.{needs}
 use Rattle.rewriter.proofs.plan.let_insertion.Statement.{statement}
 use Rattle.rewriter.proofs.plan.let_insertion.Tie as tie
-use Rattle.rewriter.proofs.plan.let_insertion.Reads as reads
-use Rattle.rewriter.proofs.plan.let_insertion.Lts as lts
-use Rattle.parts.proofs.ends.part_size.Reads as part-size-reads
-use Rattle.reducer.proofs.fits.first_computation.Reads as first-computation-reads
 
 pub let-insertion-spec : {M : Type 1} → statement M
 let-insertion-spec =

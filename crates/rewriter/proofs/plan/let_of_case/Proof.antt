@@ -5,9 +5,6 @@ use Rattle.rewriter.proofs.Rows.{case-row}
 use Rattle.rewriter.proofs.Measuring.{let-of-case-measures}
 use Rattle.rewriter.proofs.plan.let_of_case.Statement.{statement}
 use Rattle.rewriter.proofs.plan.let_of_case.Tie as tie
-use Rattle.rewriter.proofs.plan.let_of_case.Reads as reads
-use Rattle.rewriter.proofs.plan.let_of_case.Lts as lts
-use Rattle.rewriter.proofs.plan.size_from.Reads as size-from-reads
 
 pub let-of-case-spec : {M : Type 1} → statement M
 let-of-case-spec =

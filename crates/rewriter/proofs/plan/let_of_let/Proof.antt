@@ -5,9 +5,6 @@ use Rattle.rewriter.proofs.Rows.{redex-row, of-let}
 use Rattle.rewriter.proofs.Measuring.{let-of-let-measures}
 use Rattle.rewriter.proofs.plan.let_of_let.Statement.{statement}
 use Rattle.rewriter.proofs.plan.let_of_let.Tie as tie
-use Rattle.rewriter.proofs.plan.let_of_let.Reads as reads
-use Rattle.rewriter.proofs.plan.let_of_let.Lts as lts
-use Rattle.rewriter.proofs.plan.size_from.Reads as size-from-reads
 
 pub let-of-let-spec : {M : Type 1} → statement M
 let-of-let-spec =

@@ -5,10 +5,6 @@ use Rattle.rewriter.proofs.Rows.{let-row, of-value}
 use Rattle.rewriter.proofs.Measuring.{value-measures}
 use Rattle.rewriter.proofs.plan.let_value.Statement.{statement}
 use Rattle.rewriter.proofs.plan.let_value.Tie as tie
-use Rattle.rewriter.proofs.plan.let_value.Reads as reads
-use Rattle.rewriter.proofs.plan.let_value.Lts as lts
-use Rattle.rewriter.proofs.plan.body_with.Reads as body-with-reads
-use Rattle.rewriter.proofs.plan.size_from.Reads as size-from-reads
 
 pub let-value-spec : {M : Type 1} → statement M
 let-value-spec =

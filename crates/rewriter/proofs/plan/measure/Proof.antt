@@ -3,18 +3,6 @@ use Rattle.rewriter.proofs.ByRule.{redex-of, measures-of}
 use borrow.Author.Needs.{needs}
 use Rattle.rewriter.proofs.plan.measure.Statement.{statement}
 use Rattle.rewriter.proofs.plan.measure.Tie as tie
-use Rattle.rewriter.proofs.plan.measure.Reads as reads
-use Rattle.rewriter.proofs.plan.measure.Lts as lts
-use Rattle.rewriter.proofs.plan.apply.Reads as apply-reads
-use Rattle.rewriter.proofs.plan.drop_let.Reads as drop-let-reads
-use Rattle.rewriter.proofs.plan.first.Reads as first-reads
-use Rattle.rewriter.proofs.plan.left_case.Reads as left-case-reads
-use Rattle.rewriter.proofs.plan.let_insertion.Reads as let-insertion-reads
-use Rattle.rewriter.proofs.plan.let_of_case.Reads as let-of-case-reads
-use Rattle.rewriter.proofs.plan.let_of_let.Reads as let-of-let-reads
-use Rattle.rewriter.proofs.plan.let_value.Reads as let-value-reads
-use Rattle.rewriter.proofs.plan.right_case.Reads as right-case-reads
-use Rattle.rewriter.proofs.plan.second.Reads as second-reads
 
 pub measure-spec : {M : Type 1} → statement M
 measure-spec =

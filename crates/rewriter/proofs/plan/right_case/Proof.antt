@@ -5,10 +5,6 @@ use Rattle.rewriter.proofs.Rows.{redex-row, of-right}
 use Rattle.rewriter.proofs.Measuring.{right-measures}
 use Rattle.rewriter.proofs.plan.right_case.Statement.{statement}
 use Rattle.rewriter.proofs.plan.right_case.Tie as tie
-use Rattle.rewriter.proofs.plan.right_case.Reads as reads
-use Rattle.rewriter.proofs.plan.right_case.Lts as lts
-use Rattle.rewriter.proofs.plan.body_with.Reads as body-with-reads
-use Rattle.rewriter.proofs.plan.size_from.Reads as size-from-reads
 
 pub right-case-spec : {M : Type 1} → statement M
 right-case-spec =

@@ -5,9 +5,6 @@ use Rattle.rewriter.proofs.Rows.{redex-row, of-second}
 use Rattle.rewriter.proofs.Measuring.{second-measures}
 use Rattle.rewriter.proofs.plan.second.Statement.{statement}
 use Rattle.rewriter.proofs.plan.second.Tie as tie
-use Rattle.rewriter.proofs.plan.second.Reads as reads
-use Rattle.rewriter.proofs.plan.second.Lts as lts
-use Rattle.rewriter.proofs.plan.size_from.Reads as size-from-reads
 
 pub second-spec : {M : Type 1} → statement M
 second-spec = tie.close (tie.spec (λ c κs.

@@ -4,8 +4,6 @@ use Rattle.rewriter.proofs.Measuring.{product-small}
 use borrow.Author.Needs.{needs}
 use Rattle.rewriter.proofs.plan.substituted.Statement.{statement}
 use Rattle.rewriter.proofs.plan.substituted.Tie as tie
-use Rattle.rewriter.proofs.plan.substituted.Reads as reads
-use Rattle.rewriter.proofs.plan.substituted.Lts as lts
 
 pub substituted-spec : {M : Type 1} → statement M
 substituted-spec = tie.close

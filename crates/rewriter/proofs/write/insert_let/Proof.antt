@@ -1,15 +1,11 @@
 -- The word of a let, the words of the part it binds, and the node with the new variable for that part.
 use native.Mathlib.Omega.{arith}
-use mathlib.Core.Path.{_≡_, refl, _∙_}
+use mathlib.Core.Path.{_∙_}
 use lib.ListN.{length-set}
 use Rattle.rewriter.proofs.Inserting.{node-room}
 use Rattle.rewriter.proofs.Contracta.{inserting-let, insert-writes}
 use Rattle.rewriter.proofs.write.insert_let.Statement.{statement}
 use Rattle.rewriter.proofs.write.insert_let.Tie as tie
-use Rattle.rewriter.proofs.write.insert_let.Reads as reads
-use Rattle.rewriter.proofs.write.insert_let.Lts as lts
-use Rattle.rewriter.proofs.insert.insert_node.Reads as insert-node-reads
-use Rattle.parts.proofs.copy.copy_into.Reads as copy-into-reads
 
 pub insert-let-spec : {M : Type 1} → statement M
 insert-let-spec =

@@ -1,16 +1,12 @@
 -- Its word, the words of the bound part and the renamed body stand one behind the other.
 use native.Mathlib.Omega.{arith}
-use mathlib.Core.Path.{_≡_, refl, _∙_}
-use lib.ListN.{length, length-set}
+use mathlib.Core.Path.{_∙_}
+use lib.ListN.{length-set}
 use Rattle.parts.proofs.Traversal.{from-length}
 use Rattle.rewriter.proofs.LetOver.{let-low, let-bound, let-words, let-body, let-under, let-fits, let-written}
 use borrow.Author.Needs.{needs}
 use Rattle.rewriter.proofs.write.let_over.Statement.{statement}
 use Rattle.rewriter.proofs.write.let_over.Tie as tie
-use Rattle.rewriter.proofs.write.let_over.Reads as reads
-use Rattle.rewriter.proofs.write.let_over.Lts as lts
-use Rattle.parts.proofs.rename.rename_into.Reads as rename-into-reads
-use Rattle.parts.proofs.copy.copy_into.Reads as copy-into-reads
 
 pub let-over-spec : {M : Type 1} → statement M
 let-over-spec =

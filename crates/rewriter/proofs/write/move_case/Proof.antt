@@ -1,14 +1,11 @@
 -- The words of a case and its subject, and the let over the outer body in each branch.
 use native.Mathlib.Omega.{arith}
-use mathlib.Core.Path.{_≡_, refl, _∙_}
+use mathlib.Core.Path.{_∙_}
 use lib.ListN.{length-set}
 use Rattle.rewriter.proofs.LetOver.{let-room}
 use Rattle.rewriter.proofs.Contracta.{moving-case, case-writes}
 use Rattle.rewriter.proofs.write.move_case.Statement.{statement}
 use Rattle.rewriter.proofs.write.move_case.Tie as tie
-use Rattle.rewriter.proofs.write.move_case.Reads as reads
-use Rattle.rewriter.proofs.write.move_case.Lts as lts
-use Rattle.rewriter.proofs.write.let_over.Reads as let-over-reads
 
 pub move-case-spec : {M : Type 1} → statement M
 move-case-spec =

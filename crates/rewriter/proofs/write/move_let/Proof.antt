@@ -1,15 +1,11 @@
 -- The word of a let, the words of the part it binds, and the let over the body of the other.
 use native.Mathlib.Omega.{arith}
-use mathlib.Core.Path.{_≡_, refl, _∙_}
+use mathlib.Core.Path.{_∙_}
 use lib.ListN.{length-set}
 use Rattle.rewriter.proofs.LetOver.{let-room}
 use Rattle.rewriter.proofs.Contracta.{moving-let, let-writes}
 use Rattle.rewriter.proofs.write.move_let.Statement.{statement}
 use Rattle.rewriter.proofs.write.move_let.Tie as tie
-use Rattle.rewriter.proofs.write.move_let.Reads as reads
-use Rattle.rewriter.proofs.write.move_let.Lts as lts
-use Rattle.parts.proofs.copy.copy_into.Reads as copy-into-reads
-use Rattle.rewriter.proofs.write.let_over.Reads as let-over-reads
 
 pub move-let-spec : {M : Type 1} → statement M
 move-let-spec =

@@ -5,9 +5,6 @@ use Rattle.rewriter.proofs.Contracta.{putting, put-writes}
 use borrow.Author.Needs.{needs}
 use Rattle.rewriter.proofs.write.substitute.Statement.{statement}
 use Rattle.rewriter.proofs.write.substitute.Tie as tie
-use Rattle.rewriter.proofs.write.substitute.Reads as reads
-use Rattle.rewriter.proofs.write.substitute.Lts as lts
-use Rattle.parts.proofs.substitute.substitute_into.Reads as substitute-into-reads
 
 pub substitute-spec : {M : Type 1} → statement M
 substitute-spec =

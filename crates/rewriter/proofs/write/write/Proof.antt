@@ -1,16 +1,8 @@
 -- Each plan has its writer.
-use native.Mathlib.Omega.{arith}
 use Rattle.rewriter.proofs.Contracta.{planned-at, writes-at, copying, copy-writes}
 use borrow.Author.Needs.{needs}
 use Rattle.rewriter.proofs.write.write.Statement.{statement}
 use Rattle.rewriter.proofs.write.write.Tie as tie
-use Rattle.rewriter.proofs.write.write.Reads as reads
-use Rattle.rewriter.proofs.write.write.Lts as lts
-use Rattle.parts.proofs.copy.copy_into.Reads as copy-into-reads
-use Rattle.rewriter.proofs.write.insert_let.Reads as insert-let-reads
-use Rattle.rewriter.proofs.write.move_case.Reads as move-case-reads
-use Rattle.rewriter.proofs.write.move_let.Reads as move-let-reads
-use Rattle.rewriter.proofs.write.substitute.Reads as substitute-reads
 
 pub write-spec : {M : Type 1} → statement M
 write-spec =
