@@ -23,7 +23,7 @@ fn raise_variable(w: u64, cut: usize, by: usize) -> u64
 }
 
 // writes so many parts at the front of src to dst from `at` on, their variables from `cut` on raised by `by`; answers their size.
-// Only the parts that a binder reaches need a call of their own, and none if they are the last.
+// Of a node that binds, the parts outside its binder need a call, and those inside it too unless they are the last.
 fn rename_parts(
     calls: &[u64],
     src: &[u64],

@@ -46,7 +46,7 @@ fn put_value(calls: &[u64], value: &[u64], dst: &mut [u64], at: usize, by: usize
 }
 
 // writes so many parts at the front of body to dst from `at` on, with the value for the variable `depth`, the variables past it
-// lowered by one. Only the parts that a binder reaches need a call of their own, and none if they are the last.
+// lowered by one. Of a node that binds, the parts outside its binder need a call, and those inside it too unless they are the last.
 fn substitute_parts(
     calls: &[u64],
     body: &[u64],

@@ -28,8 +28,8 @@ fn same(v: usize, u: usize) -> usize
     0
 }
 
-// where so many parts at the front end, and how often they use the variable `depth`; only the parts that a binder reaches
-// need a call of their own, and none if they are the last
+// where so many parts at the front end, and how often they use the variable `depth`. Of a node that binds, the parts outside
+// its binder need a call of their own, and those inside it too unless they are the last.
 fn count_parts(calls: &[u64], t: &[u64], parts: usize, depth: usize) -> Uses
     requires { ⌜ StartsAll (now calls) (now t) parts × (depth + length (now t) ≤ 65536) ⌝ }
     ensures { λ r. ⌜ CountsAll (now (calls .entry)) (now (t .entry)) parts depth r ⌝ }
