@@ -5,10 +5,11 @@ pub mod Variables
 pub mod Joined
 pub mod Binding
 pub mod Rows
+pub mod Opening
+pub mod Gathering
 pub mod Counting
 pub mod Writing
 pub mod Tracing
-pub mod TraceParts
 pub mod Copying
 pub mod Renaming
 pub mod Substituting

@@ -1,74 +1,82 @@
--- Renaming into a buffer, node by node: a variable's word is raised, any other is copied, so as many words are written as are read.
-use Prim.Native.Nat.{ℕ, _+_, _-_, _*_, _^_, _≤_, _<_}
+-- Renaming into a buffer: the word of a variable is raised, any other is copied, so as many words are written as are read.
+use Prim.Native.Nat.{ℕ, suc, _+_, _-_, _*_, _^_, _≤_, _<_}
 use native.Mathlib.Omega.{arith}
+use native.Mathlib.Decide.{ℕ-discrete}
 use mathlib.Core.Path.{_≡_, refl, sym, _∙_, ap}
-use mathlib.Core.List.{List, append-nil}
-use lib.ListN.{length, getD, set, length-set}
-use lib.Seq.{sets}
+use mathlib.Core.Bool.{Bool, true, false, _&&_, cond}
+use mathlib.Core.List.{List, [], _∷_, _++_}
+use lib.Dec.{eqb, leb}
+use lib.ListN.{length, getD, set}
+use borrow.Author.Tests.{eq-eqb, ne-eqb, leb-true, leb-false}
 use Rattle.syntax.specs.Words.{kindOf, numberOf, pack}
-use Rattle.syntax.specs.Term.{done, arg, node}
-use Rattle.syntax.specs.Encoding.{encode, size}
-use Rattle.syntax.specs.Parts.{partCount}
-use Rattle.syntax.specs.Substitution.{traverse, renaming, rename}
+use Rattle.syntax.specs.Term.{Term, var, node}
+use Rattle.syntax.specs.Encoding.{wordOf, encode, size}
+use Rattle.syntax.specs.Substitution.{traverse, renaming}
 use Rattle.syntax.specs.Under.{raiseAt}
-use Rattle.syntax.proofs.Sizes.{size-renames, size-arg, size-done}
+use Rattle.syntax.proofs.Sizes.{size-rename}
 use Rattle.syntax.proofs.Under.{raiseAt-below, raiseAt-above}
-use Rattle.parts.specs.Fronts.{from}
-use Rattle.parts.specs.Binding.{outerCount}
-use Rattle.parts.specs.Writes.{raised, Room, Renames, RenameRoom, RenamesAll}
-use Rattle.parts.proofs.Rows.{one-starts, one-holds}
-use Rattle.parts.proofs.Tracing.{Trace, Inside, trace-variable, trace-enter, outer-few}
-use Rattle.parts.proofs.TraceParts.{trace-outer}
+use Rattle.parts.specs.Binding.{outer, inner}
+use Rattle.parts.specs.Depths.{Opens}
+use Rattle.parts.specs.Writes.{raisedWord, Room, Renames}
+use Rattle.parts.proofs.Traversal.{fits}
+use Rattle.parts.proofs.Variables.{kind-0}
+use Rattle.parts.proofs.Tracing.{putAll, put-node, Trace, trace-begin, trace-node, trace-end}
+
+-- variables are raised
+abbrev pub raises : ℕ → Unit {0} → ℕ → ℕ
+raises by u n = by + n
 
 -- a variable's word, raised
-pub raise-below : (w cut by : ℕ) → w ≡ pack 0 (numberOf w) 0 → numberOf w < cut → w ≡ pack 0 (raiseAt cut by (numberOf w)) 0
-raise-below w cut by e lt = e ∙ ap (λ (i : ℕ). pack 0 i 0) (sym (raiseAt-below cut by (numberOf w) lt))
-
-pub raise-above : (w cut by : ℕ) → w ≡ pack 0 (numberOf w) 0 → cut ≤ numberOf w
-    → w + by * 2 ^ 30 ≡ pack 0 (raiseAt cut by (numberOf w)) 0
-raise-above w cut by e ge = ap (λ (x : ℕ). x + by * 2 ^ 30) e ∙ more (numberOf w)
-    ∙ ap (λ (i : ℕ). pack 0 i 0) (sym (raiseAt-above cut by (numberOf w) ge))
+raise-variable : (w cut by n : ℕ) → w ≡ pack 0 n 0 → kindOf w ≡ 0 → numberOf w ≡ n → pack 0 (raiseAt cut by n) 0 ≡ raisedWord cut by w
+raise-variable w cut by n e k m = go (leb cut n) refl
   where
-    more : (n : ℕ) → pack 0 n 0 + by * 2 ^ 30 ≡ pack 0 (by + n) 0
-    more n = omega arith
+    choice : (b : Bool) → leb cut n ≡ b → raisedWord cut by w ≡ cond b (w + by * 2 ^ 30) w
+    choice b f = ap (λ (x : Bool). cond (x && leb cut (numberOf w)) (w + by * 2 ^ 30) w) (eq-eqb (kindOf w) 0 k)
+        ∙ ap (λ (x : Bool). cond x (w + by * 2 ^ 30) w) (ap (leb cut) m ∙ f)
 
--- the loop's invariant
-abbrev pub Renaming : (calls src old : List ℕ) (n cut at by : ℕ) (new : List ℕ) (owed under i : ℕ) → Type 0
-Renaming calls src old n cut at by new owed under i = Trace renaming (raised by) calls src old n cut at new owed under i i
+    go : (b : Bool) → leb cut n ≡ b → pack 0 (raiseAt cut by n) 0 ≡ raisedWord cut by w
+    go true f = omega (arith, ap (λ (i : ℕ). pack 0 i 0) (raiseAt-above cut by n (leb-true cut n f)), e) ∙ sym (choice true f)
+    go false f = omega (arith, ap (λ (i : ℕ). pack 0 i 0) (raiseAt-below cut by n (leb-false cut n f)), e) ∙ sym (choice false f)
 
-module _ (by : ℕ) {calls src old : List ℕ} {n cut at : ℕ} {new : List ℕ} {owed under i : ℕ}
-    (g : Renaming calls src old n cut at by new owed under i) (lt : 1 ≤ owed) (k : ℕ) (ke : k ≡ kindOf (getD src i 0)) where
-  pub rename-variable : (w : ℕ) → k ≡ 0 → w ≡ pack 0 (raiseAt under by (numberOf (getD src i 0))) 0
-      → Renaming calls src old n cut at by (set new (at + i) w) (owed - 1) under (i + 1)
-  unfolding encode node size
-  rename-variable w z e = trace-variable renaming (raised by) g lt k ke (numberOf (getD src i 0)) z refl (set new (at + i) w) (at + i) 1 refl
-      (length-set new (at + i) w) λ a. (ap (λ (x : ℕ). set new (at + i) x) e, refl)
+-- a node: its word, its variable raised, and then its parts
+pub raise-node : (w cut by : ℕ) (t : Term) → w ≡ wordOf t → kindOf w ≡ node t .kind → numberOf w ≡ node t .number → (u : Unit {0})
+    → encode (traverse renaming t (raiseAt cut by))
+    ≡ raisedWord cut by w ∷ (putAll renaming (raises by) u (outer t) cut ++ putAll renaming (raises by) u (inner t) (suc cut))
+unfolding node traverse encode outer inner
+raise-node w cut by t e k n u = go (ℕ-discrete (node t .kind) 0)
+  where
+    Goal : Term → Type 0
+    Goal x = encode (traverse renaming x (raiseAt cut by))
+        ≡ raisedWord cut by w ∷ (putAll renaming (raises by) u (outer x) cut ++ putAll renaming (raises by) u (inner x) (suc cut))
 
-  -- the outer parts of a node are written
-  pub rename-within : (z : k ≡ 0 → ⊥) (m c : ℕ) (me : m ≡ partCount calls (getD src i 0)) (ce : c ≡ outerCount k m) (new′ : List ℕ) (r : ℕ)
-      → length new′ ≡ length (set new (at + i) (getD src i 0))
-      → RenamesAll calls (from src (i + 1)) c (set new (at + i) (getD src i 0)) new′ (at + (i + 1)) under by r
-      → Inside renaming (raised by) calls src old n cut at new′ (m - c + (owed - 1)) under (i + 1 + r) (i + 1 + r) (m - c)
-  rename-within z m c me ce new′ r l w = trace-outer (trace-enter renaming (raised by) g lt k ke z m c me ce (at + i) refl)
-      new′ (at + (i + 1)) r r _ refl (omega (arith, outer-few renaming (raised by) g lt k ke z m c me ce (at + i) refl, lt)) l w
+    go : Dec (node t .kind ≡ 0) → Goal t
+    go (yes z) = kind-0 (λ x. w ≡ wordOf x → numberOf w ≡ node x .number → Goal x) t z
+        (λ m q f h. ap {B = List ℕ} (λ (i : ℕ). i ∷ []) (raise-variable w cut by m f (k ∙ z) h)) e n
+    go (no z) = put-node renaming (raises by) u t cut z
+        ∙ ap {B = List ℕ} (λ (i : ℕ). i ∷ (putAll renaming (raises by) u (outer t) cut ++ putAll renaming (raises by) u (inner t) (suc cut)))
+        (sym e ∙ ap (λ (b : Bool). cond (b && leb cut (numberOf w)) (w + by * 2 ^ 30) w) (sym (ne-eqb (kindOf w) 0 (λ y. z (sym k ∙ y)))))
 
--- of one term
-pub rename-one-room : {calls src : List ℕ} {len at : ℕ} (cut by : ℕ) → Room calls src len at → RenameRoom calls src 1 len at cut by
-unfolding encode
-rename-one-room cut by r = record {
-  start = one-starts (r .start);
-  given = tt;
-  room = omega (arith, r .room, size-renames (arg (r .start .term) done) (raiseAt cut by), size-arg (r .start .term) done, size-done);
-}
+-- the loop's invariant: as many words are written as are read
+abbrev pub Renaming : (calls src old : List ℕ) (cut at by : ℕ) (p new : List ℕ) (owed i : ℕ) → Type 0
+Renaming calls src old cut at by p new owed i = Trace renaming (raises by) calls src old cut at 2 p new owed i i
 
-pub renames-one : {calls src old new : List ℕ} {at cut by r : ℕ} → RenamesAll calls src 1 old new at cut by r
-    → Renames calls src old new at cut by r
-unfolding encode traverse
-renames-one {old = old} {at = at} {cut = cut} {by = by} w = record {
-  told = λ t rest h.
-      let u = w .told (arg t done) rest (one-holds h) tt in
-      record {
-        read-is = omega (arith, u .read-is, size-arg t done, size-done);
-        new-is = u .new-is ∙ ap (λ (l : List ℕ). sets old at l) (append-nil (encode (rename t (raiseAt cut by))));
-      };
+pub rename-begin : {calls src old : List ℕ} {at : ℕ} (p : List ℕ) (cut by : ℕ) → Room calls src (length old) at → length src + 2 ≤ length p
+    → Renaming calls src old cut at by (set p 0 cut) old 1 0
+rename-begin p cut by r e = trace-begin renaming (raises by) p cut (r .start) tt
+    (omega (arith, r .room, size-rename (r .start .term) (raiseAt cut by))) (omega (arith, e, fits (r .start .holds)))
+
+pub rename-node : (by : ℕ) {calls src old : List ℕ} {cut at : ℕ} {p new : List ℕ} {owed i : ℕ} → Renaming calls src old cut at by p new owed i → 1 ≤ owed
+    → (q : List ℕ) (r x : ℕ) → length q ≡ length p → x ≡ raisedWord (getD p (owed - 1) 0) by (getD src i 0)
+    → Opens calls (getD src i 0) (getD p (owed - 1) 0) p q (owed - 1) r → Renaming calls src old cut at by q (set new (at + i) x) r (i + 1)
+rename-node by {src = src} {at = at} {p = p} {owed = owed} {i = i} g lt q r x l e ops =
+    let w = getD src i 0 in
+    let under = getD p (owed - 1) 0 in
+    trace-node renaming (raises by) g lt w under refl refl q r x (at + i) l ops refl λ t a b c u.
+    raise-node w under by t a b c u
+    ∙ ap {B = List ℕ} (λ (z : ℕ). z ∷ (putAll renaming (raises by) u (outer t) under ++ putAll renaming (raises by) u (inner t) (suc under))) (sym e)
+
+pub rename-end : (by : ℕ) {calls src old : List ℕ} {cut at : ℕ} {p new : List ℕ} {owed i : ℕ} → Renaming calls src old cut at by p new owed i → owed ≡ 0
+    → Renames calls src old new at cut by i
+rename-end by g z = record {
+  told = λ t rest h. let e = trace-end renaming (raises by) g z t rest h tt in record { read-is = e .0; new-is = e .2 };
 }

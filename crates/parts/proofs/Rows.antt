@@ -80,8 +80,8 @@ module _ (calls words : List ℕ) where
     pub stand : (ts : Terms) (rest : List ℕ) → HoldsAll calls words n ts rest → Standing Q at owed ts rest
 
   -- before the first node
-  pub march : (Q : Terms → Terms → Type 0) (n : ℕ) → StartsAll calls words n → ((ts : Terms) → Q ts ts) → Marching Q n 0 n
-  march Q n s q = record {
+  unfoldable pub march-from : (Q : Terms → Terms → Type 0) (n : ℕ) → StartsAll calls words n → ((ts : Terms) → count ts ≡ n → Q ts ts) → Marching Q n 0 n
+  march-from Q n s q = record {
     start = s;
     stand = λ ts rest h. record {
       ahead = ts;
@@ -92,9 +92,12 @@ module _ (calls words : List ℕ) where
       };
       many = h .many;
       sized = omega arith;
-      to-do = q ts;
+      to-do = q ts (h .many);
     };
   }
+
+  pub march : (Q : Terms → Terms → Type 0) (n : ℕ) → StartsAll calls words n → ((ts : Terms) → Q ts ts) → Marching Q n 0 n
+  march Q n s q = march-from Q n s λ ts e. q ts
 
   -- the node at the front of the row ahead
   pub record Visit (Q : Terms → Terms → Type 0) (at owed : ℕ) (ts : Terms) (rest : List ℕ) : Type 0 where
@@ -146,6 +149,14 @@ module _ (calls words : List ℕ) where
         let s = g .stand _ _ (g .start .holds) in
         omega (arith, s .here .inside, s .many, count-size (s .ahead))
 
+    pub march-fits : sizeAll (g .start .terms) ≤ length words
+    march-fits = let s = g .stand _ _ (g .start .holds) in omega (arith, s .sized, s .here .inside)
+
+    pub march-within : at + owed ≤ sizeAll (g .start .terms)
+    march-within =
+        let s = g .stand _ _ (g .start .holds) in
+        omega (arith, s .sized, s .many, count-size (s .ahead))
+
     -- no term is owed
     pub march-end : owed ≡ 0 → (ts : Terms) (rest : List ℕ) → HoldsAll calls words n ts rest → (at ≡ sizeAll ts) × Q ts done
     unfolding count encode
@@ -194,7 +205,7 @@ module _ (calls words : List ℕ) where
               }
 
       -- past the node: its parts come first
-      pub march-on : (R : Terms → Terms → Type 0) (m : ℕ) → m ≡ owed - 1 + partCount calls (getD words at 0)
+      unfoldable pub march-on : (R : Terms → Terms → Type 0) (m : ℕ) → m ≡ owed - 1 + partCount calls (getD words at 0)
           → ((ts : Terms) (rest : List ℕ) → (v : Visit Q at owed ts rest) → R ts (joined (outer (v .term)) (joined (inner (v .term)) (v .later))))
           → Marching R n (at + 1) m
       march-on R m e r = record {
@@ -211,6 +222,12 @@ module _ (calls words : List ℕ) where
               to-do = r ts rest v;
             };
       }
+
+  -- the parts of the node at the front, and the terms behind it, are no more than the row's words past it
+  pub march-parts : {Q : Terms → Terms → Type 0} {n at owed : ℕ} (g : Marching Q n at owed) → 1 ≤ owed
+      → at + 1 + (owed - 1 + partCount calls (getD words at 0)) ≤ sizeAll (g .start .terms)
+  unfolding march-on
+  march-parts g lt = march-within (march-on g lt (λ ts us. Unit {0}) _ refl λ ts rest v. tt)
 
   -- a row whose first a terms are gone through at once
   module _ {a : ℕ} {P : Terms → Terms → Terms → Type 0} {n at owed : ℕ} (g : Marching (λ ts us. Cut a (P ts) us) n at owed) where

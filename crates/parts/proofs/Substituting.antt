@@ -1,54 +1,39 @@
--- Substitution into a buffer, node by node: the value is written for its variable, other variables are lowered past it, any other word is
--- copied.
-use Prim.Native.Nat.{ℕ, _+_, _-_, _^_, _≤_, _<_}
+-- Substitution into a buffer: the value is written for its variable, other variables are lowered past it, any other word is copied.
+use Prim.Native.Nat.{ℕ, suc, _+_, _-_, _^_, _≤_, _<_}
 use native.Mathlib.Omega.{arith}
-use mathlib.Core.Path.{_≡_, refl, sym, _∙_, ap, fun-ext}
+use native.Mathlib.Decide.{ℕ-discrete}
+use mathlib.Core.Path.{_≡_, refl, sym, _∙_, ap, subst, fun-ext}
 use mathlib.Core.Logic.{_≢_}
-use mathlib.Core.Bool.{Bool, true, false, cond}
-use mathlib.Core.List.{List, [], append-nil}
-use lib.Dec.{ltb}
-use lib.ListN.{length, getD, set, take, drop, length-set}
-use lib.Seq.{sets, take-at, take-all}
-use borrow.Author.Tests.{ltb-true, ltb-false, lt-ltb, le-ltb}
+use mathlib.Core.Bool.{Bool, true, false, _&&_, cond}
+use mathlib.Core.List.{List, [], _∷_, _++_, append-nil}
+use lib.Dec.{eqb, ltb}
+use lib.ListN.{length, getD, set, take, drop, take-append-drop, List·getD-append}
+use lib.Seq.{sets, take-all, length-take-le}
+use borrow.Rule.Slice.PartMut.{midOf, postOf, putMid, same-len-mid}
+use borrow.Author.Tests.{ltb-true, ltb-false, eq-eqb, ne-eqb}
 use Rattle.syntax.specs.Words.{kindOf, numberOf, pack}
-use Rattle.syntax.specs.Term.{Term, var, done, arg, node}
-use Rattle.syntax.specs.Encoding.{encode, size}
+use Rattle.syntax.specs.Term.{Term, var, node}
+use Rattle.syntax.specs.Encoding.{wordOf, encode, size}
+use Rattle.syntax.specs.Kinds.{partsOfKind}
 use Rattle.syntax.specs.Parts.{partCount}
-use Rattle.syntax.specs.Substitution.{traverse, rename, substitution, substitute}
+use Rattle.syntax.specs.Tables.{arity}
+use Rattle.syntax.specs.Substitution.{traverse, rename, substitution, substitute, only}
 use Rattle.syntax.specs.Under.{underBy, raiseAt, onlyAt}
 use Rattle.syntax.proofs.Algebra.{rename-id}
-use Rattle.syntax.proofs.Sizes.{size-rename, size-arg, size-done}
+use Rattle.syntax.proofs.Sizes.{size-rename}
 use Rattle.syntax.proofs.Under.{onlyAt-below, onlyAt-at, onlyAt-above}
-use Rattle.parts.specs.Fronts.{Holds, Whole, from}
-use Rattle.parts.specs.Binding.{outerCount}
-use Rattle.parts.specs.Ends.{Sized}
-use Rattle.parts.specs.Writes.{Room, Renames, RoomFor, Substitutes, valued, lowered, Raises, SubstituteRoom, SubstitutesAll}
+use Rattle.parts.specs.Binding.{outer, inner}
+use Rattle.parts.specs.Depths.{Opens}
+use Rattle.parts.specs.Fronts.{Holds, Whole}
+use Rattle.parts.specs.Writes.{Room, Renames, RoomFor, Substitutes, loweredWord, Raises}
 use Rattle.parts.specs.declared.substitute.Moved.{Moved}
-use Rattle.parts.proofs.Rows.{one-starts, one-holds}
-use Rattle.parts.proofs.Tracing.{Trace, Inside, variable-room, trace-variable, trace-enter, outer-few}
-use Rattle.parts.proofs.TraceParts.{trace-outer}
+use Rattle.parts.proofs.Rows.{march-within}
+use Rattle.parts.proofs.Variables.{kind-0}
+use Rattle.parts.proofs.Tracing.{put, putAll, put-node, Trace, trace-begin, trace-end, put-room, trace-node, trace-leaf}
 
--- a variable other than the one that goes
-lowered-is : (d n : ℕ) (v : Term) → n ≢ d → onlyAt d v n ≡ var (lowered d n)
-lowered-is d n v h = by (ltb n d) refl
-  where
-    above : d ≤ n → d < n
-    above le = omega (arith, le, h)
-
-    by : (b : Bool) → ltb n d ≡ b → onlyAt d v n ≡ var (lowered d n)
-    by true e = onlyAt-below d v n (ltb-true n d e) ∙ ap (λ (x : Bool). var (cond x n (n - 1))) (sym e)
-    by false e = onlyAt-above d v n (above (ltb-false n d e)) ∙ ap (λ (x : Bool). var (cond x n (n - 1))) (sym e)
-
--- its word
-pub lower-below : (w d : ℕ) → w ≡ pack 0 (numberOf w) 0 → numberOf w < d → w ≡ pack 0 (lowered d (numberOf w)) 0
-lower-below w d e lt = e ∙ ap (λ (x : Bool). pack 0 (cond x (numberOf w) (numberOf w - 1)) 0) (sym (lt-ltb (numberOf w) d lt))
-
-pub lower-above : (w d : ℕ) → w ≡ pack 0 (numberOf w) 0 → numberOf w ≢ d → d ≤ numberOf w → w - 2 ^ 30 ≡ pack 0 (lowered d (numberOf w)) 0
-lower-above w d e h ge = less (numberOf w) e (omega (arith, ge, h))
-    ∙ ap (λ (x : Bool). pack 0 (cond x (numberOf w) (numberOf w - 1)) 0) (sym (le-ltb (numberOf w) d ge))
-  where
-    less : (n : ℕ) → w ≡ pack 0 n 0 → 1 ≤ n → w - 2 ^ 30 ≡ pack 0 (n - 1) 0
-    less n f l = omega (arith, f, l)
+-- a value is put for a variable
+abbrev pub valued : (calls value : List ℕ) → Whole calls value → ℕ → Term
+valued calls value v = only (v .term)
 
 -- a value's words begin with it
 whole-holds : {calls value : List ℕ} (v : Whole calls value) → Holds calls value (v .term) []
@@ -80,90 +65,118 @@ module _ {calls value old new : List ℕ} {at by : ℕ} where
     size-is = n .told (w .term) [] (whole-holds w) .read-is ∙ ap (λ (l : List ℕ). length l) (sym (w .is));
   }
 
+-- the word of a variable other than the one that goes
+lower-variable : (w d n : ℕ) (v : Term) → w ≡ pack 0 n 0 → kindOf w ≡ 0 → numberOf w ≡ n → w ≢ pack 0 d 0
+    → encode (onlyAt d v n) ≡ loweredWord d w ∷ []
+unfolding encode node
+lower-variable w d n v e k m h = go (ltb d n) refl
+  where
+    choice : (b : Bool) → ltb d n ≡ b → loweredWord d w ≡ cond b (w - 2 ^ 30) w
+    choice b f = ap (λ (x : Bool). cond (x && ltb d (numberOf w)) (w - 2 ^ 30) w) (eq-eqb (kindOf w) 0 k)
+        ∙ ap (λ (x : Bool). cond x (w - 2 ^ 30) w) (ap (ltb d) m ∙ f)
+
+    below : n ≤ d → n < d
+    below le = let q : n ≢ d = λ x. h (omega (arith, e, x)) in omega (arith, le, q)
+
+    go : (b : Bool) → ltb d n ≡ b → encode (onlyAt d v n) ≡ loweredWord d w ∷ []
+    go true f = ap encode (onlyAt-above d v n (ltb-true d n f))
+        ∙ ap {B = List ℕ} (λ (i : ℕ). i ∷ []) (omega (arith, e, ltb-true d n f) ∙ sym (choice true f))
+    go false f = ap encode (onlyAt-below d v n (below (ltb-false d n f)))
+        ∙ ap {B = List ℕ} (λ (i : ℕ). i ∷ []) (sym e ∙ sym (choice false f))
+
+-- a node other than that variable: its word, its variable lowered, and then its parts
+pub lower-node : (calls value : List ℕ) (w d : ℕ) → w ≢ pack 0 d 0 → (t : Term) → w ≡ wordOf t → kindOf w ≡ node t .kind
+    → numberOf w ≡ node t .number → (v : Whole calls value)
+    → encode (traverse substitution t (onlyAt d (v .term)))
+    ≡ loweredWord d w ∷ (putAll substitution (valued calls value) v (outer t) d ++ putAll substitution (valued calls value) v (inner t) (suc d))
+unfolding node traverse encode outer inner
+lower-node calls value w d h t e k n v = go (ℕ-discrete (node t .kind) 0)
+  where
+    Goal : Term → Type 0
+    Goal x = encode (traverse substitution x (onlyAt d (v .term)))
+        ≡ loweredWord d w ∷ (putAll substitution (valued calls value) v (outer x) d ++ putAll substitution (valued calls value) v (inner x) (suc d))
+
+    go : Dec (node t .kind ≡ 0) → Goal t
+    go (yes z) = kind-0 (λ x. w ≡ wordOf x → numberOf w ≡ node x .number → Goal x) t z
+        (λ m q f g. lower-variable w d m (v .term) f (k ∙ z) g h) e n
+    go (no z) = put-node substitution (valued calls value) v t d z
+        ∙ ap {B = List ℕ}
+        (λ (i : ℕ). i ∷ (putAll substitution (valued calls value) v (outer t) d ++ putAll substitution (valued calls value) v (inner t) (suc d)))
+        (sym e ∙ ap (λ (b : Bool). cond (b && ltb d (numberOf w)) (w - 2 ^ 30) w) (sym (ne-eqb (kindOf w) 0 (λ y. z (sym k ∙ y)))))
+
 -- the loop's invariant
-abbrev pub Substituting : (calls body value old : List ℕ) (n depth at : ℕ) (new : List ℕ) (owed under i o : ℕ) → Type 0
-Substituting calls body value old n depth at new owed under i o = Trace substitution
-    (valued calls value) calls body old n depth at new owed under i o
+abbrev pub Substituting : (calls body value old : List ℕ) (depth at : ℕ) (p new : List ℕ) (owed i o : ℕ) → Type 0
+Substituting calls body value old depth at p new owed i o =
+    Trace substitution (valued calls value) calls body old depth at (length value + 2) p new owed i o
 
-module _ {calls body : List ℕ} (value : List ℕ) {old : List ℕ} {n depth at : ℕ} {new : List ℕ} {owed under i o : ℕ}
-    (g : Substituting calls body value old n depth at new owed under i o) (lt : 1 ≤ owed) (k : ℕ) (ke : k ≡ kindOf (getD body i 0)) where
-  module _ (z : k ≡ 0) where
-    -- the size of what is put for the variable
-    value-size : numberOf (getD body i 0) ≡ under → (v : Whole calls value)
-        → length value ≡ size (onlyAt under (v .term) (numberOf (getD body i 0)))
-    unfolding size
-    value-size e v = ap (λ (l : List ℕ). length l) (v .is) ∙ sym (size-rename (v .term) (λ n. under + n))
-        ∙ ap size (sym (onlyAt-at under (v .term)) ∙ ap (onlyAt under (v .term)) (sym e))
+pub substitute-begin : {calls body value old : List ℕ} {at : ℕ} (p : List ℕ) (depth : ℕ)
+    → RoomFor calls body value (length old) at depth (length p) → Substituting calls body value old depth at (set p 0 depth) old 1 0 0
+substitute-begin {calls} {value = value} p depth r =
+    trace-begin substitution (valued calls value) p depth (r .start) (r .whole) (r .room) (omega (arith, r .spare))
 
-    pub value-room : numberOf (getD body i 0) ≡ under → at + o + length value ≤ length new
-    value-room e = variable-room substitution (valued calls value) g lt k ke (numberOf (getD body i 0)) z refl (length value) (value-size e)
+-- a node other than the variable
+pub substitute-node : {calls body value old : List ℕ} {depth at : ℕ} {p new : List ℕ} {owed i o : ℕ}
+    → Substituting calls body value old depth at p new owed i o → 1 ≤ owed → getD body i 0 ≢ pack 0 (getD p (owed - 1) 0) 0
+    → (q : List ℕ) (r x : ℕ) → length q ≡ length p → x ≡ loweredWord (getD p (owed - 1) 0) (getD body i 0)
+    → Opens calls (getD body i 0) (getD p (owed - 1) 0) p q (owed - 1) r
+    → Substituting calls body value old depth at q (set new (at + o) x) r (i + 1) (o + 1)
+substitute-node {calls} {body} {value} {at = at} {p = p} {owed = owed} {i = i} {o = o} g lt h q r x l e ops =
+    let w = getD body i 0 in
+    let under = getD p (owed - 1) 0 in
+    let f = valued calls value in
+    trace-node substitution f g lt w under refl refl q r x (at + o) l ops refl λ t a b c v.
+    lower-node calls value w under h t a b c v
+    ∙ ap {B = List ℕ} (λ (z : ℕ). z ∷ (putAll substitution f v (outer t) under ++ putAll substitution f v (inner t) (suc under))) (sym e)
 
-    -- the value is written for its variable
-    pub substitute-value : (new′ : List ℕ) (r : ℕ) → numberOf (getD body i 0) ≡ under → length new′ ≡ length new
-        → Raises calls value new new′ (at + o) under r
-        → Substituting calls body value old n depth at new′ (owed - 1) under (i + 1) (o + r)
-    unfolding underBy
-    substitute-value new′ r e l w = trace-variable substitution (valued calls value) g lt k ke (numberOf (getD body i 0)) z refl new′
-        (at + o) r refl l λ v. (
-          w .told v ∙ ap (λ (t : Term). sets new (at + o) (encode t)) (sym (onlyAt-at under (v .term)) ∙ ap (onlyAt under (v .term)) (sym e)),
-          w .size-is ∙ value-size e v,
-        )
+pub substitute-end : {calls body value old : List ℕ} {depth at : ℕ} {p new : List ℕ} {owed i o : ℕ}
+    → Substituting calls body value old depth at p new owed i o → owed ≡ 0
+    → Substitutes calls body value old new at depth (record { read = i; wrote = o })
+substitute-end {calls} {value = value} g z = record {
+  told = λ t rest h v.
+      let e = trace-end substitution (valued calls value) g z t rest h v in
+      record { written = record { read-is = e .0; new-is = e .2 }; wrote-is = e .1 };
+}
 
-    -- another variable is written
-    pub substitute-other : (w : ℕ) → numberOf (getD body i 0) ≢ under → w ≡ pack 0 (lowered under (numberOf (getD body i 0))) 0
-        → Substituting calls body value old n depth at (set new (at + o) w) (owed - 1) under (i + 1) (o + 1)
-    unfolding encode node size
-    substitute-other w h e = trace-variable substitution (valued calls value) g lt k ke (numberOf (getD body i 0)) z refl (set new (at + o) w)
-        (at + o) 1 refl (length-set new (at + o) w) λ v.
-        let s = sym (lowered-is under (numberOf (getD body i 0)) (v .term) h) in (
-          ap (λ (x : ℕ). set new (at + o) x) e ∙ ap (λ (t : Term). sets new (at + o) (encode t)) s,
-          ap (λ (t : Term). size t) s,
-        )
+-- the depths before a part of the buffer that is lent stay
+lent-kept : (p ys : List ℕ) (a k j : ℕ) → a ≤ length p → j < a → getD (putMid a k p ys) j 0 ≡ getD p j 0
+lent-kept p ys a k j le l =
+    let h : j < length (take a p) = omega (arith, l, length-take-le a p le) in
+    List·getD-append (take a p) (ys ++ postOf a k p) 0 j h ∙ sym (List·getD-append (take a p) (drop a p) 0 j h)
+    ∙ ap (λ (x : List ℕ). getD x j 0) (take-append-drop a p)
 
-  -- the outer parts of a node are written
-  pub substitute-within : (z : k ≡ 0 → ⊥) (m c : ℕ) (me : m ≡ partCount calls (getD body i 0)) (ce : c ≡ outerCount k m) (new′ : List ℕ) (r : Moved)
-      → length new′ ≡ length (set new (at + o) (getD body i 0))
-      → SubstitutesAll calls (from body (i + 1)) c value (set new (at + o) (getD body i 0)) new′ (at + (o + 1)) under r
-      → Inside substitution (valued calls value) calls body old n depth at new′ (m - c + (owed - 1)) under (i + 1 + r .read) (o + 1 + r .wrote)
-      (m - c)
-  substitute-within z m c me ce new′ r l w =
-      trace-outer (trace-enter substitution (valued calls value) g lt k ke z m c me ce (at + o) refl) new′ (at + (o + 1)) (r .read)
-      (r .wrote) _ refl
-      (omega (arith, outer-few substitution (valued calls value) g lt k ke z m c me ce (at + o) refl, lt)) l w
+-- the variable itself: the value is written, its variables raised
+module _ {calls body value old : List ℕ} {depth at : ℕ} {p new : List ℕ} {owed i o : ℕ}
+    (g : Substituting calls body value old depth at p new owed i o) (lt : 1 ≤ owed) (w under : ℕ) (we : w ≡ getD body i 0)
+    (ue : under ≡ getD p (owed - 1) 0) (e : w ≡ pack 0 under 0) (lu : under < 2 ^ 30) where
+  kind-is : kindOf w ≡ 0
+  kind-is = omega (arith, e, lu)
 
--- of one term, and the part at the front of a value
-module _ {calls value : List ℕ} (part : List ℕ) (m : ℕ) (pe : part ≡ take m value) (s : Sized calls value m) where
-  front-is : {v : Term} {more : List ℕ} → Holds calls value v more → part ≡ encode v
-  unfolding size
-  front-is {v} {more} h = pe ∙ ap (take m) (h .is) ∙ take-at (encode v) more m (sym (s .told v more h))
+  -- the term is the variable
+  is-variable : (P : Term → Type 0) (t : Term) → w ≡ wordOf t → kindOf w ≡ node t .kind → numberOf w ≡ node t .number
+      → P (var under) → P t
+  is-variable P t _ k n h = kind-0 P t (sym k ∙ kind-is) λ m q.
+      let c : under ≡ m = omega (arith, e, lu, n, q) in
+      subst (λ (x : ℕ). P (var x)) c h
 
-  abbrev front-whole : {v : Term} {more : List ℕ} → Holds calls value v more → Whole calls part
-  front-whole {v} {more} h = record { term = v; shaped = h .shaped; is = front-is h }
+  value-size : (v : Whole calls value) → length value ≡ size (put substitution (valued calls value) v (var under) under)
+  unfolding size traverse
+  value-size v = ap (λ (l : List ℕ). length l) (v .is) ∙ sym (size-rename (v .term) (λ n. under + n)) ∙ ap size (sym (onlyAt-at under (v .term)))
 
-  module _ {body : List ℕ} {at depth : ℕ} where
-    pub substitute-one-room : {len : ℕ} → RoomFor calls body value len at depth → SubstituteRoom calls body 1 part len at depth
-    unfolding traverse
-    substitute-one-room r =
-        let t = r .start .term in
-        let v = r .value-starts .term in
-        record {
-          start = one-starts (r .start);
-          given = front-whole (r .value-starts .holds);
-          room = omega (arith, r .room, size-arg (substitute t (onlyAt depth v)) done, size-done);
-        }
+  pub value-room : at + o + length value ≤ length new
+  value-room = put-room substitution (valued calls value) g lt w under we ue (length value) λ t a b c v.
+      is-variable (λ x. length value ≡ size (put substitution (valued calls value) v x under)) t a b c (value-size v)
 
-    pub substitutes-one : {old new : List ℕ} {r : Moved} → SubstitutesAll calls body 1 part old new at depth r
-        → Substitutes calls body value old new at depth r
-    unfolding traverse encode
-    substitutes-one {old} {new} {r} w = record {
-      told = λ t rest h v more hv.
-          let u = w .told (arg t done) rest (one-holds h) (front-whole hv) in
-          let y = substitute t (onlyAt depth v) in
-          record {
-            written = record {
-              read-is = omega (arith, u .read-is, size-arg t done, size-done);
-              new-is = u .new-is ∙ ap (sets old at) (append-nil (encode y));
-            };
-            wrote-is = omega (arith, u .wrote-is, size-arg y done, size-done);
-          };
-    }
+  -- the value's depths stand in the part of the buffer behind those of the parts still to come
+  pub substitute-value : (ys new′ : List ℕ) (k r : ℕ) → length ys ≡ length (midOf owed k p) → length new′ ≡ length new
+      → Raises calls value new new′ (at + o) under r
+      → Substituting calls body value old depth at (putMid owed k p ys) new′ (owed - 1) (i + 1) (o + r)
+  unfolding partCount traverse underBy
+  substitute-value ys new′ k r l ln s =
+      trace-leaf substitution (valued calls value) g lt w under we ue (putMid owed k p ys) new′ r (at + o) (same-len-mid owed k p ys l)
+      (λ j c. lent-kept p ys owed k j (omega (arith, march-within calls body (g .going), g .spare)) (omega (arith, c))) ln
+      (ap (partsOfKind (arity calls (numberOf w))) kind-is) refl λ t a b c v.
+      is-variable (λ x. (new′ ≡ sets new (at + o) (encode (put substitution (valued calls value) v x under)))
+      × (r ≡ size (put substitution (valued calls value) v x under))) t a b c (
+        s .told v ∙ ap (λ (x : Term). sets new (at + o) (encode x)) (sym (onlyAt-at under (v .term))),
+        s .size-is ∙ value-size v,
+      )

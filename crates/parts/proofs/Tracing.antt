@@ -1,228 +1,217 @@
--- Writing a row of terms node by node, with what is put for its variables: what is written and what the row ahead will be make up the whole.
--- The inner parts of a node are written under one binder more.
-use Prim.Native.Nat.{ℕ, suc, _+_, _-_, _≤_}
+-- Writing a term node by node, with what is put for its variables: what is written and what the row ahead will be make up the whole.
+use Prim.Native.Nat.{ℕ, suc, _+_, _-_, _≤_, _<_}
 use native.Mathlib.Omega.{arith}
 use mathlib.Core.Path.{_≡_, refl, sym, _∙_, ap, subst}
-use mathlib.Core.List.{List, [], _∷_, _++_, append-assoc}
+use mathlib.Core.List.{List, [], _∷_, _++_, append-assoc, append-nil}
 use lib.ListN.{length, getD, set, length-set}
-use lib.Seq.{sets}
-use Rattle.syntax.specs.Words.{kindOf, numberOf, pack}
-use Rattle.syntax.specs.Tables.{arity}
-use Rattle.syntax.specs.Kinds.{partsOfKind}
-use Rattle.syntax.specs.Term.{Term, Terms, arg, node}
+use lib.Seq.{sets, getD-set-same}
+use Rattle.syntax.specs.Words.{kindOf, numberOf}
+use Rattle.syntax.specs.Term.{Term, Terms, done, arg, node}
 use Rattle.syntax.specs.Encoding.{wordOf, encode, encodeAll, size}
 use Rattle.syntax.specs.Parts.{partCount}
 use Rattle.syntax.specs.Shaped.{count}
 use Rattle.syntax.specs.Substitution.{Kit, traverse, traverseAll}
 use Rattle.syntax.specs.Under.{underBy}
-use Rattle.syntax.proofs.Sizes.{size-positive}
+use Rattle.syntax.proofs.Sizes.{sizeAll, size-positive, size-arg, size-done}
 use Rattle.syntax.proofs.Under.{under-underBy}
-use Rattle.parts.specs.Fronts.{from}
+use Rattle.parts.specs.Fronts.{Holds, Starts}
 use Rattle.parts.specs.Joined.{joined}
 use Rattle.parts.specs.Binding.{outer, inner, outerCount}
-use Rattle.parts.specs.Writes.{put, RoomAll, WritesAll}
-use Rattle.parts.proofs.Joined.{encode-joined, traverse-joined, none-left}
+use Rattle.parts.specs.Depths.{Opens}
+use Rattle.parts.proofs.Joined.{none-left}
 use Rattle.parts.proofs.Binding.{encode-binding}
-use Rattle.parts.proofs.Variables.{kind-0}
 use Rattle.parts.proofs.Writing.{Writing, write-none, write-next, write-all, write-room}
-use Rattle.parts.proofs.Rows.{Cut, Marching, Visit, march, march-end, visit, march-on}
+use Rattle.parts.proofs.Gathering.{Gathering, ahead, ahead-one, ahead-same, ahead-opened, Near, near-begin, near-opened}
+use Rattle.parts.proofs.Rows.{Marching, Visit, march-from, march-end, visit, march-on, one-starts, one-holds}
+
+no-parts : (os is later : Terms) → count os ≡ 0 → count is ≡ 0 → later ≡ joined os (joined is later)
+unfolding joined
+no-parts os is later e f = none-left (λ x. later ≡ joined x (joined is later)) os e (none-left (λ x. later ≡ joined x later) is f refl)
 
 module _ {X A : Type 0} (kit : Kit X) (f : A → ℕ → X) where
-  -- the words of a row in two, and of a row that begins with a node that is no variable
-  put-joined : (a : A) (c : ℕ) (ts us : Terms) → put kit f a c (joined ts us) ≡ put kit f a c ts ++ put kit f a c us
-  put-joined a c ts us = ap encodeAll (traverse-joined kit ts us (underBy kit c (f a))) ∙ encode-joined _ _
+  -- a term under so many binders, with what is put, whatever a is; and the words of a row of them
+  abbrev pub put : A → Term → ℕ → Term
+  put a t d = traverse kit t (underBy kit d (f a))
 
-  put-node : (a : A) (c : ℕ) (t : Term) (us : Terms) → (node t .kind ≡ 0 → ⊥)
-      → put kit f a c (arg t us) ≡ (wordOf t ∷ []) ++ (put kit f a c (outer t) ++ (put kit f a (suc c) (inner t) ++ put kit f a c us))
+  abbrev pub putAll : A → Terms → ℕ → List ℕ
+  putAll a ts d = encodeAll (traverseAll kit ts (underBy kit d (f a)))
+
+  pub putAll-done : (a : A) (d : ℕ) → putAll a done d ≡ []
   unfolding traverse encode
-  put-node a c t us z = ap (λ (l : List ℕ). l ++ put kit f a c us) (encode-binding kit (underBy kit c (f a)) t z)
-      ∙ ap {B = List ℕ} (λ (l : List ℕ). wordOf t ∷ l)
-      (append-assoc (put kit f a c (outer t)) _ (put kit f a c us)
-      ∙ ap (λ (g : ℕ → X). put kit f a c (outer t) ++ (encodeAll (traverseAll kit (inner t) g) ++ put kit f a c us))
-      (under-underBy kit c (f a)))
+  putAll-done a d = refl
 
-  -- o words are written from `at` on, and the row ahead stands under `under` binders
-  abbrev pub Ahead : (old : List ℕ) (d at : ℕ) (new : List ℕ) (under o : ℕ) → Terms → Terms → Type 0
-  Ahead old d at new under o ts us = (a : A) → Writing old new at o (put kit f a d ts) (put kit f a under us)
+  pub putAll-arg : (a : A) (t : Term) (ts : Terms) (d : ℕ) → putAll a (arg t ts) d ≡ encode (put a t d) ++ putAll a ts d
+  unfolding traverse encode
+  putAll-arg a t ts d = refl
 
-  -- the loop's invariant: i words of the row are read and o are written, and `owed` terms are ahead under `under` binders
-  pub record Trace (calls words old : List ℕ) (n d at : ℕ) (new : List ℕ) (owed under i o : ℕ) : Type 0 where
-    pub space : RoomAll kit f calls words n (length old) at d
-    pub len : length new ≡ length old
-    pub near : under ≤ d + i
-    pub going : Marching calls words (Ahead old d at new under o) n i owed
-
-  -- within a node: its p outer and q inner parts are ahead, and then others
-  pub record Entered (calls words old : List ℕ) (n d at : ℕ) (new : List ℕ) (owed under i o p q : ℕ) : Type 0 where
-    pub space : RoomAll kit f calls words n (length old) at d
-    pub len : length new ≡ length old
-    pub near : under + 1 ≤ d + i
-    pub going : Marching calls words (λ ts us. Cut p (λ os later. Cut q (λ bs cs. (a : A)
-        → Writing old new at o (put kit f a d ts) (put kit f a under os ++ (put kit f a
-        (suc under) bs ++ put kit f a under cs))) later) us) n i owed
-
-  -- its q inner parts are ahead, and then others
-  pub record Inside (calls words old : List ℕ) (n d at : ℕ) (new : List ℕ) (owed under i o q : ℕ) : Type 0 where
-    pub space : RoomAll kit f calls words n (length old) at d
-    pub len : length new ≡ length old
-    pub near : under + 1 ≤ d + i
-    pub going : Marching calls words (λ ts us. Cut q (λ bs cs. (a : A)
-        → Writing old new at o (put kit f a d ts) (put kit f a (suc under) bs ++ put kit f a under cs)) us) n i owed
-
-  pub trace-begin : {calls words old : List ℕ} {n d at : ℕ} → RoomAll kit f calls words n (length old) at d
-      → Trace calls words old n d at old n d 0 0
-  trace-begin {calls} {words} {old} {n} {d} {at} r = record {
-    space = r;
-    len = refl;
-    near = omega arith;
-    going = march calls words _ n (r .start) λ ts a. write-none old at _;
+  abbrev pub putting : A → Gathering (List ℕ)
+  putting a = record {
+    one = λ t d. encode (put a t d);
+    all = putAll a;
+    none = [];
+    join = _++_;
+    all-done = putAll-done a;
+    all-arg = putAll-arg a;
+    none-join = λ x. refl;
+    join-none = append-nil;
+    join-join = append-assoc;
   }
 
-  module _ {calls words old : List ℕ} {n d at : ℕ} {new : List ℕ} where
-    -- what comes next has room
-    pub stretch-room : (r : RoomAll kit f calls words n (length old) at d) → length new ≡ length old → (o : ℕ) (xs left : List ℕ)
-        → Writing old new at o (put kit f (r .given) d (r .start .terms)) (xs ++ left) → at + o + length xs ≤ length new
-    stretch-room r l o xs left w = omega (arith, write-room xs left w, r .room, l)
+  putAll-one : (a : A) (t : Term) (d : ℕ) → putAll a (arg t done) d ≡ encode (put a t d)
+  putAll-one a t d = putAll-arg a t done d ∙ ap (λ (l : List ℕ). encode (put a t d) ++ l) (putAll-done a d) ∙ append-nil (encode (put a t d))
 
-    module _ {owed under i o : ℕ} (g : Trace calls words old n d at new owed under i o) where
-      -- no term is owed
-      pub trace-end : owed ≡ 0 → WritesAll kit f calls words n old new at d i o
-      unfolding traverse encode
-      trace-end z = record {
-        told = λ ts rest h a.
-            let e = march-end calls words (g .going) z ts rest h in
-            let w = write-all (e .1 a) in
-            record { read-is = e .0; wrote-is = w .1; new-is = w .0 };
+  -- a node that is no variable: its word, and then its parts
+  pub put-node : (a : A) (t : Term) (d : ℕ) → (node t .kind ≡ 0 → ⊥)
+      → encode (put a t d) ≡ wordOf t ∷ (putAll a (outer t) d ++ putAll a (inner t) (suc d))
+  put-node a t d z = encode-binding kit (underBy kit d (f a)) t z
+      ∙ ap {B = List ℕ} (λ (g : ℕ → X). wordOf t ∷ (putAll a (outer t) d ++ encodeAll (traverseAll kit (inner t) g))) (under-underBy kit d (f a))
+
+  -- o words are written from `at` on, before the row ahead
+  abbrev pub Ahead : (old : List ℕ) (d at : ℕ) (p new : List ℕ) (o : ℕ) → Terms → Terms → Type 0
+  Ahead old d at p new o ts us = (a : A) → Writing old new at o (putAll a ts d) (ahead (putting a) p us)
+
+  -- the loop's invariant: i words of the term are read and o are written, and m places of the buffer of depths are kept free
+  pub record Trace (calls words old : List ℕ) (d at m : ℕ) (p new : List ℕ) (owed i o : ℕ) : Type 0 where
+    pub going : Marching calls words (Ahead old d at p new o) 1 i owed
+    pub given : A
+    pub room : at + length (putAll given (going .start .terms) d) ≤ length old
+    pub spare : sizeAll (going .start .terms) + m ≤ length p
+    pub len : length new ≡ length old
+    pub near : Near p owed (d + i)
+
+  pub trace-begin : {calls words old : List ℕ} {at m : ℕ} (p : List ℕ) (d : ℕ) (s : Starts calls words) (a : A)
+      → at + size (put a (s .term) d) ≤ length old → size (s .term) + m ≤ length p → Trace calls words old d at m (set p 0 d) old 1 0 0
+  unfolding march-from size
+  trace-begin {calls} {words} {old} {at} {m} p d s a r e =
+      let l = length-set p 0 d in
+      let h : 1 ≤ length p = omega (arith, e, size-positive (s .term)) in
+      record {
+        going = march-from calls words _ 1 (one-starts s) λ ts c b.
+            subst (Writing old old at 0 (putAll b ts d)) (sym (ahead-one (putting b) (set p 0 d) d ts c (getD-set-same p 0 d 0 h)))
+            (write-none old at _);
+        given = a;
+        room = omega (arith, r, ap (λ (x : List ℕ). length x) (putAll-one a (s .term) d));
+        spare = omega (arith, e, l, size-arg (s .term) done, size-done);
+        len = refl;
+        near = near-begin p d h;
       }
 
-      -- what is written is within the buffer
-      pub trace-inside : at + o ≤ length new
-      trace-inside =
-          let s = g .going .stand _ _ (g .space .start .holds) in
-          omega (arith, stretch-room (g .space) (g .len) o [] _ (s .to-do (g .space .given)))
+  module _ {calls words old : List ℕ} {d at m : ℕ} {p new : List ℕ} {owed i o : ℕ} (g : Trace calls words old d at m p new owed i o) where
+    -- no term is owed
+    pub trace-end : owed ≡ 0 → (t : Term) (rest : List ℕ) → Holds calls words t rest → (a : A)
+        → (i ≡ size t) × (o ≡ size (put a t d)) × (new ≡ sets old at (encode (put a t d)))
+    unfolding ahead size
+    trace-end z t rest h a =
+        let e = march-end calls words (g .going) z (arg t done) rest (one-holds h) in
+        let w = write-all (e .1 a) in
+        let u = putAll-one a t d in (
+          omega (arith, e .0, size-arg t done, size-done),
+          w .1 ∙ ap (λ (x : List ℕ). length x) u,
+          w .0 ∙ ap (sets old at) u,
+        )
 
-      module _ (lt : 1 ≤ owed) where
-        first : Visit calls words (Ahead old d at new under o) i owed (g .space .start .terms) (g .space .start .rest)
-        first = visit calls words (g .going) lt _ _ (g .space .start .holds)
+    -- what comes next has room
+    next-room : (xs left : List ℕ) → Writing old new at o (putAll (g .given) (g .going .start .terms) d) (xs ++ left)
+        → at + o + length xs ≤ length new
+    next-room xs left w = omega (arith, write-room xs left w, g .room, g .len)
 
-        -- there is room for a word at least
-        pub trace-room : at + o + 1 ≤ length new
-        unfolding traverse encode size
-        trace-room =
-            let v = first in
-            let x = traverse kit (v .term) (underBy kit under (f (g .space .given))) in
-            omega (arith, stretch-room (g .space) (g .len) o (encode x) _ (v .to-do (g .space .given)), size-positive x)
+    -- what is written is within the buffer
+    pub trace-inside : at + o ≤ length new
+    trace-inside =
+        let s = g .going .stand _ _ (g .going .start .holds) in
+        omega (arith, next-room [] _ (s .to-do (g .given)))
 
-        module _ (k : ℕ) (ke : k ≡ kindOf (getD words i 0)) where
-          -- a variable's word
-          pub variable-word : k ≡ 0 → getD words i 0 ≡ pack 0 (numberOf (getD words i 0)) 0
-          unfolding node
-          variable-word z =
-              let v = first in
-              kind-0 (λ t. getD words i 0 ≡ wordOf t → node t .number ≡ node (v .term) .number → getD words i 0 ≡ pack 0 (numberOf
-              (getD words i 0)) 0)
-              (v .term) (sym (v .kind) ∙ sym ke ∙ z) (λ x h w e. w ∙ ap (λ (j : ℕ). pack 0 j 0) (e ∙ sym (v .number))) (v .word) refl
+    module _ (lt : 1 ≤ owed) (w under : ℕ) (we : w ≡ getD words i 0) (ue : under ≡ getD p (owed - 1) 0) where
+      pub trace-depth : under ≤ d + i
+      trace-depth = omega (arith, ue, g .near (owed - 1) (omega (arith, lt)))
 
-          -- a variable
-          module _ (number : ℕ) (z : k ≡ 0) (ne : number ≡ numberOf (getD words i 0)) where
-            -- what is put for it has room
-            pub variable-room : (m : ℕ) → ((a : A) → m ≡ size (kit .term (underBy kit under (f a) number))) → at + o + m ≤ length new
-            unfolding traverse encode size
-            variable-room m e =
-                let v = first in
-                let a = g .space .given in
-                kind-0 (λ t. node t .number ≡ node (v .term) .number
-                → Writing old new at o (put kit f a d (g .space .start .terms)) (put kit f a under (arg t (v .later)))
-                → at + o + m ≤ length new) (v .term) (sym (v .kind) ∙ sym ke ∙ z)
-                (λ x h j w. omega (
-                  arith,
-                  stretch-room (g .space) (g .len) o (encode (kit .term (underBy kit under (f a) x))) _ w,
-                  e a,
-                  ap (λ (y : ℕ). size (kit .term (underBy kit under (f a) y))) (ne ∙ v .number ∙ h),
-                )) refl (v .to-do a)
+      -- of the term whose word this is
+      abbrev pub OfTerm : (Term → A → Type 0) → Type 0
+      OfTerm P = (t : Term) → w ≡ wordOf t → kindOf w ≡ node t .kind → numberOf w ≡ node t .number → (a : A) → P t a
 
-            pub trace-variable : (new′ : List ℕ) (p m : ℕ) → p ≡ at + o → length new′ ≡ length new
-                → ((a : A) → (new′ ≡ sets new p (encode (kit .term (underBy kit under (f a) number))))
-                × (m ≡ size (kit .term (underBy kit under (f a) number))))
-                → Trace calls words old n d at new′ (owed - 1) under (i + 1) (o + m)
-            unfolding partCount traverse encode size outer inner joined
-            trace-variable new′ p m pe l e = record {
-              space = g .space;
-              len = l ∙ g .len;
-              near = omega (arith, g .near);
-              going = march-on calls words (g .going) lt _ (owed - 1) (omega (arith, none)) λ ts rest v a.
-                  kind-0 (λ t. node t .number ≡ node (v .term) .number
-                  → Writing old new at o (put kit f a d ts) (put kit f a under (arg t (v .later)))
-                  → Writing old new′ at (o + m) (put kit f a d ts) (put kit f a under (joined (outer t) (joined (inner t) (v .later)))))
-                  (v .term) (sym (v .kind) ∙ sym ke ∙ z)
-                  (λ x h j w.
-                  let c : number ≡ x = ne ∙ v .number ∙ h in
-                  write-next (encode (kit .term (underBy kit under (f a) x))) _ p m w pe
-                  (e a .0 ∙ ap (λ (y : ℕ). sets new p (encode (kit .term (underBy kit under (f a) y)))) c)
-                  (e a .1 ∙ ap (λ (y : ℕ). size (kit .term (underBy kit under (f a) y))) c)) refl (v .to-do a);
-            }
-              where
-                none : partCount calls (getD words i 0) ≡ 0
-                none = ap (partsOfKind (arity calls (numberOf (getD words i 0)))) (sym ke ∙ z)
+      first : Visit calls words (Ahead old d at p new o) i owed (g .going .start .terms) (g .going .start .rest)
+      first = visit calls words (g .going) lt _ _ (g .going .start .holds)
 
-          module _ (z : k ≡ 0 → ⊥) (m c : ℕ) (me : m ≡ partCount calls (getD words i 0)) (ce : c ≡ outerCount k m) (p : ℕ) (pe : p ≡ at + o) where
-            -- its word is written, and then its parts are ahead
-            abbrev pub new′ : List ℕ
-            new′ = set new p (getD words i 0)
+      at-term : {ts : Terms} {rest : List ℕ} (P : Term → A → Type 0) (v : Visit calls words (Ahead old d at p new o) i owed ts rest) → OfTerm P
+          → (a : A) → P (v .term) a
+      at-term P v h a = h (v .term) (we ∙ v .word) (ap kindOf we ∙ v .kind) (ap numberOf we ∙ v .number) a
 
-            len′ : length new′ ≡ length old
-            len′ = length-set new p (getD words i 0) ∙ g .len
+      -- what is still to be written begins with the node
+      to-write : {ts : Terms} {rest : List ℕ} (v : Visit calls words (Ahead old d at p new o) i owed ts rest) (a : A)
+          → Writing old new at o (putAll a ts d) (encode (put a (v .term) under) ++ ahead (putting a) p (v .later))
+      unfolding ahead
+      to-write {ts} v a =
+          let c : count (v .later) ≡ owed - 1 = omega (arith, v .many) in
+          subst (λ (x : ℕ). Writing old new at o (putAll a ts d) (encode (put a (v .term) x) ++ ahead (putting a) p (v .later)))
+          (ap (λ (j : ℕ). getD p j 0) c ∙ sym ue) (v .to-do a)
 
-            word-written : {ts : Terms} {rest : List ℕ} (v : Visit calls words (Ahead old d at new under o) i owed ts rest) (a : A)
-                → Writing old new′ at (o + 1) (put kit f a d ts)
-                (put kit f a under (outer (v .term)) ++ (put kit f a (suc under) (inner (v .term)) ++ put kit f a under (v .later)))
-            word-written v a = write-next (wordOf (v .term) ∷ []) _ p 1
-                (subst (Writing old new at o _) (put-node a under (v .term) (v .later) (λ y. z (ke ∙ v .kind ∙ y))) (v .to-do a)) pe
-                (ap (λ (x : ℕ). set new p x) (v .word)) refl
+      -- there is room for a word at least, and for what is put
+      pub trace-room : at + o + 1 ≤ length new
+      unfolding size
+      trace-room =
+          let v = first in
+          let y = put (g .given) (v .term) under in
+          omega (arith, next-room (encode y) _ (to-write v (g .given)), size-positive y)
 
-            outers : {ts : Terms} {rest : List ℕ} (v : Visit calls words (Ahead old d at new under o) i owed ts rest) → count (outer (v .term)) ≡ c
-            outers v = sym (v .outers) ∙ ap (λ (j : ℕ). outerCount j (partCount calls (getD words i 0))) (sym ke) ∙ ap (outerCount k) (sym me)
-                ∙ sym ce
+      pub put-room : (k : ℕ) → OfTerm (λ t a. k ≡ size (put a t under)) → at + o + k ≤ length new
+      unfolding size
+      put-room k h =
+          let v = first in
+          omega (
+            arith,
+            next-room (encode (put (g .given) (v .term) under)) _ (to-write v (g .given)),
+            at-term (λ t a. k ≡ size (put a t under)) v h (g .given),
+          )
 
-            -- a node without inner parts
-            pub trace-flat : c ≡ m → Trace calls words old n d at new′ (owed - 1 + m) under (i + 1) (o + 1)
-            unfolding traverse encode
-            trace-flat e = record {
-              space = g .space;
-              len = len′;
-              near = omega (arith, g .near);
-              going = march-on calls words (g .going) lt _ (owed - 1 + m) (omega (arith, me)) λ ts rest v a.
-                  let os = outer (v .term) in
-                  let bs = inner (v .term) in
-                  let none = none-left (λ x. put kit f a (suc under) x ≡ put kit f a under x) bs (omega (arith, e, me, outers v, v .parts)) refl in
-                  subst (Writing old new′ at (o + 1) (put kit f a d ts))
-                  (ap (λ (l : List ℕ). put kit f a under os ++ (l ++ put kit f a under (v .later))) none
-                  ∙ ap (λ (l : List ℕ). put kit f a under os ++ l) (sym (put-joined a under bs (v .later)))
-                  ∙ sym (put-joined a under os (joined bs (v .later))))
-                  (word-written v a);
-            }
+      -- a node: its word x is written, and then its parts are ahead
+      pub trace-node : (q : List ℕ) (r x y : ℕ) → length q ≡ length p → Opens calls w under p q (owed - 1) r → y ≡ at + o
+          → OfTerm (λ t a. encode (put a t under) ≡ x ∷ (putAll a (outer t) under ++ putAll a (inner t) (suc under)))
+          → Trace calls words old d at m q (set new y x) r (i + 1) (o + 1)
+      unfolding march-on
+      trace-node q r x y l ops ye h = record {
+        going = march-on calls words (g .going) lt _ r (ops .many ∙ ap (λ (z : ℕ). owed - 1 + partCount calls z) we) λ ts rest v a.
+            let os = outer (v .term) in
+            let is = inner (v .term) in
+            let c : owed - 1 ≡ count (v .later) = omega (arith, v .many) in
+            let e = at-term (λ t a. encode (put a t under) ≡ x ∷ (putAll a (outer t) under ++ putAll a (inner t) (suc under))) v h a in
+            let j = ahead-opened (putting a) (ops .opened) os is (v .later) c
+            (ap (λ (z : ℕ). outerCountOf z) we ∙ v .outers) (ap (partCount calls) we ∙ v .parts) in
+            subst (Writing old (set new y x) at (o + 1) (putAll a ts d))
+            (append-assoc (putAll a os under) (putAll a is (suc under)) (ahead (putting a) p (v .later)) ∙ sym j)
+            (write-next (x ∷ []) _ y 1
+            (subst (λ (z : List ℕ). Writing old new at o (putAll a ts d) (z ++ ahead (putting a) p (v .later))) e (to-write v a)) ye refl refl);
+        given = g .given;
+        room = g .room;
+        spare = omega (arith, g .spare, l);
+        len = length-set new y x ∙ g .len;
+        near = λ j k.
+            let n = near-opened (ops .opened) (λ b c. g .near b (omega (arith, c))) trace-depth j (omega (arith, k, ops .many)) in
+            omega (arith, n);
+      }
+        where
+          outerCountOf : ℕ → ℕ
+          outerCountOf z = outerCount (kindOf z) (partCount calls z)
 
-            -- a node with inner parts, entered
-            pub trace-enter : Entered calls words old n d at new′ (owed - 1 + m) under (i + 1) (o + 1) c (m - c)
-            trace-enter = record {
-              space = g .space;
-              len = len′;
-              near = omega (arith, g .near);
-              going = march-on calls words (g .going) lt _ (owed - 1 + m) (omega (arith, me)) λ ts rest v. record {
-                front = outer (v .term);
-                later = joined (inner (v .term)) (v .later);
-                is = refl;
-                many = outers v;
-                facts = record {
-                  front = inner (v .term);
-                  later = v .later;
-                  is = refl;
-                  many = omega (arith, me, v .parts, outers v);
-                  facts = λ a. word-written v a;
-                };
-              };
-            }
-
-            -- its outer parts are no more than all
-            pub outer-few : c ≤ m
-            outer-few = let v = first in omega (arith, me, v .parts, outers v)
+      -- a node without parts: what is put for it is written, k words
+      pub trace-leaf : (q new′ : List ℕ) (k y : ℕ) → length q ≡ length p → ((j : ℕ) → j < owed - 1 → getD q j 0 ≡ getD p j 0)
+          → length new′ ≡ length new → partCount calls w ≡ 0 → y ≡ at + o
+          → OfTerm (λ t a. (new′ ≡ sets new y (encode (put a t under))) × (k ≡ size (put a t under)))
+          → Trace calls words old d at m q new′ (owed - 1) (i + 1) (o + k)
+      unfolding march-on size
+      trace-leaf q new′ k y l same ln z ye h = record {
+        going = march-on calls words (g .going) lt _ (owed - 1) (omega (arith, z, ap (partCount calls) we)) λ ts rest v a.
+            let os = outer (v .term) in
+            let is = inner (v .term) in
+            let n : count os + count is ≡ 0 = sym (v .parts) ∙ ap (partCount calls) (sym we) ∙ z in
+            let e = at-term (λ t a. (new′ ≡ sets new y (encode (put a t under))) × (k ≡ size (put a t under))) v h a in
+            subst (λ (us : Terms). Writing old new′ at (o + k) (putAll a ts d) (ahead (putting a) q us))
+            (no-parts os is (v .later) (omega (arith, n)) (omega (arith, n)))
+            (subst (Writing old new′ at (o + k) (putAll a ts d))
+            (sym (ahead-same (putting a) p q (v .later) (λ j c. same j (omega (arith, c, v .many)))))
+            (write-next (encode (put a (v .term) under)) _ y k (to-write v a) ye (e .0) (e .1)));
+        given = g .given;
+        room = g .room;
+        spare = omega (arith, g .spare, l);
+        len = ln ∙ g .len;
+        near = λ j c. omega (arith, same j c, g .near j (omega (arith, c)));
+      }

@@ -1,12 +1,12 @@
--- What the count of a variable's uses says, for whatever term or terms are at the front.
+-- What the count of a variable's uses says, for whatever term is at the front.
 use Prim.Native.Nat.{ℕ, _≤_}
 use mathlib.Core.Path.{_≡_}
 use mathlib.Core.List.{List}
 use lib.ListN.{length}
-use Rattle.syntax.specs.Term.{Term, Terms}
-use Rattle.syntax.specs.Encoding.{encodeAll, size}
-use Rattle.syntax.specs.Values.{uses, usesAll}
-use Rattle.parts.specs.Fronts.{Holds, HoldsAll}
+use Rattle.syntax.specs.Term.{Term}
+use Rattle.syntax.specs.Encoding.{size}
+use Rattle.syntax.specs.Values.{uses}
+use Rattle.parts.specs.Fronts.{Holds}
 use Rattle.parts.specs.declared.uses.Uses.{Uses}
 
 pub record Counted (t : Term) (n : ℕ) (r : Uses) : Type 0 where
@@ -17,9 +17,3 @@ pub record Counts (calls words : List ℕ) (n : ℕ) (r : Uses) : Type 0 where
   pub few : r .uses ≤ r .end
   pub within : r .end ≤ length words
   pub told : (t : Term) (rest : List ℕ) → Holds calls words t rest → Counted t n r
-
--- of n terms
-pub record CountsAll (calls words : List ℕ) (n d : ℕ) (r : Uses) : Type 0 where
-  pub few : r .uses ≤ r .end
-  pub within : r .end ≤ length words
-  pub told : (ts : Terms) (rest : List ℕ) → HoldsAll calls words n ts rest → (r .end ≡ length (encodeAll ts)) × (r .uses ≡ usesAll ts d)

@@ -3,6 +3,7 @@
 pub mod fields; // fields.rt: the fields of type, call and term words
 pub mod shape; // shape.rt: what a kind decides, by one match; the number of parts of a node
 pub mod ends; // ends.rt: where a part ends
+pub mod depths; // depths.rt: the depths of the parts still to come
 pub mod uses; // uses.rt: how often a part uses a variable
 pub mod copy; // copy.rt: words copied
 pub mod rename; // rename.rt: a part with its variables raised, into a buffer

@@ -1,47 +1,147 @@
--- One part is a row of one, and the part of the value is cut off first.
+-- One turn of the loop writes one word, or the value.
+use borrow.Author.Needs.{needs}
+use borrow.Rule.Slice.PartMut.{same-len-mid}
 use Prim.Native.Nat.{ℕ, _-_}
 use native.Mathlib.Omega.{arith}
-use mathlib.Core.Path.{_≡_, ap}
-use mathlib.Core.List.{List}
-use lib.ListN.{take}
-use lib.Seq.{length-take-le}
-use Rattle.parts.proofs.Substituting.{substitute-one-room, substitutes-one}
-use borrow.Author.Needs.{needs}
+use mathlib.Core.Path.{_≡_, refl, _∙_}
+use lib.ListN.{length, length-set}
+use Rattle.syntax.specs.Substitution.{substitution}
+use Rattle.parts.proofs.Rows.{march-inside, march-within, march-parts}
+use Rattle.parts.proofs.Tracing.{trace-inside, trace-depth, trace-room}
+use Rattle.parts.proofs.Substituting.{valued, Substituting, substitute-begin, substitute-node, substitute-end, value-room, substitute-value}
 use Rattle.parts.proofs.substitute.substitute_into.Statement.{statement}
 use Rattle.parts.proofs.substitute.substitute_into.Tie as tie
 
-front : (l : List ℕ) (m : ℕ) → take (m - 0) l ≡ take m l
-front l m = let e : m - 0 ≡ m = omega arith in ap (λ (k : ℕ). take k l) e
+abbrev Inv-loop : tie.InvT-loop
+Inv-loop calls body value dst₀ at depth pending₀ owed₀ i₀ o₀ dst pending owed i o = Substituting calls body value dst₀ depth at pending dst owed i o × (length pending ≡ length pending₀)
+
+abbrev μ-loop : tie.MeasureT-loop
+μ-loop calls body value dst₀ at depth pending₀ owed₀ i₀ o₀ dst pending owed i o = length body - i
 
 pub substitute-into-spec : {M : Type 1} → statement M
 substitute-into-spec =
     tie.close
     (tie.spec
-    (λ c κs. search needs)
-    (λ c. search needs)
-    (λ c. search needs)
-    (λ c. search needs)
+    Inv-loop
+    μ-loop
+    (λ c.
+    let start = c .before .before .before .before .before in
+    omega (arith, start .pre .0 .spare))
+    (λ c.
+    let start = c .before .before .before .before .before in
+    (substitute-begin (start .args .pending .now) (start .args .depth) (start .pre .0), refl))
+    (λ c.
+    let at-loop = c .before in
+    let start = at-loop .before .before .before .before .before .before in
+    omega (arith, march-inside _ _ (at-loop .loop .inv .0 .going), start .pre .1 .0))
+    (λ c.
+    let at-loop-test = c .before in
+    let at-loop = at-loop-test .before in
+    omega (arith, march-inside _ _ (at-loop .loop .inv .0 .going), at-loop-test .loop-test .taken))
+    (λ c.
+    let at-loop-test = c .before in
+    at-loop-test .loop-test .taken)
+    (λ c.
+    let at-loop = c .before .before in
+    let start = at-loop .before .before .before .before .before .before in
+    omega (arith, march-inside _ _ (at-loop .loop .inv .0 .going), start .pre .1 .0))
+    (λ c.
+    let at-loop-test = c .before .before in
+    let at-loop = at-loop-test .before in
+    omega (arith, march-within _ _ (at-loop .loop .inv .0 .going), at-loop .loop .inv .0 .spare, at-loop-test .loop-test .taken))
+    (λ c.
+    let at-loop = c .before .before .before in
+    let start = at-loop .before .before .before .before .before .before in
+    omega (arith, march-inside _ _ (at-loop .loop .inv .0 .going), start .pre .1 .0))
+    (λ c.
+    let at-loop-test = c .before .before in
+    let at-loop = at-loop-test .before in
+    let start = at-loop .before .before .before .before .before .before in
+    omega (arith, trace-depth substitution (valued (start .args .calls .now) (start .args .value .now)) (at-loop .loop .inv .0) (at-loop-test .loop-test .taken) _ _ refl refl, march-inside _ _ (at-loop .loop .inv .0 .going), start .pre .1 .0))
+    (λ c.
+    let at-loop-test = c .before .before .before .before in
+    let at-loop = at-loop-test .before in
+    let start = at-loop .before .before .before .before .before .before in
+    omega (arith, trace-room substitution (valued (start .args .calls .now) (start .args .value .now)) (at-loop .loop .inv .0) (at-loop-test .loop-test .taken) _ _ refl refl, at-loop .loop .inv .0 .len, start .good))
+    (λ c.
+    let at-loop = c .before .before .before .before .before in
+    let start = at-loop .before .before .before .before .before .before in
+    omega (arith, march-inside _ _ (at-loop .loop .inv .0 .going), start .pre .1 .0))
+    (λ c.
+    let at-loop = c .before .before .before .before .before in
+    omega (arith, march-within _ _ (at-loop .loop .inv .0 .going), at-loop .loop .inv .0 .spare))
+    (λ c.
+    let at-loop = c .before .before .before .before .before in
+    omega (arith, march-within _ _ (at-loop .loop .inv .0 .going), at-loop .loop .inv .0 .spare))
     (λ c. search needs)
     (λ c κs.
-    let at-part-size = c .before .before in
-    let start = at-part-size .before .before .before .before .before in (
-      substitute-one-room _ _ (front (start .args .value .now) (at-part-size .part-size .result)) (at-part-size .part-size .ensures)
-          (start .pre .0),
-      (
-        start .pre .1 .0,
-        omega (
-          arith,
-          length-take-le (at-part-size .part-size .result) (start .args .value .now)
-              (at-part-size .part-size .ensures .within),
-          start .pre .1 .1,
-          at-part-size .part-size .ensures .within,
-        ),
-      ),
-    ))
-    (λ c. search needs)
+    let at-if1 = c .before .before in
+    let at-loop-test = at-if1 .before .before .before in
+    let at-loop = at-loop-test .before in
+    let start = at-loop .before .before .before .before .before .before in
+    ((start .pre .0 .whole, value-room (at-loop .loop .inv .0) (at-loop-test .loop-test .taken) _ _ refl refl (omega (arith, at-if1 .if1 .taken)) (omega (arith, trace-depth substitution (valued (start .args .calls .now) (start .args .value .now)) (at-loop .loop .inv .0) (at-loop-test .loop-test .taken) _ _ refl refl, march-inside _ _ (at-loop .loop .inv .0 .going), start .pre .1 .0)), start .pre .1 .1, omega (arith, trace-depth substitution (valued (start .args .calls .now) (start .args .value .now)) (at-loop .loop .inv .0) (at-loop-test .loop-test .taken) _ _ refl refl, march-inside _ _ (at-loop .loop .inv .0 .going), start .pre .1 .0)), omega (arith, march-within _ _ (at-loop .loop .inv .0 .going), at-loop .loop .inv .0 .spare)))
     (λ c.
-    let at-substitute-parts = c .before .before in
-    let at-part-size = at-substitute-parts .before .before .before in
-    let start = at-part-size .before .before .before .before .before in
-    substitutes-one _ _ (front (start .args .value .now) (at-part-size .part-size .result)) (at-part-size .part-size .ensures)
-    (at-substitute-parts .substitute-parts .ensures)))
+    let at-put-value = c .before .before .before .before in
+    let at-if1 = at-put-value .before .before .before in
+    let at-loop-test = at-if1 .before .before .before in
+    let at-loop = at-loop-test .before in
+    let start = at-loop .before .before .before .before .before .before in
+    omega (arith, value-room (at-loop .loop .inv .0) (at-loop-test .loop-test .taken) _ _ refl refl (omega (arith, at-if1 .if1 .taken)) (omega (arith, trace-depth substitution (valued (start .args .calls .now) (start .args .value .now)) (at-loop .loop .inv .0) (at-loop-test .loop-test .taken) _ _ refl refl, march-inside _ _ (at-loop .loop .inv .0 .going), start .pre .1 .0)), at-put-value .put-value .ensures .size-is, at-loop .loop .inv .0 .len, start .good))
+    (λ c.
+    let at-loop-test = c .before .before .before .before .before .before .before .before .before .before in
+    let at-loop = at-loop-test .before in
+    omega (arith, march-inside _ _ (at-loop .loop .inv .0 .going), at-loop-test .loop-test .taken))
+    (λ c.
+    let at-put-value = c .before .before .before .before in
+    let at-if1 = at-put-value .before .before .before in
+    let at-loop-test = at-if1 .before .before .before in
+    let at-loop = at-loop-test .before in
+    let start = at-loop .before .before .before .before .before .before in
+    (substitute-value (at-loop .loop .inv .0) (at-loop-test .loop-test .taken) _ _ refl refl (omega (arith, at-if1 .if1 .taken)) (omega (arith, trace-depth substitution (valued (start .args .calls .now) (start .args .value .now)) (at-loop .loop .inv .0) (at-loop-test .loop-test .taken) _ _ refl refl, march-inside _ _ (at-loop .loop .inv .0 .going), start .pre .1 .0)) (at-put-value .put-value .last .1 .1 .1 .1 .1 .0) _ (length (at-loop .loop .pending) - at-loop .loop .owed) _ (at-put-value .put-value .kept .1 .1 .1 .1 .1 .0) (at-put-value .put-value .kept .1 .1 .0) (at-put-value .put-value .ensures), same-len-mid (at-loop .loop .owed) (length (at-loop .loop .pending) - at-loop .loop .owed) (at-loop .loop .pending) (at-put-value .put-value .last .1 .1 .1 .1 .1 .0) (at-put-value .put-value .kept .1 .1 .1 .1 .1 .0) ∙ at-loop .loop .inv .1))
+    (λ c κs. search needs)
+    (λ c.
+    let at-loop-test = c .before .before .before .before in
+    let at-loop = at-loop-test .before in
+    let start = at-loop .before .before .before .before .before .before in
+    omega (arith, trace-room substitution (valued (start .args .calls .now) (start .args .value .now)) (at-loop .loop .inv .0) (at-loop-test .loop-test .taken) _ _ refl refl, at-loop .loop .inv .0 .len, start .good))
+    (λ c.
+    let at-loop-test = c .before .before .before .before in
+    let at-loop = at-loop-test .before in
+    let start = at-loop .before .before .before .before .before .before in
+    omega (arith, trace-room substitution (valued (start .args .calls .now) (start .args .value .now)) (at-loop .loop .inv .0) (at-loop-test .loop-test .taken) _ _ refl refl, at-loop .loop .inv .0 .len, start .good))
+    (λ c.
+    let at-loop-test = c .before .before .before .before in
+    let at-loop = at-loop-test .before in
+    let start = at-loop .before .before .before .before .before .before in
+    omega (arith, trace-room substitution (valued (start .args .calls .now) (start .args .value .now)) (at-loop .loop .inv .0) (at-loop-test .loop-test .taken) _ _ refl refl))
+    (λ c.
+    let at-loop-test = c .before .before .before .before in
+    let at-loop = at-loop-test .before in
+    let start = at-loop .before .before .before .before .before .before in
+    omega (arith, trace-room substitution (valued (start .args .calls .now) (start .args .value .now)) (at-loop .loop .inv .0) (at-loop-test .loop-test .taken) _ _ refl refl, at-loop .loop .inv .0 .len, start .good))
+    (λ c κs.
+    let at-loop-test = c .before .before .before .before .before in
+    let at-loop = at-loop-test .before in
+    let start = at-loop .before .before .before .before .before .before in
+    (omega (arith, march-within _ _ (at-loop .loop .inv .0 .going), at-loop .loop .inv .0 .spare, at-loop-test .loop-test .taken), omega (arith, march-parts _ _ (at-loop .loop .inv .0 .going) (at-loop-test .loop-test .taken), at-loop .loop .inv .0 .spare), omega (arith, trace-depth substitution (valued (start .args .calls .now) (start .args .value .now)) (at-loop .loop .inv .0) (at-loop-test .loop-test .taken) _ _ refl refl, march-inside _ _ (at-loop .loop .inv .0 .going), start .pre .1 .0)))
+    (λ c.
+    let at-loop-test = c .before .before .before .before .before .before .before .before in
+    let at-loop = at-loop-test .before in
+    omega (arith, march-inside _ _ (at-loop .loop .inv .0 .going), at-loop-test .loop-test .taken))
+    (λ c.
+    let at-open-parts = c .before .before in
+    let at-lowered = at-open-parts .before .before in
+    let at-if1 = at-lowered .before in
+    let at-loop-test = at-if1 .before .before .before in
+    let at-loop = at-loop-test .before in
+    (substitute-node (at-loop .loop .inv .0) (at-loop-test .loop-test .taken) (λ e. at-if1 .if1 .left (omega (arith, e))) _ _ _ (at-open-parts .open-parts .kept .1 .1 .1 .0) (at-lowered .lowered .ensures) (at-open-parts .open-parts .ensures), at-open-parts .open-parts .kept .1 .1 .1 .0 ∙ at-loop .loop .inv .1))
+    (λ c.
+    let at-loop = c .before in
+    at-loop .loop .inv .0 .len)
+    (λ c.
+    let at-loop = c .before in
+    let start = at-loop .before .before .before .before .before .before in
+    at-loop .loop .inv .1 ∙ length-set (start .args .pending .now) 0 (start .args .depth))
+    (λ c.
+    let at-loop = c .before in
+    substitute-end (at-loop .loop .inv .0) (omega (arith, c .loop-test .left))))

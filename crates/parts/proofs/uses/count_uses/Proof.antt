@@ -1,10 +1,84 @@
--- One part is a row of one.
-use Rattle.parts.proofs.Rows.{one-starts}
-use Rattle.parts.proofs.Counting.{counts-one}
+-- One turn of the loop passes one node.
+use borrow.Author.Needs.{needs}
+use Prim.Native.Nat.{ℕ, _-_}
+use native.Mathlib.Omega.{arith}
+use mathlib.Core.Path.{_≡_, refl, _∙_}
+use lib.ListN.{length, length-set}
+use Rattle.parts.proofs.Rows.{march-fits, march-parts}
+use Rattle.parts.proofs.Counting.{Tally, count-begin, tally-inside, tally-depth, count-node, count-end}
 use Rattle.parts.proofs.uses.count_uses.Statement.{statement}
 use Rattle.parts.proofs.uses.count_uses.Tie as tie
 
+abbrev Inv-loop : tie.InvT-loop
+Inv-loop calls t depth pending₀ owed₀ at₀ uses₀ pending owed at uses = Tally calls t pending depth owed at uses × (length pending ≡ length pending₀)
+
+abbrev μ-loop : tie.MeasureT-loop
+μ-loop calls t depth pending₀ owed₀ at₀ uses₀ pending owed at uses = length t - at
+
 pub count-uses-spec : {M : Type 1} → statement M
-count-uses-spec = tie.close (tie.spec (λ c κs.
-    let start = c .before .before in
-    (one-starts (start .pre .0), start .pre .1)) (λ c. counts-one (c .count-parts .ensures)))
+count-uses-spec =
+    tie.close
+    (tie.spec
+    Inv-loop
+    μ-loop
+    (λ c.
+    let start = c .before .before .before in
+    omega (arith, start .pre .2))
+    (λ c.
+    let start = c .before .before .before in
+    (count-begin (start .args .pending .now) (start .args .depth) (start .pre .0) (start .pre .2), refl))
+    (λ c.
+    let at-loop = c .before in
+    let start = at-loop .before .before .before .before in
+    omega (arith, tally-inside (at-loop .loop .inv .0), start .pre .1))
+    (λ c.
+    let at-loop-test = c .before in
+    let at-loop = at-loop-test .before in
+    omega (arith, tally-inside (at-loop .loop .inv .0), at-loop-test .loop-test .taken))
+    (λ c.
+    let at-loop-test = c .before in
+    at-loop-test .loop-test .taken)
+    (λ c.
+    let at-loop = c .before .before in
+    let start = at-loop .before .before .before .before in
+    omega (arith, tally-inside (at-loop .loop .inv .0), start .pre .1))
+    (λ c.
+    let at-loop-test = c .before .before in
+    let at-loop = at-loop-test .before in
+    omega (arith, tally-inside (at-loop .loop .inv .0), at-loop .loop .inv .0 .space, at-loop-test .loop-test .taken))
+    (λ c κs.
+    let at-loop-test = c .before .before in
+    let at-loop = at-loop-test .before in
+    let start = at-loop .before .before .before .before in
+    omega (arith, tally-depth (at-loop .loop .inv .0) (at-loop-test .loop-test .taken) (start .pre .1)))
+    (λ c.
+    let at-loop = c .before .before .before .before in
+    let start = at-loop .before .before .before .before in
+    omega (arith, tally-inside (at-loop .loop .inv .0), at-loop .loop .inv .0 .few, c .is-variable .ensures .1, start .pre .1))
+    (λ c κs.
+    let at-loop-test = c .before .before .before .before in
+    let at-loop = at-loop-test .before in
+    let start = at-loop .before .before .before .before in
+    (omega (arith, tally-inside (at-loop .loop .inv .0), at-loop .loop .inv .0 .space, at-loop-test .loop-test .taken), omega (arith, march-parts _ _ (at-loop .loop .inv .0 .going) (at-loop-test .loop-test .taken), march-fits _ _ (at-loop .loop .inv .0 .going), at-loop .loop .inv .0 .space), omega (arith, tally-depth (at-loop .loop .inv .0) (at-loop-test .loop-test .taken) (start .pre .1))))
+    (λ c.
+    let at-loop = c .before .before .before .before .before .before .before .before in
+    let start = at-loop .before .before .before .before in
+    omega (arith, tally-inside (at-loop .loop .inv .0), start .pre .1))
+    (λ c.
+    let at-loop-test = c .before .before .before .before .before .before .before in
+    let at-loop = at-loop-test .before in
+    omega (arith, tally-inside (at-loop .loop .inv .0), at-loop-test .loop-test .taken))
+    (λ c.
+    let at-open-parts = c .before .before in
+    let at-is-variable = at-open-parts .before .before in
+    let at-loop-test = at-is-variable .before .before .before in
+    let at-loop = at-loop-test .before in
+    let start = at-loop .before .before .before .before in
+    (count-node (at-loop .loop .inv .0) (at-loop-test .loop-test .taken) (start .pre .1) _ _ _ (at-open-parts .open-parts .kept .1 .1 .1 .0) (at-is-variable .is-variable .ensures .0) (at-is-variable .is-variable .ensures .1) (at-open-parts .open-parts .ensures), at-open-parts .open-parts .kept .1 .1 .1 .0 ∙ at-loop .loop .inv .1))
+    (λ c.
+    let at-loop = c .before in
+    let start = at-loop .before .before .before .before in
+    at-loop .loop .inv .1 ∙ length-set (start .args .pending .now) 0 (start .args .depth))
+    (λ c.
+    let at-loop = c .before in
+    count-end (at-loop .loop .inv .0) _ (omega (arith, c .loop-test .left)) refl refl))

@@ -1,0 +1,71 @@
+-- The first three depths are written one by one, any further by a loop.
+use borrow.Author.Needs.{needs}
+use Prim.Native.Nat.{ℕ, _+_}
+use native.Mathlib.Omega.{arith}
+use mathlib.Core.Path.{_∙_}
+use lib.ListN.{length-set, set}
+use Rattle.parts.proofs.Opening.{three-length, filled-opens, three-filled}
+use Rattle.parts.proofs.depths.open_parts.Statement.{statement}
+use Rattle.parts.proofs.depths.open_parts.Tie as tie
+
+pub open-parts-spec : {M : Type 1} → statement M
+open-parts-spec =
+    tie.close
+    (tie.spec
+    (λ c κs. search needs)
+    (λ c κs. search needs)
+    (λ c κs. search needs)
+    (λ c. search needs)
+    (λ c. search needs)
+    (λ c. search needs)
+    (λ c κs. search needs)
+    (λ c. search needs)
+    (λ c. search needs)
+    (λ c. search needs)
+    (λ c.
+    let at-last-binder = c .before in
+    let start = at-last-binder .before .before .before .before .before in
+    omega (arith, start .pre .0, length-set (start .args .pending .now) (start .args .last) (start .args .depth + at-last-binder .last-binder .result)))
+    (λ c. search needs)
+    (λ c. search needs)
+    (λ c.
+    let at-last-binder = c .before in
+    let start = at-last-binder .before .before .before .before .before in
+    omega (arith, start .pre .0, length-set (start .args .pending .now) (start .args .last) (start .args .depth + at-last-binder .last-binder .result), length-set (set (start .args .pending .now) (start .args .last) (start .args .depth + at-last-binder .last-binder .result)) (start .args .last + 1) (start .args .depth + c .middle-binder .result)))
+    (λ c. search needs)
+    (λ c. search needs)
+    (λ c κs.
+    let at-if1 = c .before in
+    let at-middle-binder = at-if1 .before in
+    let at-last-binder = at-middle-binder .before in
+    let at-owed-count = at-last-binder .before in
+    let start = at-owed-count .before .before .before .before in
+    (omega (arith, at-if1 .if1 .taken), omega (arith, start .pre .1, at-owed-count .owed-count .ensures .0, three-length (start .args .pending .now) (start .args .last) (start .args .depth + at-last-binder .last-binder .result) (start .args .depth + at-middle-binder .middle-binder .result) (start .args .depth))))
+    (λ c. search needs)
+    (λ c.
+    let at-fill = c .before .before in
+    let at-middle-binder = at-fill .before .before .before in
+    let at-last-binder = at-middle-binder .before in
+    let start = at-last-binder .before .before .before .before .before in
+    at-fill .fill .kept .0 ∙ three-length (start .args .pending .now) (start .args .last) (start .args .depth + at-last-binder .last-binder .result) (start .args .depth + at-middle-binder .middle-binder .result) (start .args .depth))
+    (λ c.
+    let at-fill = c .before .before in
+    let at-middle-binder = at-fill .before .before .before in
+    let at-last-binder = at-middle-binder .before in
+    let at-owed-count = at-last-binder .before in
+    let at-kind = at-owed-count .before in
+    let start = at-kind .before .before .before in
+    filled-opens _ _ _ _ _ _ _ _ _ _ (at-kind .kind .ensures) (at-owed-count .owed-count .ensures .0) (at-last-binder .last-binder .ensures .0) (at-middle-binder .middle-binder .ensures .0) (start .pre .0) (at-fill .fill .ensures))
+    (λ c. search needs)
+    (λ c.
+    let at-middle-binder = c .before in
+    let at-last-binder = at-middle-binder .before in
+    let start = at-last-binder .before .before .before .before .before in
+    three-length (start .args .pending .now) (start .args .last) (start .args .depth + at-last-binder .last-binder .result) (start .args .depth + at-middle-binder .middle-binder .result) (start .args .depth))
+    (λ c.
+    let at-middle-binder = c .before in
+    let at-last-binder = at-middle-binder .before in
+    let at-owed-count = at-last-binder .before in
+    let at-kind = at-owed-count .before in
+    let start = at-kind .before .before .before in
+    filled-opens _ _ _ _ _ _ _ _ _ _ (at-kind .kind .ensures) (at-owed-count .owed-count .ensures .0) (at-last-binder .last-binder .ensures .0) (at-middle-binder .middle-binder .ensures .0) (start .pre .0) (three-filled _ _ _ _ (omega (arith, c .if1 .left)))))
