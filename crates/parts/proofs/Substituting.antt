@@ -8,7 +8,7 @@ use mathlib.Core.Bool.{Bool, true, false, cond}
 use mathlib.Core.List.{List, [], append-nil}
 use lib.Dec.{ltb}
 use lib.ListN.{length, getD, set, take, drop, length-set}
-use lib.Seq.{sets, take-at, take-all}
+use lib.Seq.{sets, take-all}
 use borrow.Author.Tests.{ltb-true, ltb-false, lt-ltb, le-ltb}
 use Rattle.syntax.specs.Words.{kindOf, numberOf, pack}
 use Rattle.syntax.specs.Term.{Term, var, done, arg, node}
@@ -21,7 +21,6 @@ use Rattle.syntax.proofs.Sizes.{size-rename, size-arg, size-done}
 use Rattle.syntax.proofs.Under.{onlyAt-below, onlyAt-at, onlyAt-above}
 use Rattle.parts.specs.Fronts.{Holds, Whole, from}
 use Rattle.parts.specs.Binding.{outerCount}
-use Rattle.parts.specs.Ends.{Sized}
 use Rattle.parts.specs.Writes.{Room, Renames, RoomFor, Substitutes, valued, lowered, Raises, SubstituteRoom, SubstitutesAll}
 use Rattle.parts.specs.declared.substitute.Moved.{Moved}
 use Rattle.parts.proofs.Rows.{one-starts, one-holds}
@@ -131,39 +130,28 @@ module _ {calls body : List ℕ} (value : List ℕ) {old : List ℕ} {n depth at
       (r .wrote) _ refl
       (omega (arith, outer-few substitution (valued calls value) g lt k ke z m c me ce (at + o) refl, lt)) l w
 
--- of one term, and the part at the front of a value
-module _ {calls value : List ℕ} (part : List ℕ) (m : ℕ) (pe : part ≡ take m value) (s : Sized calls value m) where
-  front-is : {v : Term} {more : List ℕ} → Holds calls value v more → part ≡ encode v
-  unfolding size
-  front-is {v} {more} h = pe ∙ ap (take m) (h .is) ∙ take-at (encode v) more m (sym (s .told v more h))
+-- of one term
+module _ {calls body value : List ℕ} {at depth : ℕ} where
+  pub substitute-one-room : {len space : ℕ} → RoomFor calls body value len at depth space → SubstituteRoom calls body 1 value len at depth
+  unfolding traverse
+  substitute-one-room r = record {
+    start = one-starts (r .start);
+    given = r .whole;
+    room = omega (arith, r .room, size-arg (substitute (r .start .term) (onlyAt depth (r .whole .term))) done, size-done);
+  }
 
-  abbrev front-whole : {v : Term} {more : List ℕ} → Holds calls value v more → Whole calls part
-  front-whole {v} {more} h = record { term = v; shaped = h .shaped; is = front-is h }
-
-  module _ {body : List ℕ} {at depth : ℕ} where
-    pub substitute-one-room : {len : ℕ} → RoomFor calls body value len at depth → SubstituteRoom calls body 1 part len at depth
-    unfolding traverse
-    substitute-one-room r =
-        let t = r .start .term in
-        let v = r .value-starts .term in
+  pub substitutes-one : {old new : List ℕ} {r : Moved} → SubstitutesAll calls body 1 value old new at depth r
+      → Substitutes calls body value old new at depth r
+  unfolding traverse encode
+  substitutes-one {old} {new} {r} w = record {
+    told = λ t rest h v.
+        let u = w .told (arg t done) rest (one-holds h) v in
+        let y = substitute t (onlyAt depth (v .term)) in
         record {
-          start = one-starts (r .start);
-          given = front-whole (r .value-starts .holds);
-          room = omega (arith, r .room, size-arg (substitute t (onlyAt depth v)) done, size-done);
-        }
-
-    pub substitutes-one : {old new : List ℕ} {r : Moved} → SubstitutesAll calls body 1 part old new at depth r
-        → Substitutes calls body value old new at depth r
-    unfolding traverse encode
-    substitutes-one {old} {new} {r} w = record {
-      told = λ t rest h v more hv.
-          let u = w .told (arg t done) rest (one-holds h) (front-whole hv) in
-          let y = substitute t (onlyAt depth v) in
-          record {
-            written = record {
-              read-is = omega (arith, u .read-is, size-arg t done, size-done);
-              new-is = u .new-is ∙ ap (sets old at) (append-nil (encode y));
-            };
-            wrote-is = omega (arith, u .wrote-is, size-arg y done, size-done);
+          written = record {
+            read-is = omega (arith, u .read-is, size-arg t done, size-done);
+            new-is = u .new-is ∙ ap (sets old at) (append-nil (encode y));
           };
-    }
+          wrote-is = omega (arith, u .wrote-is, size-arg y done, size-done);
+        };
+  }

@@ -27,21 +27,23 @@ pub record Written (read : ℕ) (old new : List ℕ) (at : ℕ) (t y : Term) : T
 pub record Renames (calls src old new : List ℕ) (at cut by r : ℕ) : Type 0 where
   pub told : (t : Term) (rest : List ℕ) → Holds calls src t rest → Written r old new at t (rename t (raiseAt cut by))
 
--- a body and a value start here, and the body with the value in it fits into len words from `at` on
-pub record RoomFor (calls body value : List ℕ) (len at depth : ℕ) : Type 0 where
+-- a body starts here, the other words are a value, the body with the value in it fits into len words from `at` on, and there is space for
+-- the depths of the parts of both
+pub record RoomFor (calls body value : List ℕ) (len at depth space : ℕ) : Type 0 where
   pub start : Starts calls body
-  pub value-starts : Starts calls value
-  pub room : at + size (substitute (start .term) (onlyAt depth (value-starts .term))) ≤ len
+  pub whole : Whole calls value
+  pub room : at + size (substitute (start .term) (onlyAt depth (whole .term))) ≤ len
+  pub spare : size (start .term) + length value + 2 ≤ space
 
 -- t was read, and y written from `at` on, so many words
 pub record Placed (r : Moved) (old new : List ℕ) (at : ℕ) (t y : Term) : Type 0 where
   pub written : Written (r .read) old new at t y
   pub wrote-is : r .wrote ≡ size y
 
--- the term at the front of body is written with the term at the front of value for the variable `depth`
+-- the term at the front of body is written with the value for the variable `depth`
 pub record Substitutes (calls body value old new : List ℕ) (at depth : ℕ) (r : Moved) : Type 0 where
-  pub told : (t : Term) (rest : List ℕ) → Holds calls body t rest → (v : Term) (more : List ℕ) → Holds calls value v more
-      → Placed r old new at t (substitute t (onlyAt depth v))
+  pub told : (t : Term) (rest : List ℕ) → Holds calls body t rest → (v : Whole calls value)
+      → Placed r old new at t (substitute t (onlyAt depth (v .term)))
 
 -- The same for n terms, by one traversal; f is what it puts for the variables, whatever a is.
 module _ {X A : Type 0} (kit : Kit X) (f : A → ℕ → X) where

@@ -24,7 +24,7 @@ fn raise_variable(w: u64, cut: usize, by: usize) -> u64
 
 // writes so many parts at the front of src to dst from `at` on, their variables from `cut` on raised by `by`; answers their size.
 // Of a node that binds, the parts outside its binder need a call, and those inside it too unless they are the last.
-fn rename_parts(
+pub fn rename_parts(
     calls: &[u64],
     src: &[u64],
     parts: usize,
@@ -79,8 +79,10 @@ pub fn rename_into(
     at: usize,
     cut: usize,
     by: usize,
+    pending: &mut [u64],
 ) -> usize
-    requires { ⌜ Room (now calls) (now src) (length (now dst)) at × (cut + length (now src) ≤ 65536) × (by ≤ 65536) ⌝ }
+    requires { ⌜ Room (now calls) (now src) (length (now dst)) at × (cut + length (now src) ≤ 65536) × (by ≤ 65536)
+        × (length (now src) + 2 ≤ length (now pending)) ⌝ }
     ensures { λ r. ⌜ Renames (now (calls .entry)) (now (src .entry)) (now (dst .entry)) (now (dst .exit)) at cut by r ⌝ }
 {
     rename_parts(calls, src, 1, dst, at, cut, by)

@@ -7,10 +7,9 @@ ghost use Rattle.syntax.specs.Words.{kindOf, numberOf, pack};
 ghost use Rattle.parts.specs.Fronts.{Whole};
 ghost use Rattle.parts.specs.Writes.{RoomFor, Substitutes, lowered, Raises, SubstituteRoom, SubstitutesAll};
 use crate::copy::copy_into;
-use crate::ends::part_size;
 use crate::fields::kind;
 use crate::fields::number;
-use crate::rename::rename_into;
+use crate::rename::rename_parts;
 use crate::shape::only_inner;
 use crate::shape::outer_count;
 use crate::shape::part_count;
@@ -42,7 +41,7 @@ fn put_value(calls: &[u64], value: &[u64], dst: &mut [u64], at: usize, by: usize
         copy_into(value, 0, size, dst, at);
         return size;
     }
-    rename_into(calls, value, dst, at, 0, by)
+    rename_parts(calls, value, 1, dst, at, 0, by)
 }
 
 // writes so many parts at the front of body to dst from `at` on, with the value for the variable `depth`, the variables past it
@@ -113,7 +112,7 @@ fn substitute_parts(
     Moved { read: i, wrote: o }
 }
 
-// writes the part at the front of body to dst from `at` on, with the part at the front of value for the variable `depth`,
+// writes the part at the front of body to dst from `at` on, with the value for the variable `depth`,
 // the variables past it lowered by one
 pub fn substitute_into(
     calls: &[u64],
@@ -122,12 +121,11 @@ pub fn substitute_into(
     dst: &mut [u64],
     at: usize,
     depth: usize,
+    pending: &mut [u64],
 ) -> Moved
-    requires { ⌜ RoomFor (now calls) (now body) (now value) (length (now dst)) at depth ⌝ }
+    requires { ⌜ RoomFor (now calls) (now body) (now value) (length (now dst)) at depth (length (now pending)) ⌝ }
     requires { ⌜ (depth + length (now body) ≤ 65536) × (length (now value) ≤ 8192) ⌝ }
     ensures { λ r. ⌜ Substitutes (now (calls .entry)) (now (body .entry)) (now (value .entry)) (now (dst .entry)) (now (dst .exit)) at depth r ⌝ }
 {
-    let size = part_size(calls, value);
-    let start: usize = 0;
-    substitute_parts(calls, body, 1, &value[start..size], dst, at, depth)
+    substitute_parts(calls, body, 1, value, dst, at, depth)
 }

@@ -77,8 +77,8 @@ fn count_parts(calls: &[u64], t: &[u64], parts: usize, depth: usize) -> Uses
 }
 
 // where the part at the front ends, and how often it uses the variable `depth`
-pub fn count_uses(calls: &[u64], t: &[u64], depth: usize) -> Uses
-    requires { ⌜ Starts (now calls) (now t) × (depth + length (now t) ≤ 65536) ⌝ }
+pub fn count_uses(calls: &[u64], t: &[u64], depth: usize, pending: &mut [u64]) -> Uses
+    requires { ⌜ Starts (now calls) (now t) × (depth + length (now t) ≤ 65536) × (length (now t) + 2 ≤ length (now pending)) ⌝ }
     ensures { λ r. ⌜ Counts (now (calls .entry)) (now (t .entry)) depth r ⌝ }
 {
     count_parts(calls, t, 1, depth)
