@@ -14,7 +14,7 @@ pub struct Reduced {
     pub counts: [u32; 10],
 }
 
-// reduces the term in the first `start` words of the buffer, in place, to its normal form
+// reduces the term in the first `start` words of the buffer, in place, to its normal form; `pending` is space for going through parts
 pub fn reduce(
     calls: &[u64],
     current: &mut [u64],
