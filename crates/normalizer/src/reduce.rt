@@ -4,6 +4,7 @@ use crate::counts::raise;
 use crate::phases::next_from;
 use crate::turn::Turn;
 use crate::turn::take_turn;
+use parts::PENDING;
 use reduction::Phase;
 
 // refusal 0 and the last term's length, or 10 or 11; and the counts of the steps taken
@@ -13,7 +14,7 @@ pub struct Reduced {
     pub counts: [u32; 10],
 }
 
-// reduces the term in the first `start` words of the buffer, in place, to its normal form
+// reduces the term in the first `start` words of the buffer, in place, to its normal form; `pending` is space for going through parts
 pub fn reduce(
     calls: &[u64],
     current: &mut [u64],
@@ -25,6 +26,7 @@ pub fn reduce(
     requires { ⌜ Reducible (now calls) (now current) start capacity (now second) ⌝ }
     ensures { λ r. ⌜ Reduces (now (calls .entry)) (now (current .entry)) start budget capacity (now (current .exit)) r ⌝ }
 {
+    let mut pending: [u64; PENDING] = [0; PENDING];
     let mut counts: [u32; 10] = [0; 10];
     let mut left: u32 = budget;
     let mut phase = Phase::Insertion;
@@ -33,7 +35,17 @@ pub fn reduce(
     'reduce: loop {
         let mut from: usize = 0;
         loop {
-            let turn = take_turn(phase, calls, current, length, from, left, capacity, second);
+            let turn = take_turn(
+                phase,
+                calls,
+                current,
+                length,
+                from,
+                left,
+                capacity,
+                second,
+                &mut pending,
+            );
             match turn {
                 Turn::Stop => {
                     break;

@@ -1,5 +1,6 @@
 // The redex at a place rewritten in place, if the next term is not too long.
-ghost use Prim.Native.Nat.{ℕ};
+ghost use Prim.Native.Nat.{ℕ, _≤_};
+ghost use lib.ListN.{length as lengthOf};
 ghost use Rattle.normalizer.specs.Rewrites.{Rewritable, Rewrites};
 use crate::splice::splice;
 use reduction::Rule;
@@ -21,11 +22,12 @@ pub fn rewrite(
     place: usize,
     capacity: usize,
     second: &mut [u64],
+    pending: &mut [u64],
 ) -> Rewritten
-    requires { ⌜ Rewritable rule (now calls) (now current) length place capacity (now second) ⌝ }
+    requires { ⌜ Rewritable rule (now calls) (now current) length place capacity (now second) × (8194 ≤ lengthOf (now pending)) ⌝ }
     ensures { λ r. ⌜ Rewrites rule (now (calls .entry)) (now (current .entry)) length place capacity (now (current .exit)) r ⌝ }
 {
-    let m = measure(rule, calls, &current[place..length]);
+    let m = measure(rule, calls, &current[place..length], pending);
     let plan = m.plan;
     let read = m.read;
     let wrote = m.wrote;
@@ -36,7 +38,7 @@ pub fn rewrite(
     if capacity < next {
         return Rewritten::Full;
     }
-    write(plan, calls, &current[place..length], second, wrote);
+    write(plan, calls, &current[place..length], second, wrote, pending);
     splice(current, length, place, read, second, wrote);
     Rewritten::Next(next)
 }

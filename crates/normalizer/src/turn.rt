@@ -1,4 +1,6 @@
 // One turn of the reduction: search, the two limits, and the step in place.
+ghost use Prim.Native.Nat.{_≤_};
+ghost use lib.ListN.{length as lengthOf};
 ghost use Rattle.normalizer.specs.Turns.{Ready, Turns};
 use crate::find::find;
 use crate::rewrite::Rewritten;
@@ -24,8 +26,9 @@ pub fn take_turn(
     left: u32,
     capacity: usize,
     second: &mut [u64],
+    pending: &mut [u64],
 ) -> Turn
-    requires { ⌜ Ready phase (now calls) (now current) length from capacity (now second) ⌝ }
+    requires { ⌜ Ready phase (now calls) (now current) length from capacity (now second) × (8194 ≤ lengthOf (now pending)) ⌝ }
     ensures { λ r. ⌜ Turns phase (now (calls .entry)) (now (current .entry)) length from left capacity (now (current .exit)) r ⌝ }
 {
     let found = find(
@@ -41,7 +44,16 @@ pub fn take_turn(
             if left == 0 {
                 return Turn::Refused(10);
             }
-            let rewritten = rewrite(rule, calls, current, length, place, capacity, second);
+            let rewritten = rewrite(
+                rule,
+                calls,
+                current,
+                length,
+                place,
+                capacity,
+                second,
+                pending,
+            );
             match rewritten {
                 Rewritten::Full => Turn::Refused(11),
                 Rewritten::Next(n) => Turn::Step(rule, place, n),

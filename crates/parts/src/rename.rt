@@ -31,7 +31,8 @@ pub fn rename_into(
     by: usize,
     pending: &mut [u64],
 ) -> usize
-    requires { ⌜ Room (now calls) (now src) (length (now dst)) at × (cut + length (now src) ≤ 65536) × (by ≤ 65536) × (length (now src) + 2 ≤ length (now pending)) ⌝ }
+    requires { ⌜ Room (now calls) (now src) (length (now dst)) at × (cut + length (now src) ≤ 65536) × (by ≤ 65536)
+        × (length (now src) + 2 ≤ length (now pending)) ⌝ }
     ensures { λ r. ⌜ Renames (now (calls .entry)) (now (src .entry)) (now (dst .entry)) (now (dst .exit)) at cut by r ⌝ }
 {
     let mut owed: usize = 1;

@@ -10,7 +10,7 @@ use Rattle.syntax.specs.Encoding.{wordOf, encode, size}
 use Rattle.syntax.specs.Substitution.{weakenBody}
 use Rattle.syntax.specs.Under.{underBy}
 use Rattle.syntax.proofs.Sizes.{size-positive, size-bind, size-case, size-var}
-use Rattle.parts.specs.Fronts.{from}
+use Rattle.parts.specs.Fronts.{Holds, Whole, from}
 use Rattle.parts.specs.Writes.{RoomFor, Substitutes}
 use Rattle.parts.specs.declared.substitute.Moved.{Moved}
 use Rattle.parts.proofs.PartsAt.{held-inside, held-words, held-first}
@@ -34,31 +34,46 @@ writes-at {calls} {words} {old = old} {new = new} e w = subst (λ (q : Plan). Wr
 
 module _ (calls words : List ℕ) where
   -- a body and a value
-  module _ (body value len : ℕ) where
-    pub record Putting : Type 0 where
+  module _ (body value n : ℕ) where
+    abbrev value-words : List ℕ
+    value-words = take (value + n - value) (drop value words)
+
+    abbrev value-whole : {v : Term} {m : List ℕ} → Holds calls (from words value) v m → n ≡ size v → Whole calls value-words
+    value-whole {v} h e = record { term = v; shaped = h .shaped; is = held-words words value h (value + n - value) (omega (arith, e)) }
+
+    pub record Putting (len : ℕ) : Type 0 where
       pub body-in : body ≤ length words
-      pub value-in : value ≤ length words
-      pub room : RoomFor calls (from words body) (from words value) len 0 0
+      pub value-in : value + n ≤ length words
+      pub value-length : length value-words ≡ n
+      pub room : (space : ℕ) → length words + 2 ≤ space → RoomFor calls (from words body) value-words len 0 0 space
 
-    laid-put : {y : Term} → Laid calls words (Substitute body value) y → size y ≤ len → Putting
-    unfolding underBy
-    laid-put (substitutes {b = b} {v = v} hb hv) r = record {
-      body-in = omega (arith, held-inside words body hb);
-      value-in = omega (arith, held-inside words value hv);
-      room = record { start = held-starts hb; value-starts = held-starts hv; room = omega (arith, r) };
-    }
+    laid-put : {len : ℕ} {y : Term} → Laid calls words (Substitute body value n) y → size y ≤ len → Putting len
+    unfolding underBy size
+    laid-put (substitutes hb hv ve le) r =
+        let long : length value-words ≡ n = ap (λ (l : List ℕ). length l) (value-whole hv ve .is) ∙ sym ve in
+        record {
+          body-in = omega (arith, held-inside words body hb);
+          value-in = omega (arith, ve, held-inside words value hv);
+          value-length = long;
+          room = λ space e. record {
+            start = held-starts hb;
+            whole = value-whole hv ve;
+            room = omega (arith, r);
+            spare = omega (arith, le, e, long);
+          };
+        }
 
-    pub putting : Planned calls words (Substitute body value) len → Putting
+    pub putting : {len : ℕ} → Planned calls words (Substitute body value n) len → Putting len
     putting p = laid-put (p .laid) (p .room)
 
-  put-written : {body value : ℕ} {y : Term} {old new : List ℕ} {r : Moved} → Laid calls words (Substitute body value) y
-      → Substitutes calls (from words body) (from words value) old new 0 0 r → new ≡ sets old 0 (encode y)
-  unfolding underBy
-  put-written (substitutes {b = b} {v = v} {m = m} {n = n} hb hv) f = f .told b m hb v n hv .written .new-is
+    put-written : {y : Term} {old new : List ℕ} {r : Moved} → Laid calls words (Substitute body value n) y
+        → Substitutes calls (from words body) value-words old new 0 0 r → new ≡ sets old 0 (encode y)
+    unfolding underBy
+    put-written (substitutes {b = b} {l = l} hb hv ve le) f = f .told b l hb (value-whole hv ve) .written .new-is
 
-  pub put-writes : (body value : ℕ) (old new : List ℕ) (r : Moved)
-      → Substitutes calls (from words body) (from words value) old new 0 0 r → Writes calls words (Substitute body value) old new
-  put-writes body value old new r f = record { told = λ y l. put-written l f }
+    pub put-writes : (old new : List ℕ) (r : Moved) → Substitutes calls (from words body) value-words old new 0 0 r
+        → Writes calls words (Substitute body value n) old new
+    put-writes old new r f = record { told = λ y l. put-written l f }
 
   -- a part that stays
   pub record Copying (start n len : ℕ) : Type 0 where

@@ -5,7 +5,7 @@ use native.Mathlib.Nat.{mul-le-mul}
 use mathlib.Core.Path.{_≡_, sym, _∙_, ap, ap₂, subst}
 use mathlib.Core.List.{List}
 use lib.Dec.{eqb→eq}
-use Rattle.syntax.specs.Term.{Term, var, lam, bind, pair, inl, inr, case, done, arg, node}
+use Rattle.syntax.specs.Term.{Term, var, lam, app, bind, pair, inl, inr, case, done, arg, node}
 use Rattle.syntax.specs.Encoding.{size}
 use Rattle.syntax.specs.Substitution.{_⟦_⟧}
 use Rattle.syntax.specs.Values.{uses}
@@ -21,6 +21,7 @@ use Rattle.parts.specs.Fronts.{Holds, from}
 use Rattle.parts.specs.Ends.{Sized}
 use Rattle.parts.specs.Counts.{Counted, Counts}
 use Rattle.parts.specs.declared.uses.Uses.{Uses}
+use Rattle.parts.proofs.Traversal.{fits}
 use Rattle.parts.proofs.PartsAt.{PartsAt, parts-of, parts-open, part-here, parts-past, counts-sized}
 use Rattle.rewriter.specs.declared.plan.Plan.the-variants.{Substitute, Copy, MoveLet, MoveCase}
 use Rattle.rewriter.specs.Plans.{Laid, substitutes, copies, moves-let, moves-case, SizedWith, BodyWith, MeasuredAs, Measures}
@@ -56,7 +57,7 @@ module _ {calls words : List ℕ} where
 module _ (calls words : List ℕ) where
   applied : {x y : Term} {rest : List ℕ} → Holds calls words x rest → Fires allPure Apply x y
       → (m n w : ℕ) → Sized calls (from words 2) m → Sized calls (from words (2 + m)) n → SizedWith calls (from words 2) n w
-      → MeasuredAs calls words x y (record { plan = Substitute 2 (2 + m); read = 2 + m + n; wrote = w })
+      → MeasuredAs calls words x y (record { plan = Substitute 2 (2 + m) n; read = 2 + m + n; wrote = w })
   unfolding node joined
   applied {rest = rest} h (f-apply {A = A} {b = b} {v = v} q) m n w s d f =
       let at : PartsAt calls words 2 (arg b (arg v done)) rest = parts-open calls words (parts-of calls words h) in
@@ -64,37 +65,40 @@ module _ (calls words : List ℕ) where
       let be = s .told b _ hb in
       let hv = part-here calls words (parts-past calls words at m be) in
       let ve = d .told v _ hv in
+      let e : 2 + m + n ≡ size (app (lam A b) v) = omega (arith, size-app (lam A b) v, size-lam A b, be, ve) in
       record {
-        read-is = omega (arith, size-app (lam A b) v, size-lam A b, be, ve);
+        read-is = e;
         wrote-is = f .told b v _ hb ve;
-        laid = substitutes hb hv;
+        laid = substitutes hb hv ve (omega (arith, e, be, fits h));
       }
 
   pub apply-measures : (m n w : ℕ) → Sized calls (from words 2) m → Sized calls (from words (2 + m)) n
       → SizedWith calls (from words 2) n w
-      → Measures Apply calls words (record { plan = Substitute 2 (2 + m); read = 2 + m + n; wrote = w })
+      → Measures Apply calls words (record { plan = Substitute 2 (2 + m) n; read = 2 + m + n; wrote = w })
   apply-measures m n w s d f = record { told = λ x y rest h e. applied h (fired Apply x y e) m n w s d f }
 
   -- a let: the bound part, then the body
   module _ (n m : ℕ) (s : Sized calls (from words 1) n) (d : Sized calls (from words (1 + n)) m) where
     put-in : {x y : Term} {rest : List ℕ} → Holds calls words x rest → Fires allPure LetValue x y
         → (w : ℕ) → SizedWith calls (from words (1 + n)) n w
-        → MeasuredAs calls words x y (record { plan = Substitute (1 + n) 1; read = 1 + n + m; wrote = w })
+        → MeasuredAs calls words x y (record { plan = Substitute (1 + n) 1 n; read = 1 + n + m; wrote = w })
     unfolding node
     put-in {rest = rest} h (f-value {v = v} {b = b} q) w f =
         let at : PartsAt calls words 1 (arg v (arg b done)) rest = parts-of calls words h in
         let hv = part-here calls words at in
         let ve = s .told v _ hv in
         let hb = part-here calls words (parts-past calls words at n ve) in
+        let be = d .told b _ hb in
+        let e : 1 + n + m ≡ size (bind v b) = omega (arith, size-bind v b, ve, be) in
         record {
-          read-is = omega (arith, size-bind v b, ve, d .told b _ hb);
+          read-is = e;
           wrote-is = f .told b v _ hb ve;
-          laid = substitutes hb hv;
+          laid = substitutes hb hv ve (omega (arith, e, be, fits h));
         }
 
     -- dropping an unused variable is substituting anything for it
     dropped : {x y : Term} {rest : List ℕ} → Holds calls words x rest → Fires allPure Drop x y
-        → MeasuredAs calls words x y (record { plan = Substitute (1 + n) 1; read = 1 + n + m; wrote = m })
+        → MeasuredAs calls words x y (record { plan = Substitute (1 + n) 1 n; read = 1 + n + m; wrote = m })
     unfolding node
     dropped {rest = rest} h (f-drop {e = v} {b = b} p q z) =
         let at : PartsAt calls words 1 (arg v (arg b done)) rest = parts-of calls words h in
@@ -102,25 +106,26 @@ module _ (calls words : List ℕ) where
         let ve = s .told v _ hv in
         let hb = part-here calls words (parts-past calls words at n ve) in
         let be = d .told b _ hb in
+        let e : 1 + n + m ≡ size (bind v b) = omega (arith, size-bind v b, ve, be) in
         record {
-          read-is = omega (arith, size-bind v b, ve, be);
+          read-is = e;
           wrote-is = be ∙ sym (size-rename b lower);
-          laid = subst (λ (y : Term). Laid calls words (Substitute (1 + n) 1) y) (sym (rename-lower b v (eqb→eq (uses b 0) 0 z)))
-              (substitutes hb hv);
+          laid = subst (λ (y : Term). Laid calls words (Substitute (1 + n) 1 n) y) (sym (rename-lower b v (eqb→eq (uses b 0) 0 z)))
+              (substitutes hb hv ve (omega (arith, e, be, fits h)));
         }
 
     pub value-measures : (w : ℕ) → SizedWith calls (from words (1 + n)) n w
-        → Measures LetValue calls words (record { plan = Substitute (1 + n) 1; read = 1 + n + m; wrote = w })
+        → Measures LetValue calls words (record { plan = Substitute (1 + n) 1 n; read = 1 + n + m; wrote = w })
     value-measures w f = record { told = λ x y rest h e. put-in h (fired LetValue x y e) w f }
 
-    pub drop-measures : Measures Drop calls words (record { plan = Substitute (1 + n) 1; read = 1 + n + m; wrote = m })
+    pub drop-measures : Measures Drop calls words (record { plan = Substitute (1 + n) 1 n; read = 1 + n + m; wrote = m })
     drop-measures = record { told = λ x y rest h e. dropped h (fired Drop x y e) }
 
   -- a case on an injection: the value, then the branches
   module _ (n m k w : ℕ) (s₁ : Sized calls (from words 2) n) (s₂ : Sized calls (from words (2 + n)) m)
       (s₃ : Sized calls (from words (2 + n + m)) k) where
     left : {x y : Term} {rest : List ℕ} → Holds calls words x rest → Fires allPure LeftCase x y → SizedWith calls (from words (2 + n)) n w
-        → MeasuredAs calls words x y (record { plan = Substitute (2 + n) 2; read = 2 + n + m + k; wrote = w })
+        → MeasuredAs calls words x y (record { plan = Substitute (2 + n) 2 n; read = 2 + n + m + k; wrote = w })
     unfolding node joined
     left {rest = rest} h (f-left {A = A} {v = v} {l = l} {r = r} q) f =
         let at : PartsAt calls words 2 (arg v (arg l (arg r done))) rest = parts-open calls words (parts-of calls words h) in
@@ -130,15 +135,16 @@ module _ (calls words : List ℕ) where
         let hl = part-here calls words at₂ in
         let le = s₂ .told l _ hl in
         let hr = part-here calls words (parts-past calls words at₂ m le) in
+        let e : 2 + n + m + k ≡ size (case (inl A v) l r) = omega (arith, size-case (inl A v) l r, size-inl A v, ve, le, s₃ .told r _ hr) in
         record {
-          read-is = omega (arith, size-case (inl A v) l r, size-inl A v, ve, le, s₃ .told r _ hr);
+          read-is = e;
           wrote-is = f .told l v _ hl ve;
-          laid = substitutes hl hv;
+          laid = substitutes hl hv ve (omega (arith, e, le, fits h));
         }
 
     right : {x y : Term} {rest : List ℕ} → Holds calls words x rest → Fires allPure RightCase x y
         → SizedWith calls (from words (2 + n + m)) n w
-        → MeasuredAs calls words x y (record { plan = Substitute (2 + n + m) 2; read = 2 + n + m + k; wrote = w })
+        → MeasuredAs calls words x y (record { plan = Substitute (2 + n + m) 2 n; read = 2 + n + m + k; wrote = w })
     unfolding node joined
     right {rest = rest} h (f-right {A = A} {v = v} {l = l} {r = r} q) f =
         let at : PartsAt calls words 2 (arg v (arg l (arg r done))) rest = parts-open calls words (parts-of calls words h) in
@@ -148,18 +154,20 @@ module _ (calls words : List ℕ) where
         let hl = part-here calls words at₂ in
         let le = s₂ .told l _ hl in
         let hr = part-here calls words (parts-past calls words at₂ m le) in
+        let re = s₃ .told r _ hr in
+        let e : 2 + n + m + k ≡ size (case (inr A v) l r) = omega (arith, size-case (inr A v) l r, size-inr A v, ve, le, re) in
         record {
-          read-is = omega (arith, size-case (inr A v) l r, size-inr A v, ve, le, s₃ .told r _ hr);
+          read-is = e;
           wrote-is = f .told r v _ hr ve;
-          laid = substitutes hr hv;
+          laid = substitutes hr hv ve (omega (arith, e, re, fits h));
         }
 
     pub left-measures : SizedWith calls (from words (2 + n)) n w
-        → Measures LeftCase calls words (record { plan = Substitute (2 + n) 2; read = 2 + n + m + k; wrote = w })
+        → Measures LeftCase calls words (record { plan = Substitute (2 + n) 2 n; read = 2 + n + m + k; wrote = w })
     left-measures f = record { told = λ x y rest h e. left h (fired LeftCase x y e) f }
 
     pub right-measures : SizedWith calls (from words (2 + n + m)) n w
-        → Measures RightCase calls words (record { plan = Substitute (2 + n + m) 2; read = 2 + n + m + k; wrote = w })
+        → Measures RightCase calls words (record { plan = Substitute (2 + n + m) 2 n; read = 2 + n + m + k; wrote = w })
     right-measures f = record { told = λ x y rest h e. right h (fired RightCase x y e) f }
 
   module _ (n m : ℕ) (s : Sized calls (from words 2) n) (d : Sized calls (from words (2 + n)) m) where

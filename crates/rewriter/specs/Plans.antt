@@ -1,10 +1,11 @@
 -- What a redex becomes, as a plan says it: from which words it is put together.
-use Prim.Native.Nat.{ℕ, zero, suc, _+_}
+use Prim.Native.Nat.{ℕ, zero, suc, _+_, _≤_}
 use mathlib.Core.Path.{_≡_}
 use mathlib.Core.Bool.{Bool, true, false}
 use mathlib.Core.List.{List}
 use mathlib.Core.Option.{some}
 use lib.Dec.{eqb}
+use lib.ListN.{length}
 use Rattle.syntax.specs.Kinds.{bindersAt}
 use Rattle.syntax.specs.Term.{Term, Terms, var, bind, case, done, arg, node}
 use Rattle.syntax.specs.Encoding.{wordOf, size}
@@ -44,10 +45,11 @@ partSize (arg t ts) (suc i) = partSize ts i
 pub record PartSized (calls words : List ℕ) (i n : ℕ) : Type 0 where
   pub told : (x : Term) (rest : List ℕ) → Holds calls words x rest → n ≡ partSize (node x .parts) i
 
--- what a plan writes: the parts stand where it says
+-- what a plan writes: the parts stand where it says; a body and a value do not overlap, so they have no more words together than there are
 pub data Laid (calls words : List ℕ) : Plan → Term → Type 0 where
-  substitutes : {body value : ℕ} {b v : Term} {m n : List ℕ} → Holds calls (from words body) b m → Holds calls (from words value) v n
-      → Laid calls words (Substitute body value) (b ⟦ v ⟧)
+  substitutes : {body value n : ℕ} {b v : Term} {l m : List ℕ} → Holds calls (from words body) b l → Holds calls (from words value) v m
+      → n ≡ size v → size b + n ≤ length words
+      → Laid calls words (Substitute body value n) (b ⟦ v ⟧)
   copies : {start : ℕ} {y : Term} {m : List ℕ} → Holds calls (from words start) y m → Laid calls words (Copy start) y
   moves-let : {second third : ℕ} {p b c : Term} {l m n : List ℕ} → Holds calls (from words 2) p l → Holds calls (from words second) b m
       → Holds calls (from words third) c n → second ≡ 2 + size p → third ≡ second + size b

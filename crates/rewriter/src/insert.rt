@@ -17,8 +17,10 @@ fn insert_part(
     dst: &mut [u64],
     at: usize,
     cut: usize,
+    pending: &mut [u64],
 ) -> Moved
-    requires { ⌜ PartRoom (now calls) (now t) here size (length (now dst)) at cut × (cut ≤ 1) × (length (now t) ≤ 8192) ⌝ }
+    requires { ⌜ PartRoom (now calls) (now t) here size (length (now dst)) at cut × (cut ≤ 1) × (length (now t) ≤ 8192)
+        × (8194 ≤ length (now pending)) ⌝ }
     ensures { λ r. ⌜ InsertsPart (now (calls .entry)) (now (t .entry)) here (now (dst .entry)) (now (dst .exit)) at cut r ⌝ }
 {
     if here {
@@ -28,13 +30,21 @@ fn insert_part(
             wrote: 1,
         };
     }
-    let n = rename_into(calls, t, dst, at, cut, 1);
+    let n = rename_into(calls, t, dst, at, cut, 1, pending);
     Moved { read: n, wrote: n }
 }
 
 // the node at the front, with the new variable for the part of an index, which has `size` words
-pub fn insert_node(calls: &[u64], t: &[u64], index: usize, size: usize, dst: &mut [u64], at: usize)
-    requires { ⌜ NodeRoom (now calls) (now t) index size (length (now dst)) at × (length (now t) ≤ 8192) ⌝ }
+pub fn insert_node(
+    calls: &[u64],
+    t: &[u64],
+    index: usize,
+    size: usize,
+    dst: &mut [u64],
+    at: usize,
+    pending: &mut [u64],
+)
+    requires { ⌜ NodeRoom (now calls) (now t) index size (length (now dst)) at × (length (now t) ≤ 8192) × (8194 ≤ length (now pending)) ⌝ }
     ensures { λ r. ⌜ InsertsNode (now (calls .entry)) (now (t .entry)) index (now (dst .entry)) (now (dst .exit)) at ⌝ }
 {
     let w = t[0];
@@ -47,7 +57,7 @@ pub fn insert_node(calls: &[u64], t: &[u64], index: usize, size: usize, dst: &mu
     while j < n {
         let cut = binders(k, j);
         let here = j == index;
-        let part = insert_part(calls, &t[m..], here, size, dst, at + o, cut);
+        let part = insert_part(calls, &t[m..], here, size, dst, at + o, cut, pending);
         m = m + part.read;
         o = o + part.wrote;
         j += 1;

@@ -1,4 +1,5 @@
 // A redex rewritten on words: how many words it has and becomes, how to write these, and writing them.
+// `pending` is space that going through parts takes; nothing is kept in it from call to call.
 
 pub mod plan; // plan.rt: how many words a redex becomes, and how they are written
 pub mod insert; // insert.rt: a node under a new binder, its variable for one of the parts

@@ -14,11 +14,12 @@ use parts::uses::count_uses;
 use reducer::fits::first_computation;
 use reduction::Rule;
 
-// Substitute(body, value): where they start. Copy(start): one part stays. MoveLet(second, third): where the inner and the outer body
-// start; the inner bound part starts at 2. MoveCase(right, third): where the right branch and the outer body start; the subject is the
-// word at 2, the left branch starts at 3. Insert(index, start, size): which part is bound, where it starts, how many words it has.
+// Substitute(body, value, size): where they start, and how many words the value has. Copy(start): one part stays. MoveLet(second, third):
+// where the inner and the outer body start; the inner bound part starts at 2. MoveCase(right, third): where the right branch and the outer
+// body start; the subject is the word at 2, the left branch starts at 3. Insert(index, start, size): which part is bound, where it starts,
+// how many words it has.
 pub enum Plan {
-    Substitute(usize, usize),
+    Substitute(usize, usize, usize),
     Copy(usize),
     MoveLet(usize, usize),
     MoveCase(usize, usize),
@@ -55,17 +56,18 @@ fn size_from(calls: &[u64], t: &[u64], at: usize) -> usize
 }
 
 // where the part that starts at an index ends, counted from there, and how often it uses the variable that its node binds
-fn uses_from(calls: &[u64], t: &[u64], at: usize) -> Uses
-    requires { ⌜ Starts (now calls) (from (now t) at) × (at ≤ length (now t)) × (length (now t) ≤ 8192) ⌝ }
+fn uses_from(calls: &[u64], t: &[u64], at: usize, pending: &mut [u64]) -> Uses
+    requires { ⌜ Starts (now calls) (from (now t) at) × (at ≤ length (now t)) × (length (now t) ≤ 8192) × (8194 ≤ length (now pending)) ⌝ }
     ensures { λ r. ⌜ Counts (now (calls .entry)) (from (now (t .entry)) at) 0 r ⌝ }
 {
-    count_uses(calls, &t[at..], 0)
+    count_uses(calls, &t[at..], 0, pending)
 }
 
 // the body that starts at an index, with a value of `size` words for the variable that its node binds; a value of one word leaves it as long
 // as it is, so uses are counted only for longer ones
-fn body_with(calls: &[u64], t: &[u64], at: usize, size: usize) -> Body
-    requires { ⌜ Starts (now calls) (from (now t) at) × (at ≤ length (now t)) × (length (now t) ≤ 8192) × (size ≤ 8192) ⌝ }
+fn body_with(calls: &[u64], t: &[u64], at: usize, size: usize, pending: &mut [u64]) -> Body
+    requires { ⌜ Starts (now calls) (from (now t) at) × (at ≤ length (now t)) × (length (now t) ≤ 8192) × (size ≤ 8192)
+        × (8194 ≤ length (now pending)) ⌝ }
     ensures { λ r. ⌜ BodyWith (now (calls .entry)) (from (now (t .entry)) at) size r ⌝ }
 {
     if size == 1 {
@@ -75,7 +77,7 @@ fn body_with(calls: &[u64], t: &[u64], at: usize, size: usize) -> Body
             wrote: end,
         };
     }
-    let body = uses_from(calls, t, at);
+    let body = uses_from(calls, t, at, pending);
     Body {
         end: body.end,
         wrote: substituted(body.end, body.uses, size),
@@ -83,30 +85,30 @@ fn body_with(calls: &[u64], t: &[u64], at: usize, size: usize) -> Body
 }
 
 // apply: the body stands at 2, the value behind it; the body comes first, so its uses are counted for every value
-fn apply(calls: &[u64], t: &[u64]) -> Measured
-    requires { ⌜ StartsRedex Apply (now calls) (now t) × (length (now t) ≤ 8192) ⌝ }
+fn apply(calls: &[u64], t: &[u64], pending: &mut [u64]) -> Measured
+    requires { ⌜ StartsRedex Apply (now calls) (now t) × (length (now t) ≤ 8192) × (8194 ≤ length (now pending)) ⌝ }
     ensures { λ r. ⌜ Measures Apply (now (calls .entry)) (now (t .entry)) r ⌝ }
 {
-    let body = uses_from(calls, t, 2);
+    let body = uses_from(calls, t, 2, pending);
     let value = 2 + body.end;
     let size = size_from(calls, t, value);
     Measured {
-        plan: Plan::Substitute(2, value),
+        plan: Plan::Substitute(2, value, size),
         read: value + size,
         wrote: substituted(body.end, body.uses, size),
     }
 }
 
 // let value: the bound part stands at 1, the body behind it
-fn let_value(calls: &[u64], t: &[u64]) -> Measured
-    requires { ⌜ StartsRedex LetValue (now calls) (now t) × (length (now t) ≤ 8192) ⌝ }
+fn let_value(calls: &[u64], t: &[u64], pending: &mut [u64]) -> Measured
+    requires { ⌜ StartsRedex LetValue (now calls) (now t) × (length (now t) ≤ 8192) × (8194 ≤ length (now pending)) ⌝ }
     ensures { λ r. ⌜ Measures LetValue (now (calls .entry)) (now (t .entry)) r ⌝ }
 {
     let size = size_from(calls, t, 1);
     let start = 1 + size;
-    let body = body_with(calls, t, start, size);
+    let body = body_with(calls, t, start, size, pending);
     Measured {
-        plan: Plan::Substitute(start, 1),
+        plan: Plan::Substitute(start, 1, size),
         read: start + body.end,
         wrote: body.wrote,
     }
@@ -121,41 +123,41 @@ fn drop_let(calls: &[u64], t: &[u64]) -> Measured
     let start = 1 + size;
     let end = size_from(calls, t, start);
     Measured {
-        plan: Plan::Substitute(start, 1),
+        plan: Plan::Substitute(start, 1, size),
         read: start + end,
         wrote: end,
     }
 }
 
 // left case: the value stands at 2, then the branches
-fn left_case(calls: &[u64], t: &[u64]) -> Measured
-    requires { ⌜ StartsRedex LeftCase (now calls) (now t) × (length (now t) ≤ 8192) ⌝ }
+fn left_case(calls: &[u64], t: &[u64], pending: &mut [u64]) -> Measured
+    requires { ⌜ StartsRedex LeftCase (now calls) (now t) × (length (now t) ≤ 8192) × (8194 ≤ length (now pending)) ⌝ }
     ensures { λ r. ⌜ Measures LeftCase (now (calls .entry)) (now (t .entry)) r ⌝ }
 {
     let size = size_from(calls, t, 2);
     let left = 2 + size;
-    let body = body_with(calls, t, left, size);
+    let body = body_with(calls, t, left, size, pending);
     let right = left + body.end;
     let other = size_from(calls, t, right);
     Measured {
-        plan: Plan::Substitute(left, 2),
+        plan: Plan::Substitute(left, 2, size),
         read: right + other,
         wrote: body.wrote,
     }
 }
 
 // right case: the value stands at 2, then the branches
-fn right_case(calls: &[u64], t: &[u64]) -> Measured
-    requires { ⌜ StartsRedex RightCase (now calls) (now t) × (length (now t) ≤ 8192) ⌝ }
+fn right_case(calls: &[u64], t: &[u64], pending: &mut [u64]) -> Measured
+    requires { ⌜ StartsRedex RightCase (now calls) (now t) × (length (now t) ≤ 8192) × (8194 ≤ length (now pending)) ⌝ }
     ensures { λ r. ⌜ Measures RightCase (now (calls .entry)) (now (t .entry)) r ⌝ }
 {
     let size = size_from(calls, t, 2);
     let left = 2 + size;
     let other = size_from(calls, t, left);
     let right = left + other;
-    let body = body_with(calls, t, right, size);
+    let body = body_with(calls, t, right, size, pending);
     Measured {
-        plan: Plan::Substitute(right, 2),
+        plan: Plan::Substitute(right, 2, size),
         read: right + body.end,
         wrote: body.wrote,
     }
@@ -237,20 +239,20 @@ fn let_insertion(calls: &[u64], t: &[u64]) -> Measured
 }
 
 // a redex of a rule: how many words it has, how many it becomes, and how these are written
-pub fn measure(rule: Rule, calls: &[u64], t: &[u64]) -> Measured
-    requires { ⌜ StartsRedex rule (now calls) (now t) × (length (now t) ≤ 8192) ⌝ }
+pub fn measure(rule: Rule, calls: &[u64], t: &[u64], pending: &mut [u64]) -> Measured
+    requires { ⌜ StartsRedex rule (now calls) (now t) × (length (now t) ≤ 8192) × (8194 ≤ length (now pending)) ⌝ }
     ensures { λ r. ⌜ Measures rule (now (calls .entry)) (now (t .entry)) r ⌝ }
 {
     match rule {
         Rule::LetInsertion => let_insertion(calls, t),
         Rule::LetOfLet => let_of_let(calls, t),
         Rule::LetOfCase => let_of_case(calls, t),
-        Rule::Apply => apply(calls, t),
+        Rule::Apply => apply(calls, t, pending),
         Rule::First => first(calls, t),
         Rule::Second => second(calls, t),
-        Rule::LeftCase => left_case(calls, t),
-        Rule::RightCase => right_case(calls, t),
-        Rule::LetValue => let_value(calls, t),
+        Rule::LeftCase => left_case(calls, t, pending),
+        Rule::RightCase => right_case(calls, t, pending),
+        Rule::LetValue => let_value(calls, t, pending),
         Rule::Drop => drop_let(calls, t),
     }
 }

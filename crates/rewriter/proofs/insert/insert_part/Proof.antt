@@ -11,19 +11,20 @@ insert-part-spec =
     (tie.spec
     (λ c. search needs)
     (λ c.
-    let pre = c .before .before .before .before .pre in
+    let pre = c .before .before .before .before .before .pre in
     part-space (pre .0))
     (λ c. search needs)
     (λ c.
     let taken = c .if1 .taken in
-    part-replaced _ _ _ _ _ _ _ taken (c .before .before .before .before .pre .0 .sized taken))
+    part-replaced _ _ _ _ _ _ _ taken (c .before .before .before .before .before .pre .0 .sized taken))
     (λ c κs.
-    let pre = c .before .before .before .before .before .pre in
-    (part-room (pre .0) (c .before .if1 .left), omega (arith, pre .1, pre .2), omega arith))
+    let pre = c .before .before .before .before .before .before .before .pre in
+    (part-room (pre .0) (c .before .before .if1 .left), omega (arith, pre .1, pre .2), omega arith, omega (arith, pre .2, pre .3)))
     (λ c.
-    let rename-into = c .before .before .rename-into in
+    let rename-into = c .before .before .before .before .rename-into in
     rename-into .kept .1 .1 .0)
+    (λ c. c .before .before .before .before .rename-into .kept .1 .1 .1 .1 .1 .1 .0)
     (λ c.
-    let if1 = c .before .before .before .before .if1 in
-    let rename-into = c .before .before .rename-into in
+    let if1 = c .before .before .before .before .before .before .before .if1 in
+    let rename-into = c .before .before .before .before .rename-into in
     part-moved _ _ _ _ _ _ _ _ (if1 .left) (rename-into .ensures)))

@@ -11,43 +11,44 @@ left-case-spec =
     tie.close
     (tie.spec
     (λ c κs.
-    let pre = c .before .before .pre in
+    let pre = c .before .before .before .pre in
     let row₁ = redex-row _ _ of-left (pre .0) in
     (row-starts _ _ row₁ (omega arith), row-high _ _ row₁, pre .1))
     (λ c.
-    let pre = c .before .before .before .pre in
+    let pre = c .before .before .before .before .pre in
     let row₁ = redex-row _ _ of-left (pre .0) in
     let row₂ = row-next _ _ row₁ (omega arith) _ (c .size-from .ensures) in
     omega (arith, row-high _ _ row₂, pre .1))
     (λ c κs.
-    let pre = c .before .before .before .pre in
-    let row₁ = redex-row _ _ of-left (pre .0) in
-    let row₂ = row-next _ _ row₁ (omega arith) _ (c .size-from .ensures) in
-    (row-starts _ _ row₂ (omega arith), row-high _ _ row₂, pre .1, omega (arith, row-high _ _ row₂, pre .1)))
-    (λ c.
     let pre = c .before .before .before .before .before .pre in
-    let size-from = c .before .before .size-from in
+    let row₁ = redex-row _ _ of-left (pre .0) in
+    let row₂ = row-next _ _ row₁ (omega arith) _ (c .before .size-from .ensures) in
+    (row-starts _ _ row₂ (omega arith), row-high _ _ row₂, pre .1, omega (arith, row-high _ _ row₂, pre .1), pre .2))
+    (λ c.
+    let pre = c .before .before .before .before .before .before .before .before .before .pre in
+    let size-from = c .before .before .before .before .before .size-from in
     let row₁ = redex-row _ _ of-left (pre .0) in
     let row₂ = row-next _ _ row₁ (omega arith) _ (size-from .ensures) in
-    let row₃ = row-next _ _ row₂ (omega arith) _ (c .before .body-with .ensures .ends) in
+    let row₃ = row-next _ _ row₂ (omega arith) _ (c .before .before .before .body-with .ensures .ends) in
     omega (arith, row-high _ _ row₃, pre .1))
     (λ c κs.
-    let pre = c .before .before .before .before .before .pre in
-    let size-from = c .before .before .size-from in
+    let pre = c .before .before .before .before .before .before .before .before .before .pre in
+    let size-from = c .before .before .before .before .before .size-from in
     let row₁ = redex-row _ _ of-left (pre .0) in
     let row₂ = row-next _ _ row₁ (omega arith) _ (size-from .ensures) in
-    let row₃ = row-next _ _ row₂ (omega arith) _ (c .before .body-with .ensures .ends) in
+    let row₃ = row-next _ _ row₂ (omega arith) _ (c .before .before .before .body-with .ensures .ends) in
     (row-starts _ _ row₃ (omega arith), row-high _ _ row₃, pre .1))
     (λ c.
-    let pre = c .before .before .before .before .before .before .pre in
-    let size-from = c .before .before .before .size-from in
-    let body-with = c .before .before .body-with in
+    let pre = c .before .before .before .before .before .before .before .before .before .before .pre in
+    let size-from = c .before .before .before .before .before .before .size-from in
+    let body-with = c .before .before .before .before .body-with in
     let row₁ = redex-row _ _ of-left (pre .0) in
     let row₂ = row-next _ _ row₁ (omega arith) _ (size-from .ensures) in
     let row₃ = row-next _ _ row₂ (omega arith) _ (body-with .ensures .ends) in
     let row₄ = row-next _ _ row₃ (omega arith) _ (c .size-from2 .ensures) in
     omega (arith, row-high _ _ row₄, pre .1))
+    (λ c. c .before .before .before .before .body-with .kept .1 .1 .1 .1 .0)
     (λ c.
-    let size-from = c .before .before .before .size-from in
-    let body = c .before .before .body-with .ensures in
+    let size-from = c .before .before .before .before .before .before .size-from in
+    let body = c .before .before .before .before .body-with .ensures in
     left-measures _ _ _ _ _ _ (size-from .ensures) (body .ends) (c .size-from2 .ensures) (body .becomes)))
