@@ -1,6 +1,6 @@
 -- A call's parts are in the calls' table, any other node's are decided by its kind, and a table of the kinds is right if it is at each.
 use mathlib.Core.Path.{_≡_, refl, sym, _∙_, ap}
-use mathlib.Core.Bool.{Bool, true, false, _&&_, true≢false}
+use mathlib.Core.Bool.{Bool, true, false, _&&_, _||_, not, true≢false}
 use mathlib.Core.List.{List}
 use Prim.Native.Nat.{ℕ, zero, suc, _≤_, _<_}
 use native.Mathlib.Omega.{arith}
@@ -51,3 +51,10 @@ passes-below f (suc n) k e l = go (f n) refl e (ℕ-discrete k n) (λ t d. passe
 -- a table of the sixteen kinds that is right at each by computation
 pub kinds-agree : (f g : ℕ → ℕ) → passes (λ j. eqb (f j) (g j)) 16 ≡ true → (k : ℕ) → k < 16 → f k ≡ g k
 kinds-agree f g e k l = eqb-true _ _ (passes-below (λ j. eqb (f j) (g j)) 16 k e l)
+
+pub kinds-imply : (f g : ℕ → Bool) → passes (λ j. not (f j) || g j) 16 ≡ true → (k : ℕ) → k < 16 → f k ≡ true → g k ≡ true
+kinds-imply f g e k l h = implied (f k) (g k) (passes-below (λ j. not (f j) || g j) 16 k e l) h
+  where
+    implied : (b c : Bool) → (not b || c) ≡ true → b ≡ true → c ≡ true
+    implied true c d h = d
+    implied false c d h = absurd (true≢false (sym h))
