@@ -58,6 +58,11 @@ pub record Cut (a : ℕ) (P : Terms → Terms → Type 0) (us : Terms) : Type 0 
   pub facts : P front later
 
 module _ (calls words : List ℕ) where
+  -- terms at an index stand at the front of the slice from there on
+  pub row-holds : {i : ℕ} {ts : Terms} {rest : List ℕ} → PartsAt calls words i ts rest → (n : ℕ) → count ts ≡ n
+      → HoldsAll calls (from words i) n ts rest
+  row-holds {i} p n e = record { shaped = p .shaped; is = tail-part words i ∙ p .here; many = e }
+
   module _ {i : ℕ} {rest : List ℕ} (ts us : Terms) (p : PartsAt calls words i (joined ts us) rest) where
     here : drop i words ≡ encodeAll ts ++ (encodeAll us ++ rest)
     here = p .here ∙ ap (λ (l : List ℕ). l ++ rest) (encode-joined ts us) ∙ append-assoc (encodeAll ts) (encodeAll us) rest
@@ -67,7 +72,7 @@ module _ (calls words : List ℕ) where
     row-front a e = record { shaped = joined-shaped calls ts us (p .shaped) .0; is = tail-part words i ∙ here; many = e }
 
     -- the others behind them
-    row-behind : (l : ℕ) → l ≡ sizeAll ts → PartsAt calls words (i + l) us rest
+    pub row-behind : (l : ℕ) → l ≡ sizeAll ts → PartsAt calls words (i + l) us rest
     row-behind l e = record {
       shaped = joined-shaped calls ts us (p .shaped) .1;
       here = sym (drop-drop l i words) ∙ ap (drop l) here
