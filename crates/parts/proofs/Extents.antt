@@ -11,7 +11,7 @@ use lib.Dec.{leb}
 use lib.ListN.{length, getD, drop}
 use lib.Seq.{drop-cons, drop-length}
 use Rattle.syntax.specs.Kinds.{partsOfKind}
-use Rattle.syntax.specs.Parts.{partCount, extent, partEnd}
+use Rattle.syntax.specs.Parts.{partCount, extent}
 use Rattle.syntax.proofs.Parts.{longer}
 
 cond-le : (b : Bool) (x y n : ℕ) → x ≤ n → y ≤ n → cond b x y ≤ n
@@ -34,6 +34,11 @@ pub longer-0 : (o : Option ℕ) → o ≡ longer 0 o
 longer-0 none = refl
 longer-0 (some n) = ap (λ (x : ℕ). some x) (omega arith)
 
+pub nothing-owed : (calls ws : List ℕ) → extent calls ws 0 ≡ some 0
+unfolding extent
+nothing-owed calls [] = refl
+nothing-owed calls (w ∷ ws) = refl
+
 module _ (calls t : List ℕ) where
   -- one word read
   pub extent-word : (owed i : ℕ) → 0 < owed → i < length t
@@ -46,29 +51,24 @@ module _ (calls t : List ℕ) where
       same : (a n : ℕ) → a + n ≡ suc n - 1 + a
       same a n = omega arith
 
-  -- what a loop keeps: i words are read, and so many parts are owed from there on
-  abbrev pub Owing : ℕ → ℕ → Type 0
-  Owing owed i = partEnd calls t ≡ longer i (extent calls (drop i t) owed)
+  module _ (n : ℕ) where
+    -- what a loop over the words of n parts keeps: i words are read, and so many parts are owed from there on
+    abbrev pub Owing : ℕ → ℕ → Type 0
+    Owing owed i = extent calls t n ≡ longer i (extent calls (drop i t) owed)
 
-  pub owing-start : Owing 1 0
-  unfolding partEnd
-  owing-start = longer-0 (extent calls t 1)
+    pub owing-start : Owing n 0
+    owing-start = longer-0 (extent calls t n)
 
-  pub owing-word : (owed i : ℕ) → 0 < owed → i < length t → Owing owed i → Owing (owed - 1 + partCount calls (getD t i 0)) (i + 1)
-  owing-word owed i p h e = e ∙ ap (longer i) (extent-word owed i p h)
-      ∙ longer-suc i (extent calls (drop (i + 1) t) (owed - 1 + partCount calls (getD t i 0)))
+    pub owing-word : (owed i : ℕ) → 0 < owed → i < length t → Owing owed i → Owing (owed - 1 + partCount calls (getD t i 0)) (i + 1)
+    owing-word owed i p h e = e ∙ ap (longer i) (extent-word owed i p h)
+        ∙ longer-suc i (extent calls (drop (i + 1) t) (owed - 1 + partCount calls (getD t i 0)))
 
-  pub owing-short : (owed i : ℕ) → 0 < owed → i ≡ length t → Owing owed i → partEnd calls t ≡ none
-  unfolding extent
-  owing-short zero i p h e = absurd (omega arith)
-  owing-short (suc n) i p h e = e ∙ ap (λ (j : ℕ). longer i (extent calls (drop j t) (suc n))) h
-      ∙ ap (λ (l : List ℕ). longer i (extent calls l (suc n))) (drop-length t)
+    pub owing-short : (owed i : ℕ) → 0 < owed → i ≡ length t → Owing owed i → extent calls t n ≡ none
+    unfolding extent
+    owing-short zero i p h e = absurd (omega arith)
+    owing-short (suc n) i p h e = e ∙ ap (λ (j : ℕ). longer i (extent calls (drop j t) (suc n))) h
+        ∙ ap (λ (l : List ℕ). longer i (extent calls l (suc n))) (drop-length t)
 
-  nothing : (ws : List ℕ) → extent calls ws 0 ≡ some 0
-  unfolding extent
-  nothing [] = refl
-  nothing (w ∷ ws) = refl
-
-  pub owing-done : (owed i : ℕ) → owed ≤ 0 → Owing owed i → partEnd calls t ≡ some i
-  owing-done zero i p e = e ∙ ap (longer i) (nothing (drop i t)) ∙ ap (λ (x : ℕ). some x) (add-zero i)
-  owing-done (suc n) i p e = absurd (omega arith)
+    pub owing-done : (owed i : ℕ) → owed ≤ 0 → Owing owed i → extent calls t n ≡ some i
+    owing-done zero i p e = e ∙ ap (longer i) (nothing-owed calls (drop i t)) ∙ ap (λ (x : ℕ). some x) (add-zero i)
+    owing-done (suc n) i p e = absurd (omega arith)

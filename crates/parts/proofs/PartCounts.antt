@@ -1,11 +1,12 @@
--- A call's parts are in the table, any other node's are decided by its kind.
+-- A call's parts are in the calls' table, any other node's are decided by its kind, and a table of the kinds is right if it is at each.
 use mathlib.Core.Path.{_≡_, refl, sym, _∙_, ap}
-use mathlib.Core.Bool.{Bool}
+use mathlib.Core.Bool.{Bool, true, false, _&&_, _||_, not, true≢false}
 use mathlib.Core.List.{List}
-use Prim.Native.Nat.{ℕ, _≤_}
+use Prim.Native.Nat.{ℕ, zero, suc, _≤_, _<_}
 use native.Mathlib.Omega.{arith}
-use borrow.Author.Tests.{le-leb, lt-leb, leb-true, leb-false}
-use lib.Dec.{leb}
+use native.Mathlib.Decide.{ℕ-discrete}
+use borrow.Author.Tests.{le-leb, lt-leb, leb-true, leb-false, eqb-true}
+use lib.Dec.{leb, eqb}
 use Rattle.syntax.specs.Words.{kindOf, numberOf}
 use Rattle.syntax.specs.Tables.{arity}
 use Rattle.syntax.specs.Kinds.{partsOfKind}
@@ -32,3 +33,28 @@ of-kind calls w k r e n p = (
   omega
       (arith, p, parts-le 0 k (omega arith)),
 )
+
+-- a test passes at every number below n
+abbrev pub passes : (ℕ → Bool) → ℕ → Bool
+passes f zero = true
+passes f (suc n) = f n && passes f n
+
+passes-below : (f : ℕ → Bool) (n k : ℕ) → passes f n ≡ true → k < n → f k ≡ true
+passes-below f zero k e l = absurd (omega (arith, l))
+passes-below f (suc n) k e l = go (f n) refl e (ℕ-discrete k n) (λ t d. passes-below f n k t d)
+  where
+    go : (b : Bool) → f n ≡ b → (b && passes f n) ≡ true → Dec (k ≡ n) → (passes f n ≡ true → k < n → f k ≡ true) → f k ≡ true
+    go true d t (yes q) h = ap f q ∙ d
+    go true d t (no q) h = h t (omega (arith, l, q))
+    go false d t q h = absurd (true≢false (sym t))
+
+-- a table of the sixteen kinds that is right at each by computation
+pub kinds-agree : (f g : ℕ → ℕ) → passes (λ j. eqb (f j) (g j)) 16 ≡ true → (k : ℕ) → k < 16 → f k ≡ g k
+kinds-agree f g e k l = eqb-true _ _ (passes-below (λ j. eqb (f j) (g j)) 16 k e l)
+
+pub kinds-imply : (f g : ℕ → Bool) → passes (λ j. not (f j) || g j) 16 ≡ true → (k : ℕ) → k < 16 → f k ≡ true → g k ≡ true
+kinds-imply f g e k l h = implied (f k) (g k) (passes-below (λ j. not (f j) || g j) 16 k e l) h
+  where
+    implied : (b c : Bool) → (not b || c) ≡ true → b ≡ true → c ≡ true
+    implied true c d h = d
+    implied false c d h = absurd (true≢false (sym h))

@@ -3,7 +3,7 @@ use Prim.Native.Nat.{ℕ, _+_, _-_, _≤_}
 use native.Mathlib.Omega.{arith}
 use mathlib.Core.Path.{_≡_, refl, sym, _∙_, ap, subst}
 use mathlib.Core.List.{List, _++_, append-assoc, append-nil}
-use lib.ListN.{length, getD, drop, length-append}
+use lib.ListN.{length, getD, drop}
 use lib.Seq.{drop-drop, drop-append-seam}
 use Rattle.syntax.specs.Words.{kindOf, numberOf}
 use Rattle.syntax.specs.Term.{Term, Terms, done, arg, node}
@@ -11,14 +11,14 @@ use Rattle.syntax.specs.Encoding.{wordOf, encode, encodeAll}
 use Rattle.syntax.specs.Parts.{partCount}
 use Rattle.syntax.specs.Shaped.{count, Shaped}
 use Rattle.syntax.proofs.Nodes.{tail-part}
-use Rattle.syntax.proofs.Sizes.{sizeAll, size-node, size-arg, size-positive}
+use Rattle.syntax.proofs.Sizes.{sizeAll, size-node, size-done, size-arg, size-positive}
 use Rattle.parts.specs.Fronts.{Holds, Starts, HoldsAll, StartsAll, from}
 use Rattle.parts.specs.Joined.{joined}
-use Rattle.parts.specs.Ends.{Sized}
+use Rattle.parts.specs.Ends.{Sized, SizedAll}
 use Rattle.parts.specs.Binding.{outer, inner, outerCount}
 use Rattle.parts.proofs.Joined.{encode-joined, size-joined, joined-shaped, count-joined, joined-assoc}
 use Rattle.parts.proofs.Binding.{node-parts, outer-many}
-use Rattle.parts.proofs.Traversal.{front-of, first-word}
+use Rattle.parts.proofs.Traversal.{front-of, first-word, all-fit}
 use Rattle.parts.proofs.PartsAt.{PartsAt, part-here, parts-past, parts-open, held-first}
 
 -- one term is a row of one
@@ -33,11 +33,21 @@ one-holds {t = t} {rest = rest} h = record {
 abbrev pub one-starts : {calls words : List ℕ} → Starts calls words → StartsAll calls words 1
 one-starts s = record { terms = arg (s .term) done; rest = s .rest; holds = one-holds (s .holds) }
 
+pub one-sized : {calls words : List ℕ} {n : ℕ} → SizedAll calls words 1 n → Sized calls words n
+one-sized s = record {
+  within = s .within;
+  told = λ t rest h. omega (arith, s .told (arg t done) rest (one-holds h), size-arg t done, size-done);
+}
+
 -- a term has a word at least
 pub count-size : (ts : Terms) → count ts ≤ sizeAll ts
 unfolding count
 count-size done = omega arith
 count-size (arg t ts) = omega (arith, count-size ts, size-arg t ts, size-positive t)
+
+-- so a row has no more terms than words
+pub few-terms : {calls words : List ℕ} {n : ℕ} → StartsAll calls words n → n ≤ length words
+few-terms s = omega (arith, count-size (s .terms), s .holds .many, all-fit (s .holds))
 
 -- a row in two: the first a terms, and P of them and the others
 pub record Cut (a : ℕ) (P : Terms → Terms → Type 0) (us : Terms) : Type 0 where
@@ -48,6 +58,11 @@ pub record Cut (a : ℕ) (P : Terms → Terms → Type 0) (us : Terms) : Type 0 
   pub facts : P front later
 
 module _ (calls words : List ℕ) where
+  -- terms at an index stand at the front of the slice from there on
+  pub row-holds : {i : ℕ} {ts : Terms} {rest : List ℕ} → PartsAt calls words i ts rest → (n : ℕ) → count ts ≡ n
+      → HoldsAll calls (from words i) n ts rest
+  row-holds {i} p n e = record { shaped = p .shaped; is = tail-part words i ∙ p .here; many = e }
+
   module _ {i : ℕ} {rest : List ℕ} (ts us : Terms) (p : PartsAt calls words i (joined ts us) rest) where
     here : drop i words ≡ encodeAll ts ++ (encodeAll us ++ rest)
     here = p .here ∙ ap (λ (l : List ℕ). l ++ rest) (encode-joined ts us) ∙ append-assoc (encodeAll ts) (encodeAll us) rest
@@ -57,7 +72,7 @@ module _ (calls words : List ℕ) where
     row-front a e = record { shaped = joined-shaped calls ts us (p .shaped) .0; is = tail-part words i ∙ here; many = e }
 
     -- the others behind them
-    row-behind : (l : ℕ) → l ≡ sizeAll ts → PartsAt calls words (i + l) us rest
+    pub row-behind : (l : ℕ) → l ≡ sizeAll ts → PartsAt calls words (i + l) us rest
     row-behind l e = record {
       shaped = joined-shaped calls ts us (p .shaped) .1;
       here = sym (drop-drop l i words) ∙ ap (drop l) here
@@ -88,7 +103,7 @@ module _ (calls words : List ℕ) where
       here = record {
         shaped = h .shaped;
         here = h .is;
-        inside = omega (arith, ap (λ (l : List ℕ). length l) (h .is), length-append (encodeAll ts) rest);
+        inside = omega (arith, all-fit h);
       };
       many = h .many;
       sized = omega arith;

@@ -1,18 +1,22 @@
 -- The end of the part at the front, as the call answers it, is the size of the term there: a term's words do not run out.
 use Prim.Native.Nat.{ℕ}
 use mathlib.Core.Path.{_≡_, sym, _∙_, ap}
-use mathlib.Core.List.{List}
-use mathlib.Core.Option.{Option·some-injective}
+use mathlib.Core.List.{List, _++_}
+use mathlib.Core.Option.{some, Option·some-injective}
 use native.Mathlib.Omega.{arith}
-use Rattle.syntax.specs.Term.{Term}
-use Rattle.syntax.specs.Encoding.{size}
-use Rattle.syntax.specs.Parts.{partEnd}
-use Rattle.syntax.proofs.Parts.{part-end}
-use Rattle.parts.specs.Fronts.{Holds, Starts}
-use Rattle.parts.specs.Ends.{endOf, Sized}
+use native.Mathlib.Nat.{add-zero}
+use Rattle.syntax.specs.Term.{Term, Terms}
+use Rattle.syntax.specs.Encoding.{size, encodeAll}
+use Rattle.syntax.specs.Shaped.{count}
+use Rattle.syntax.specs.Parts.{extent, partEnd}
+use Rattle.syntax.proofs.Parts.{longer, terms-hold, part-end}
+use Rattle.syntax.proofs.Sizes.{sizeAll}
+use Rattle.parts.specs.Fronts.{Holds, HoldsAll, StartsAll}
+use Rattle.parts.specs.Ends.{endOf, SizedAll}
 use Rattle.parts.specs.declared.ends.End.{End}
 use Rattle.parts.specs.declared.ends.End.the-variants.{At, Short}
-use Rattle.parts.proofs.Traversal.{fits}
+use Rattle.parts.proofs.Traversal.{all-fit}
+use Rattle.parts.proofs.Extents.{nothing-owed}
 
 -- two terms at the front of the same words have the same size
 pub same-size : {calls words : List ℕ} {t u : Term} {rest more : List ℕ} → Holds calls words t rest → Holds calls words u more
@@ -20,19 +24,24 @@ pub same-size : {calls words : List ℕ} {t u : Term} {rest more : List ℕ} →
 same-size {calls} {words} {t} {u} {rest} {more} h g = Option·some-injective (size t) (size u)
     (sym (part-end calls t rest (h .shaped)) ∙ ap (partEnd calls) (sym (h .is) ∙ g .is) ∙ part-end calls u more (g .shaped))
 
-module _ (calls words : List ℕ) where
-  ended : (t : Term) (rest : List ℕ) → Holds calls words t rest → endOf (partEnd calls words) ≡ At (size t)
-  ended t rest h = ap (λ (l : List ℕ). endOf (partEnd calls l)) (h .is) ∙ ap endOf (part-end calls t rest (h .shaped))
+module _ (calls words : List ℕ) (m : ℕ) where
+  ended : (ts : Terms) (rest : List ℕ) → HoldsAll calls words m ts rest → endOf (extent calls words m) ≡ At (sizeAll ts)
+  ended ts rest h = ap endOf
+      (ap (λ (l : List ℕ). extent calls l m) (h .is)
+      ∙ ap (extent calls (encodeAll ts ++ rest)) (sym (add-zero (count ts) ∙ h .many))
+      ∙ terms-hold calls ts (h .shaped) rest 0
+      ∙ ap (longer (sizeAll ts)) (nothing-owed calls rest)
+      ∙ ap (λ (x : ℕ). some x) (add-zero (sizeAll ts)))
 
-  module _ (n : ℕ) {e : End} (s : Starts calls words) (p : e ≡ endOf (partEnd calls words)) where
-    pub sized : e ≡ At n → Sized calls words n
+  module _ (n : ℕ) {e : End} (s : StartsAll calls words m) (p : e ≡ endOf (extent calls words m)) where
+    pub sized : e ≡ At n → SizedAll calls words m n
     sized q =
-        let x = ended (s .term) (s .rest) (s .holds) in
-        let y : n ≡ size (s .term) = cc in
-        record { within = omega (arith, fits (s .holds)); told = λ t rest h. let x = ended t rest h in (cc) }
+        let x = ended (s .terms) (s .rest) (s .holds) in
+        let y : n ≡ sizeAll (s .terms) = cc in
+        record { within = omega (arith, y, all-fit (s .holds)); told = λ ts rest h. let x = ended ts rest h in (cc) }
 
-    pub never-short : e ≡ Short → Sized calls words n
+    pub never-short : e ≡ Short → SizedAll calls words m n
     never-short q =
-        let x = ended (s .term) (s .rest) (s .holds) in
+        let x = ended (s .terms) (s .rest) (s .holds) in
         let z : _≡_ {A = ℕ} 0 1 = cc in
         absurd (omega arith)

@@ -9,7 +9,7 @@ use Rattle.syntax.specs.Encoding.{wordOf, encode, encodeAll, size}
 use Rattle.syntax.specs.Parts.{partCount}
 use Rattle.syntax.specs.Shaped.{count, Shaped, ShapedAll}
 use Rattle.syntax.proofs.Nodes.{encode-node, Front, front, words-of, tail-part, next-part, past-part}
-use Rattle.parts.specs.Fronts.{Holds, Starts, from}
+use Rattle.parts.specs.Fronts.{Holds, HoldsAll, Starts, from}
 
 -- the first word, by its node
 pub front-of : {calls words : List ℕ} {t : Term} {rest : List ℕ} → Holds calls words t rest → Front calls words t rest
@@ -22,6 +22,10 @@ first-word {t = t} {rest = rest} h = ap (λ (l : List ℕ). getD l 0 0) (h .is �
 pub fits : {calls words : List ℕ} {t : Term} {rest : List ℕ} → Holds calls words t rest → size t ≤ length words
 unfolding size
 fits {t = t} {rest = rest} h = omega (arith, ap (λ (l : List ℕ). length l) (h .is), length-append (encode t) rest)
+
+pub all-fit : {calls words : List ℕ} {n : ℕ} {ts : Terms} {rest : List ℕ} → HoldsAll calls words n ts rest
+    → length (encodeAll ts) ≤ length words
+all-fit {ts = ts} {rest = rest} h = omega (arith, ap (λ (l : List ℕ). length l) (h .is), length-append (encodeAll ts) rest)
 
 pub not-empty : {calls words : List ℕ} → Starts calls words → 1 ≤ length words
 unfolding size

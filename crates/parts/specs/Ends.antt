@@ -4,9 +4,9 @@ use mathlib.Core.Path.{_≡_}
 use mathlib.Core.List.{List}
 use mathlib.Core.Option.{Option, some, none}
 use lib.ListN.{length}
-use Rattle.syntax.specs.Term.{Term}
-use Rattle.syntax.specs.Encoding.{size}
-use Rattle.parts.specs.Fronts.{Holds}
+use Rattle.syntax.specs.Term.{Term, Terms}
+use Rattle.syntax.specs.Encoding.{size, encodeAll}
+use Rattle.parts.specs.Fronts.{Holds, HoldsAll}
 use Rattle.parts.specs.declared.ends.End.{End}
 use Rattle.parts.specs.declared.ends.End.the-variants.{At, Short}
 
@@ -18,3 +18,8 @@ endOf (some n) = At n
 pub record Sized (calls words : List ℕ) (n : ℕ) : Type 0 where
   pub within : n ≤ length words
   pub told : (t : Term) (rest : List ℕ) → Holds calls words t rest → n ≡ size t
+
+-- the m terms at the front have so many words
+pub record SizedAll (calls words : List ℕ) (m n : ℕ) : Type 0 where
+  pub within : n ≤ length words
+  pub told : (ts : Terms) (rest : List ℕ) → HoldsAll calls words m ts rest → n ≡ length (encodeAll ts)

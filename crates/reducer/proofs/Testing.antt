@@ -100,14 +100,14 @@ module _ {calls words : List ℕ} {at owed : ℕ} (g : Marching calls words Test
         };
   }
 
-  module _ (lt : 1 ≤ owed) {k : ℕ} (ke : k ≡ kindOf (getD words at 0)) {b : Bool} (be : b ≡ valueKind k) where
+  module _ (lt : 1 ≤ owed) {k : ℕ} (ke : k ≡ kindOf (getD words at 0)) where
     -- a computation
-    pub test-fails : (r : Value) → b ≡ false → r .value ≡ false → Tests calls words r
+    pub test-fails : (r : Value) → valueKind k ≡ false → r .value ≡ false → Tests calls words r
     unfolding allValues
-    test-fails r bf e = record {
+    test-fails r kf e = record {
       told = λ t rest h.
           let v = visit calls words g lt (arg t done) rest (one-holds h) in
-          let c = other-kind (v .term) (ap valueKind (sym (v .kind) ∙ sym ke) ∙ sym be ∙ bf) in
+          let c = other-kind (v .term) (ap valueKind (sym (v .kind) ∙ sym ke) ∙ kf) in
           record {
             value-is = e ∙ sym (sym (values-one t) ∙ v .to-do ∙ ap (λ (x : Bool). x && allValues (v .later)) c);
             end-is = λ d. apart d e;
@@ -124,14 +124,14 @@ module _ {calls words : List ℕ} {at owed : ℕ} (g : Marching calls words Test
         same = ap kindOf (first-from words at)
 
     -- any other value's node: its parts come first
-    pub test-open : (m : ℕ) → b ≡ true → (k ≡ 2 → ⊥) → m ≡ partCount calls (getD words at 0)
+    pub test-open : (m : ℕ) → valueKind k ≡ true → (k ≡ 2 → ⊥) → m ≡ partCount calls (getD words at 0)
         → Marching calls words Testing 1 (at + 1) (owed - 1 + m)
     unfolding allValues
-    test-open m bt k2 me = march-on calls words g lt Testing (owed - 1 + m) (omega (arith, me)) λ ts rest v.
+    test-open m kt k2 me = march-on calls words g lt Testing (owed - 1 + m) (omega (arith, me)) λ ts rest v.
         let t = v .term in
         let f : node t .kind ≡ k = sym (v .kind) ∙ sym ke in
         v .to-do
-        ∙ ap (λ (x : Bool). x && allValues (v .later)) (value-parts t (ap valueKind f ∙ sym be ∙ bt) (λ d. k2 (sym f ∙ d)))
+        ∙ ap (λ (x : Bool). x && allValues (v .later)) (value-parts t (ap valueKind f ∙ kt) (λ d. k2 (sym f ∙ d)))
         ∙ sym (values-joined (node t .parts) (v .later))
         ∙ ap (λ (x : Terms). allValues (joined x (v .later))) (node-parts t)
         ∙ ap allValues (joined-assoc (outer t) (inner t) (v .later))

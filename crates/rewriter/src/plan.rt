@@ -9,6 +9,8 @@ ghost use Rattle.reduction.specs.declared.Rule.the-variants.{LetInsertion, LetO
 ghost use Rattle.reduction.specs.declared.Rule.the-variants.{LetValue, Drop};
 ghost use Rattle.rewriter.specs.Plans.{StartsRedex, BodyWith, Measures};
 use parts::ends::part_size;
+use parts::ends::parts_size;
+use parts::shape::owed_count;
 use parts::uses::Uses;
 use parts::uses::count_uses;
 use reducer::fits::first_computation;
@@ -224,13 +226,15 @@ fn let_of_case(calls: &[u64], t: &[u64]) -> Measured
     }
 }
 
-// let insertion: a let and a variable more
+// let insertion: a let and a variable more; only the parts behind the one that is bound are still to be measured
 fn let_insertion(calls: &[u64], t: &[u64]) -> Measured
     requires { ⌜ StartsRedex LetInsertion (now calls) (now t) × (length (now t) ≤ 8192) ⌝ }
     ensures { λ r. ⌜ Measures LetInsertion (now (calls .entry)) (now (t .entry)) r ⌝ }
 {
     let operand = first_computation(calls, t);
-    let size = part_size(calls, t);
+    let behind = operand.start + operand.size;
+    let n = owed_count(calls, t[0]);
+    let size = behind + parts_size(calls, &t[behind..], n - 1 - operand.index);
     Measured {
         plan: Plan::Insert(operand.index, operand.start, operand.size),
         read: size,
