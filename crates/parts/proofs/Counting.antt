@@ -24,7 +24,7 @@ use Rattle.parts.specs.declared.uses.Uses.{Uses}
 use Rattle.parts.proofs.Binding.{uses-binding}
 use Rattle.parts.proofs.Variables.{kind-0}
 use Rattle.parts.proofs.Gathering.{Gathering, ahead, ahead-one, ahead-opened, Near, near-begin, near-opened}
-use Rattle.parts.proofs.Rows.{Marching, march-from, march-inside, march-end, march-on, one-starts, one-holds}
+use Rattle.parts.proofs.Rows.{Marching, march-from, march-inside, march-fits, march-end, march-on, march-parts, one-starts, one-holds}
 
 -- the uses of terms at their depths
 abbrev pub used : Gathering ℕ
@@ -102,9 +102,13 @@ module _ {calls words p : List ℕ} {d owed at u : ℕ} (g : Tally calls words p
   }
 
   module _ (lt : 1 ≤ owed) (far : d + length words ≤ 65536) where
-    -- the next part's depth
-    pub tally-depth : getD p (owed - 1) 0 ≤ 65536
-    tally-depth = omega (arith, g .near (owed - 1) (omega (arith, lt)), far, tally-inside)
+    -- the depths of the node's parts have room
+    pub tally-opens : (owed - 1 + 3 ≤ length p) × (owed - 1 + partCount calls (getD words at 0) ≤ length p) × (getD p (owed - 1) 0 ≤ 65536)
+    tally-opens = (
+      omega (arith, tally-inside, g .space, lt),
+      omega (arith, march-parts calls words (g .going) lt, march-fits calls words (g .going), g .space),
+      omega (arith, g .near (owed - 1) (omega (arith, lt)), far, tally-inside),
+    )
 
     -- a node
     pub count-node : (q : List ℕ) (s r : ℕ) → length q ≡ length p → s ≡ counts (eqb (getD words at 0) (pack 0 (getD p (owed - 1) 0) 0)) → s ≤ 1
@@ -131,7 +135,7 @@ module _ {calls words p : List ℕ} {d owed at u : ℕ} (g : Tally calls words p
                 se,
                 ap (λ (i : ℕ). uses (v .term) (getD p i 0)) c,
                 ap (λ (x : ℕ). counts (eqb x (pack 0 under 0))) (v .word),
-                uses-node (v .term) under (omega (arith, tally-depth)),
+                uses-node (v .term) under (omega (arith, tally-opens .2)),
                 a,
               );
         }

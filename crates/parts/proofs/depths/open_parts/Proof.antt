@@ -25,13 +25,19 @@ open-parts-spec =
     (λ c.
     let at-last-binder = c .before in
     let start = at-last-binder .before .before .before .before .before in
-    omega (arith, start .pre .0, length-set (start .args .pending .now) (start .args .last) (start .args .depth + at-last-binder .last-binder .result)))
+    let a = start .args in
+    let x = a .depth + at-last-binder .last-binder .result in
+    omega (arith, start .pre .0, length-set (a .pending .now) (a .last) x))
     (λ c. search needs)
     (λ c. search needs)
     (λ c.
     let at-last-binder = c .before in
     let start = at-last-binder .before .before .before .before .before in
-    omega (arith, start .pre .0, length-set (start .args .pending .now) (start .args .last) (start .args .depth + at-last-binder .last-binder .result), length-set (set (start .args .pending .now) (start .args .last) (start .args .depth + at-last-binder .last-binder .result)) (start .args .last + 1) (start .args .depth + c .middle-binder .result)))
+    let a = start .args in
+    let x = a .depth + at-last-binder .last-binder .result in
+    let y = a .depth + c .middle-binder .result in
+    let p = set (a .pending .now) (a .last) x in
+    omega (arith, start .pre .0, length-set (a .pending .now) (a .last) x, length-set p (a .last + 1) y))
     (λ c. search needs)
     (λ c. search needs)
     (λ c κs.
@@ -40,14 +46,21 @@ open-parts-spec =
     let at-last-binder = at-middle-binder .before in
     let at-owed-count = at-last-binder .before in
     let start = at-owed-count .before .before .before .before in
-    (omega (arith, at-if1 .if1 .taken), omega (arith, start .pre .1, at-owed-count .owed-count .ensures .0, three-length (start .args .pending .now) (start .args .last) (start .args .depth + at-last-binder .last-binder .result) (start .args .depth + at-middle-binder .middle-binder .result) (start .args .depth))))
+    let a = start .args in
+    let x = a .depth + at-last-binder .last-binder .result in
+    let y = a .depth + at-middle-binder .middle-binder .result in
+    let e = three-length (a .pending .now) (a .last) x y (a .depth) in
+    (omega (arith, at-if1 .if1 .taken), omega (arith, start .pre .1, at-owed-count .owed-count .ensures .0, e)))
     (λ c. search needs)
     (λ c.
     let at-fill = c .before .before in
     let at-middle-binder = at-fill .before .before .before in
     let at-last-binder = at-middle-binder .before in
     let start = at-last-binder .before .before .before .before .before in
-    at-fill .fill .kept .0 ∙ three-length (start .args .pending .now) (start .args .last) (start .args .depth + at-last-binder .last-binder .result) (start .args .depth + at-middle-binder .middle-binder .result) (start .args .depth))
+    let a = start .args in
+    let x = a .depth + at-last-binder .last-binder .result in
+    let y = a .depth + at-middle-binder .middle-binder .result in
+    at-fill .fill .kept .0 ∙ three-length (a .pending .now) (a .last) x y (a .depth))
     (λ c.
     let at-fill = c .before .before in
     let at-middle-binder = at-fill .before .before .before in
@@ -55,17 +68,24 @@ open-parts-spec =
     let at-owed-count = at-last-binder .before in
     let at-kind = at-owed-count .before in
     let start = at-kind .before .before .before in
-    filled-opens _ _ _ _ _ _ _ _ _ _ (at-kind .kind .ensures) (at-owed-count .owed-count .ensures .0) (at-last-binder .last-binder .ensures .0) (at-middle-binder .middle-binder .ensures .0) (start .pre .0) (at-fill .fill .ensures))
+    let x = at-last-binder .last-binder .ensures .0 in
+    let y = at-middle-binder .middle-binder .ensures .0 in
+    filled-opens _ _ _ _ _ _ _ _ _ _ (at-kind .kind .ensures) (at-owed-count .owed-count .ensures .0) x y (start .pre .0) (at-fill .fill .ensures))
     (λ c. search needs)
     (λ c.
     let at-middle-binder = c .before in
     let at-last-binder = at-middle-binder .before in
     let start = at-last-binder .before .before .before .before .before in
-    three-length (start .args .pending .now) (start .args .last) (start .args .depth + at-last-binder .last-binder .result) (start .args .depth + at-middle-binder .middle-binder .result) (start .args .depth))
+    let a = start .args in
+    let x = a .depth + at-last-binder .last-binder .result in
+    let y = a .depth + at-middle-binder .middle-binder .result in
+    three-length (a .pending .now) (a .last) x y (a .depth))
     (λ c.
     let at-middle-binder = c .before in
     let at-last-binder = at-middle-binder .before in
     let at-owed-count = at-last-binder .before in
     let at-kind = at-owed-count .before in
     let start = at-kind .before .before .before in
-    filled-opens _ _ _ _ _ _ _ _ _ _ (at-kind .kind .ensures) (at-owed-count .owed-count .ensures .0) (at-last-binder .last-binder .ensures .0) (at-middle-binder .middle-binder .ensures .0) (start .pre .0) (three-filled _ _ _ _ (omega (arith, c .if1 .left)))))
+    let x = at-last-binder .last-binder .ensures .0 in
+    let y = at-middle-binder .middle-binder .ensures .0 in
+    filled-opens _ _ _ _ _ _ _ _ _ _ (at-kind .kind .ensures) (at-owed-count .owed-count .ensures .0) x y (start .pre .0) (three-filled _ _ _ _ (omega (arith, c .if1 .left)))))

@@ -5,8 +5,8 @@ use native.Mathlib.Omega.{arith}
 use mathlib.Core.Path.{_≡_, refl, _∙_}
 use lib.ListN.{length, length-set}
 use Rattle.syntax.specs.Substitution.{renaming}
-use Rattle.parts.proofs.Rows.{march-inside, march-fits, march-parts}
-use Rattle.parts.proofs.Tracing.{trace-inside, trace-depth, trace-room}
+use Rattle.parts.proofs.Rows.{march-inside}
+use Rattle.parts.proofs.Tracing.{trace-opens, trace-room}
 use Rattle.parts.proofs.Renaming.{raises, Renaming, rename-begin, rename-node, rename-end}
 use Rattle.parts.proofs.rename.rename_into.Statement.{statement}
 use Rattle.parts.proofs.rename.rename_into.Tie as tie
@@ -28,7 +28,8 @@ rename-into-spec =
     omega (arith, start .pre .3))
     (λ c.
     let start = c .before .before .before .before in
-    (rename-begin (start .args .pending .now) (start .args .cut) (start .args .by) (start .pre .0) (start .pre .3), refl))
+    let a = start .args in
+    (rename-begin (a .pending .now) (a .cut) (a .by) (start .pre .0) (start .pre .3), refl))
     (λ c.
     let at-loop = c .before in
     let start = at-loop .before .before .before .before .before in
@@ -48,7 +49,7 @@ rename-into-spec =
     let at-loop-test = c .before .before in
     let at-loop = at-loop-test .before in
     let start = at-loop .before .before .before .before .before in
-    omega (arith, march-inside _ _ (at-loop .loop .inv .0 .going), at-loop .loop .inv .1, length-set (start .args .pending .now) 0 (start .args .cut), start .pre .3, at-loop-test .loop-test .taken))
+    omega (arith, trace-opens renaming (raises (start .args .by)) (at-loop .loop .inv .0) (at-loop-test .loop-test .taken) (omega arith) (start .pre .1) .0))
     (λ c κs.
     let start = c .before .before .before .before .before .before .before .before in
     start .pre .2)
@@ -56,22 +57,26 @@ rename-into-spec =
     let at-loop-test = c .before .before .before in
     let at-loop = at-loop-test .before in
     let start = at-loop .before .before .before .before .before in
-    omega (arith, trace-room renaming (raises (start .args .by)) (at-loop .loop .inv .0) (at-loop-test .loop-test .taken) _ _ refl refl, at-loop .loop .inv .0 .len, start .good))
+    let room = trace-room renaming (raises (start .args .by)) (at-loop .loop .inv .0) (at-loop-test .loop-test .taken) _ _ refl refl in
+    omega (arith, room, at-loop .loop .inv .0 .len, start .good))
     (λ c.
     let at-loop-test = c .before .before .before in
     let at-loop = at-loop-test .before in
     let start = at-loop .before .before .before .before .before in
-    omega (arith, trace-room renaming (raises (start .args .by)) (at-loop .loop .inv .0) (at-loop-test .loop-test .taken) _ _ refl refl, at-loop .loop .inv .0 .len, start .good))
+    let room = trace-room renaming (raises (start .args .by)) (at-loop .loop .inv .0) (at-loop-test .loop-test .taken) _ _ refl refl in
+    omega (arith, room, at-loop .loop .inv .0 .len, start .good))
     (λ c.
     let at-loop-test = c .before .before .before in
     let at-loop = at-loop-test .before in
     let start = at-loop .before .before .before .before .before in
-    omega (arith, trace-room renaming (raises (start .args .by)) (at-loop .loop .inv .0) (at-loop-test .loop-test .taken) _ _ refl refl))
+    let room = trace-room renaming (raises (start .args .by)) (at-loop .loop .inv .0) (at-loop-test .loop-test .taken) _ _ refl refl in
+    omega (arith, room))
     (λ c κs.
     let at-loop-test = c .before .before .before .before in
     let at-loop = at-loop-test .before in
     let start = at-loop .before .before .before .before .before in
-    (omega (arith, march-inside _ _ (at-loop .loop .inv .0 .going), at-loop .loop .inv .1, length-set (start .args .pending .now) 0 (start .args .cut), start .pre .3, at-loop-test .loop-test .taken), omega (arith, march-parts _ _ (at-loop .loop .inv .0 .going) (at-loop-test .loop-test .taken), at-loop .loop .inv .0 .spare), omega (arith, trace-depth renaming (raises (start .args .by)) (at-loop .loop .inv .0) (at-loop-test .loop-test .taken) _ _ refl refl, march-inside _ _ (at-loop .loop .inv .0 .going), start .pre .1)))
+    let o = trace-opens renaming (raises (start .args .by)) (at-loop .loop .inv .0) (at-loop-test .loop-test .taken) (omega arith) (start .pre .1) in
+    (o .0, o .1, omega (arith, o .2)))
     (λ c.
     let at-loop = c .before .before .before .before .before .before .before .before in
     let start = at-loop .before .before .before .before .before in
@@ -86,7 +91,8 @@ rename-into-spec =
     let at-loop-test = at-raised .before .before .before in
     let at-loop = at-loop-test .before in
     let start = at-loop .before .before .before .before .before in
-    (rename-node (start .args .by) (at-loop .loop .inv .0) (at-loop-test .loop-test .taken) _ _ _ (at-open-parts .open-parts .kept .1 .1 .1 .0) (at-raised .raised .ensures) (at-open-parts .open-parts .ensures), at-open-parts .open-parts .kept .1 .1 .1 .0 ∙ at-loop .loop .inv .1))
+    let kept = at-open-parts .open-parts .kept .1 .1 .1 .0 in
+    (rename-node (start .args .by) (at-loop .loop .inv .0) (at-loop-test .loop-test .taken) _ _ _ kept (at-raised .raised .ensures) (at-open-parts .open-parts .ensures), kept ∙ at-loop .loop .inv .1))
     (λ c.
     let at-loop = c .before in
     at-loop .loop .inv .0 .len)

@@ -20,13 +20,15 @@ lowered-spec =
     let at-if1 = at-number .before in
     let at-kind = at-if1 .before in
     let start = at-kind .before in
-    both-hold _ _ _ _ (eq-eqb _ _ (sym (at-kind .kind .ensures) ∙ at-if1 .if1 .taken)) (lt-ltb (start .args .depth) (numberOf (start .args .w)) (omega (arith, c .if2 .taken, at-number .number .ensures))))
+    let test = lt-ltb (start .args .depth) (numberOf (start .args .w)) (omega (arith, c .if2 .taken, at-number .number .ensures)) in
+    both-hold _ _ _ _ (eq-eqb _ _ (sym (at-kind .kind .ensures) ∙ at-if1 .if1 .taken)) test)
     (λ c.
     let at-number = c .before in
     let at-if1 = at-number .before in
     let at-kind = at-if1 .before in
     let start = at-kind .before in
-    second-fails _ _ _ _ (eq-eqb _ _ (sym (at-kind .kind .ensures) ∙ at-if1 .if1 .taken)) (le-ltb (start .args .depth) (numberOf (start .args .w)) (omega (arith, c .if2 .left, at-number .number .ensures))))
+    let test = le-ltb (start .args .depth) (numberOf (start .args .w)) (omega (arith, c .if2 .left, at-number .number .ensures)) in
+    second-fails _ _ _ _ (eq-eqb _ _ (sym (at-kind .kind .ensures) ∙ at-if1 .if1 .taken)) test)
     (λ c.
     let at-kind = c .before in
     first-fails _ _ _ _ (ne-eqb _ _ (λ e. c .if1 .left (at-kind .kind .ensures ∙ e)))))

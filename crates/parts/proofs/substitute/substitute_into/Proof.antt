@@ -6,9 +6,10 @@ use native.Mathlib.Omega.{arith}
 use mathlib.Core.Path.{_≡_, refl, _∙_}
 use lib.ListN.{length, length-set}
 use Rattle.syntax.specs.Substitution.{substitution}
-use Rattle.parts.proofs.Rows.{march-inside, march-within, march-parts}
-use Rattle.parts.proofs.Tracing.{trace-inside, trace-depth, trace-room}
-use Rattle.parts.proofs.Substituting.{valued, Substituting, substitute-begin, substitute-node, substitute-end, value-room, substitute-value}
+use Rattle.parts.proofs.Rows.{march-inside, march-within}
+use Rattle.parts.proofs.Tracing.{trace-opens, trace-room}
+use Rattle.parts.proofs.Substituting.{valued, Substituting, substitute-begin, substitute-node, substitute-end}
+use Rattle.parts.proofs.Substituting.{value-room, substitute-value}
 use Rattle.parts.proofs.substitute.substitute_into.Statement.{statement}
 use Rattle.parts.proofs.substitute.substitute_into.Tie as tie
 
@@ -48,7 +49,10 @@ substitute-into-spec =
     (λ c.
     let at-loop-test = c .before .before in
     let at-loop = at-loop-test .before in
-    omega (arith, march-within _ _ (at-loop .loop .inv .0 .going), at-loop .loop .inv .0 .spare, at-loop-test .loop-test .taken))
+    let start = at-loop .before .before .before .before .before .before in
+    let f = valued (start .args .calls .now) (start .args .value .now) in
+    let o = trace-opens substitution f (at-loop .loop .inv .0) (at-loop-test .loop-test .taken) (omega arith) (start .pre .1 .0) in
+    omega (arith, o .0))
     (λ c.
     let at-loop = c .before .before .before in
     let start = at-loop .before .before .before .before .before .before in
@@ -57,12 +61,16 @@ substitute-into-spec =
     let at-loop-test = c .before .before in
     let at-loop = at-loop-test .before in
     let start = at-loop .before .before .before .before .before .before in
-    omega (arith, trace-depth substitution (valued (start .args .calls .now) (start .args .value .now)) (at-loop .loop .inv .0) (at-loop-test .loop-test .taken) _ _ refl refl, march-inside _ _ (at-loop .loop .inv .0 .going), start .pre .1 .0))
+    let f = valued (start .args .calls .now) (start .args .value .now) in
+    let o = trace-opens substitution f (at-loop .loop .inv .0) (at-loop-test .loop-test .taken) (omega arith) (start .pre .1 .0) in
+    omega (arith, o .2))
     (λ c.
     let at-loop-test = c .before .before .before .before in
     let at-loop = at-loop-test .before in
     let start = at-loop .before .before .before .before .before .before in
-    omega (arith, trace-room substitution (valued (start .args .calls .now) (start .args .value .now)) (at-loop .loop .inv .0) (at-loop-test .loop-test .taken) _ _ refl refl, at-loop .loop .inv .0 .len, start .good))
+    let f = valued (start .args .calls .now) (start .args .value .now) in
+    let room = trace-room substitution f (at-loop .loop .inv .0) (at-loop-test .loop-test .taken) _ _ refl refl in
+    omega (arith, room, at-loop .loop .inv .0 .len, start .good))
     (λ c.
     let at-loop = c .before .before .before .before .before in
     let start = at-loop .before .before .before .before .before .before in
@@ -79,14 +87,20 @@ substitute-into-spec =
     let at-loop-test = at-if1 .before .before .before in
     let at-loop = at-loop-test .before in
     let start = at-loop .before .before .before .before .before .before in
-    ((start .pre .0 .whole, value-room (at-loop .loop .inv .0) (at-loop-test .loop-test .taken) _ _ refl refl (omega (arith, at-if1 .if1 .taken)) (omega (arith, trace-depth substitution (valued (start .args .calls .now) (start .args .value .now)) (at-loop .loop .inv .0) (at-loop-test .loop-test .taken) _ _ refl refl, march-inside _ _ (at-loop .loop .inv .0 .going), start .pre .1 .0)), start .pre .1 .1, omega (arith, trace-depth substitution (valued (start .args .calls .now) (start .args .value .now)) (at-loop .loop .inv .0) (at-loop-test .loop-test .taken) _ _ refl refl, march-inside _ _ (at-loop .loop .inv .0 .going), start .pre .1 .0)), omega (arith, march-within _ _ (at-loop .loop .inv .0 .going), at-loop .loop .inv .0 .spare)))
+    let f = valued (start .args .calls .now) (start .args .value .now) in
+    let o = trace-opens substitution f (at-loop .loop .inv .0) (at-loop-test .loop-test .taken) (omega arith) (start .pre .1 .0) in
+    let room = value-room (at-loop .loop .inv .0) (at-loop-test .loop-test .taken) _ _ refl refl (omega (arith, at-if1 .if1 .taken)) (omega (arith, o .2)) in
+    ((start .pre .0 .whole, room, start .pre .1 .1, o .2), omega (arith, march-within _ _ (at-loop .loop .inv .0 .going), at-loop .loop .inv .0 .spare)))
     (λ c.
     let at-put-value = c .before .before .before .before in
     let at-if1 = at-put-value .before .before .before in
     let at-loop-test = at-if1 .before .before .before in
     let at-loop = at-loop-test .before in
     let start = at-loop .before .before .before .before .before .before in
-    omega (arith, value-room (at-loop .loop .inv .0) (at-loop-test .loop-test .taken) _ _ refl refl (omega (arith, at-if1 .if1 .taken)) (omega (arith, trace-depth substitution (valued (start .args .calls .now) (start .args .value .now)) (at-loop .loop .inv .0) (at-loop-test .loop-test .taken) _ _ refl refl, march-inside _ _ (at-loop .loop .inv .0 .going), start .pre .1 .0)), at-put-value .put-value .ensures .size-is, at-loop .loop .inv .0 .len, start .good))
+    let f = valued (start .args .calls .now) (start .args .value .now) in
+    let o = trace-opens substitution f (at-loop .loop .inv .0) (at-loop-test .loop-test .taken) (omega arith) (start .pre .1 .0) in
+    let room = value-room (at-loop .loop .inv .0) (at-loop-test .loop-test .taken) _ _ refl refl (omega (arith, at-if1 .if1 .taken)) (omega (arith, o .2)) in
+    omega (arith, room, at-put-value .put-value .ensures .size-is, at-loop .loop .inv .0 .len, start .good))
     (λ c.
     let at-loop-test = c .before .before .before .before .before .before .before .before .before .before in
     let at-loop = at-loop-test .before in
@@ -97,33 +111,51 @@ substitute-into-spec =
     let at-loop-test = at-if1 .before .before .before in
     let at-loop = at-loop-test .before in
     let start = at-loop .before .before .before .before .before .before in
-    (substitute-value (at-loop .loop .inv .0) (at-loop-test .loop-test .taken) _ _ refl refl (omega (arith, at-if1 .if1 .taken)) (omega (arith, trace-depth substitution (valued (start .args .calls .now) (start .args .value .now)) (at-loop .loop .inv .0) (at-loop-test .loop-test .taken) _ _ refl refl, march-inside _ _ (at-loop .loop .inv .0 .going), start .pre .1 .0)) (at-put-value .put-value .last .1 .1 .1 .1 .1 .0) _ (length (at-loop .loop .pending) - at-loop .loop .owed) _ (at-put-value .put-value .kept .1 .1 .1 .1 .1 .0) (at-put-value .put-value .kept .1 .1 .0) (at-put-value .put-value .ensures), same-len-mid (at-loop .loop .owed) (length (at-loop .loop .pending) - at-loop .loop .owed) (at-loop .loop .pending) (at-put-value .put-value .last .1 .1 .1 .1 .1 .0) (at-put-value .put-value .kept .1 .1 .1 .1 .1 .0) ∙ at-loop .loop .inv .1))
+    let f = valued (start .args .calls .now) (start .args .value .now) in
+    let o = trace-opens substitution f (at-loop .loop .inv .0) (at-loop-test .loop-test .taken) (omega arith) (start .pre .1 .0) in
+    let k = length (at-loop .loop .pending) - at-loop .loop .owed in
+    let ys = at-put-value .put-value .last .1 .1 .1 .1 .1 .0 in
+    let many = at-put-value .put-value .kept .1 .1 .1 .1 .1 .0 in (
+      substitute-value (at-loop .loop .inv .0) (at-loop-test .loop-test .taken) _ _ refl refl (omega (arith, at-if1 .if1 .taken)) (omega (arith, o .2)) ys _ k _ many
+          (at-put-value .put-value .kept .1 .1 .0) (at-put-value .put-value .ensures),
+      same-len-mid (at-loop .loop .owed) k (at-loop .loop .pending) ys many ∙ at-loop .loop .inv .1,
+    ))
     (λ c κs. search needs)
     (λ c.
     let at-loop-test = c .before .before .before .before in
     let at-loop = at-loop-test .before in
     let start = at-loop .before .before .before .before .before .before in
-    omega (arith, trace-room substitution (valued (start .args .calls .now) (start .args .value .now)) (at-loop .loop .inv .0) (at-loop-test .loop-test .taken) _ _ refl refl, at-loop .loop .inv .0 .len, start .good))
+    let f = valued (start .args .calls .now) (start .args .value .now) in
+    let room = trace-room substitution f (at-loop .loop .inv .0) (at-loop-test .loop-test .taken) _ _ refl refl in
+    omega (arith, room, at-loop .loop .inv .0 .len, start .good))
     (λ c.
     let at-loop-test = c .before .before .before .before in
     let at-loop = at-loop-test .before in
     let start = at-loop .before .before .before .before .before .before in
-    omega (arith, trace-room substitution (valued (start .args .calls .now) (start .args .value .now)) (at-loop .loop .inv .0) (at-loop-test .loop-test .taken) _ _ refl refl, at-loop .loop .inv .0 .len, start .good))
+    let f = valued (start .args .calls .now) (start .args .value .now) in
+    let room = trace-room substitution f (at-loop .loop .inv .0) (at-loop-test .loop-test .taken) _ _ refl refl in
+    omega (arith, room, at-loop .loop .inv .0 .len, start .good))
     (λ c.
     let at-loop-test = c .before .before .before .before in
     let at-loop = at-loop-test .before in
     let start = at-loop .before .before .before .before .before .before in
-    omega (arith, trace-room substitution (valued (start .args .calls .now) (start .args .value .now)) (at-loop .loop .inv .0) (at-loop-test .loop-test .taken) _ _ refl refl))
+    let f = valued (start .args .calls .now) (start .args .value .now) in
+    let room = trace-room substitution f (at-loop .loop .inv .0) (at-loop-test .loop-test .taken) _ _ refl refl in
+    omega (arith, room))
     (λ c.
     let at-loop-test = c .before .before .before .before in
     let at-loop = at-loop-test .before in
     let start = at-loop .before .before .before .before .before .before in
-    omega (arith, trace-room substitution (valued (start .args .calls .now) (start .args .value .now)) (at-loop .loop .inv .0) (at-loop-test .loop-test .taken) _ _ refl refl, at-loop .loop .inv .0 .len, start .good))
+    let f = valued (start .args .calls .now) (start .args .value .now) in
+    let room = trace-room substitution f (at-loop .loop .inv .0) (at-loop-test .loop-test .taken) _ _ refl refl in
+    omega (arith, room, at-loop .loop .inv .0 .len, start .good))
     (λ c κs.
     let at-loop-test = c .before .before .before .before .before in
     let at-loop = at-loop-test .before in
     let start = at-loop .before .before .before .before .before .before in
-    (omega (arith, march-within _ _ (at-loop .loop .inv .0 .going), at-loop .loop .inv .0 .spare, at-loop-test .loop-test .taken), omega (arith, march-parts _ _ (at-loop .loop .inv .0 .going) (at-loop-test .loop-test .taken), at-loop .loop .inv .0 .spare), omega (arith, trace-depth substitution (valued (start .args .calls .now) (start .args .value .now)) (at-loop .loop .inv .0) (at-loop-test .loop-test .taken) _ _ refl refl, march-inside _ _ (at-loop .loop .inv .0 .going), start .pre .1 .0)))
+    let f = valued (start .args .calls .now) (start .args .value .now) in
+    let o = trace-opens substitution f (at-loop .loop .inv .0) (at-loop-test .loop-test .taken) (omega arith) (start .pre .1 .0) in
+    (o .0, o .1, omega (arith, o .2)))
     (λ c.
     let at-loop-test = c .before .before .before .before .before .before .before .before in
     let at-loop = at-loop-test .before in
@@ -134,7 +166,10 @@ substitute-into-spec =
     let at-if1 = at-lowered .before in
     let at-loop-test = at-if1 .before .before .before in
     let at-loop = at-loop-test .before in
-    (substitute-node (at-loop .loop .inv .0) (at-loop-test .loop-test .taken) (λ e. at-if1 .if1 .left (omega (arith, e))) _ _ _ (at-open-parts .open-parts .kept .1 .1 .1 .0) (at-lowered .lowered .ensures) (at-open-parts .open-parts .ensures), at-open-parts .open-parts .kept .1 .1 .1 .0 ∙ at-loop .loop .inv .1))
+    let kept = at-open-parts .open-parts .kept .1 .1 .1 .0 in (
+      substitute-node (at-loop .loop .inv .0) (at-loop-test .loop-test .taken) (λ e. at-if1 .if1 .left (omega (arith, e))) _ _ _ kept (at-lowered .lowered .ensures) (at-open-parts .open-parts .ensures),
+      kept ∙ at-loop .loop .inv .1,
+    ))
     (λ c.
     let at-loop = c .before in
     at-loop .loop .inv .0 .len)

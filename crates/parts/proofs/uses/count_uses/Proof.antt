@@ -4,8 +4,7 @@ use Prim.Native.Nat.{ℕ, _-_}
 use native.Mathlib.Omega.{arith}
 use mathlib.Core.Path.{_≡_, refl, _∙_}
 use lib.ListN.{length, length-set}
-use Rattle.parts.proofs.Rows.{march-fits, march-parts}
-use Rattle.parts.proofs.Counting.{Tally, count-begin, tally-inside, tally-depth, count-node, count-end}
+use Rattle.parts.proofs.Counting.{Tally, count-begin, tally-inside, tally-opens, count-node, count-end}
 use Rattle.parts.proofs.uses.count_uses.Statement.{statement}
 use Rattle.parts.proofs.uses.count_uses.Tie as tie
 
@@ -45,12 +44,13 @@ count-uses-spec =
     (λ c.
     let at-loop-test = c .before .before in
     let at-loop = at-loop-test .before in
-    omega (arith, tally-inside (at-loop .loop .inv .0), at-loop .loop .inv .0 .space, at-loop-test .loop-test .taken))
+    let start = at-loop .before .before .before .before in
+    omega (arith, tally-opens (at-loop .loop .inv .0) (at-loop-test .loop-test .taken) (start .pre .1) .0))
     (λ c κs.
     let at-loop-test = c .before .before in
     let at-loop = at-loop-test .before in
     let start = at-loop .before .before .before .before in
-    omega (arith, tally-depth (at-loop .loop .inv .0) (at-loop-test .loop-test .taken) (start .pre .1)))
+    omega (arith, tally-opens (at-loop .loop .inv .0) (at-loop-test .loop-test .taken) (start .pre .1) .2))
     (λ c.
     let at-loop = c .before .before .before .before in
     let start = at-loop .before .before .before .before in
@@ -59,7 +59,8 @@ count-uses-spec =
     let at-loop-test = c .before .before .before .before in
     let at-loop = at-loop-test .before in
     let start = at-loop .before .before .before .before in
-    (omega (arith, tally-inside (at-loop .loop .inv .0), at-loop .loop .inv .0 .space, at-loop-test .loop-test .taken), omega (arith, march-parts _ _ (at-loop .loop .inv .0 .going) (at-loop-test .loop-test .taken), march-fits _ _ (at-loop .loop .inv .0 .going), at-loop .loop .inv .0 .space), omega (arith, tally-depth (at-loop .loop .inv .0) (at-loop-test .loop-test .taken) (start .pre .1))))
+    let o = tally-opens (at-loop .loop .inv .0) (at-loop-test .loop-test .taken) (start .pre .1) in
+    (o .0, o .1, omega (arith, o .2)))
     (λ c.
     let at-loop = c .before .before .before .before .before .before .before .before in
     let start = at-loop .before .before .before .before in
@@ -74,7 +75,9 @@ count-uses-spec =
     let at-loop-test = at-is-variable .before .before .before in
     let at-loop = at-loop-test .before in
     let start = at-loop .before .before .before .before in
-    (count-node (at-loop .loop .inv .0) (at-loop-test .loop-test .taken) (start .pre .1) _ _ _ (at-open-parts .open-parts .kept .1 .1 .1 .0) (at-is-variable .is-variable .ensures .0) (at-is-variable .is-variable .ensures .1) (at-open-parts .open-parts .ensures), at-open-parts .open-parts .kept .1 .1 .1 .0 ∙ at-loop .loop .inv .1))
+    let kept = at-open-parts .open-parts .kept .1 .1 .1 .0 in
+    let s = at-is-variable .is-variable .ensures in
+    (count-node (at-loop .loop .inv .0) (at-loop-test .loop-test .taken) (start .pre .1) _ _ _ kept (s .0) (s .1) (at-open-parts .open-parts .ensures), kept ∙ at-loop .loop .inv .1))
     (λ c.
     let at-loop = c .before in
     let start = at-loop .before .before .before .before in
