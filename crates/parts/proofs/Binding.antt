@@ -4,10 +4,7 @@ use Prim.Native.Nat.{ℕ, suc, _+_}
 use native.Mathlib.Omega.{arith}
 use mathlib.Core.Path.{_≡_, refl, sym, ap}
 use mathlib.Core.Logic.{_≢_}
-use mathlib.Core.Bool.{Bool, true, false, _&&_, true≢false}
 use mathlib.Core.List.{List, _∷_, _++_, append-nil}
-use lib.Dec.{eqb}
-use borrow.Author.Tests.{eqb-true}
 use Rattle.syntax.specs.Term.{Term, var, call, lam, app, bind, pair, fst, snd, inl, inr, case, done, node}
 use Rattle.syntax.specs.Encoding.{wordOf, encode, encodeAll}
 use Rattle.syntax.specs.Shaped.{count}
@@ -44,14 +41,6 @@ outer-many (snd a) = refl
 outer-many (inl A a) = refl
 outer-many (inr A a) = refl
 outer-many (case s l r) = refl
-
--- the test for a last node with inner parts only
-pub inner-only : (owed o : ℕ) → (eqb owed 1 && eqb o 0) ≡ true → (owed ≡ 1) × (o ≡ 0)
-inner-only owed o e = let b = both (eqb owed 1) (eqb o 0) e in (eqb-true owed 1 (b .0), eqb-true o 0 (b .1))
-  where
-    both : (x y : Bool) → (x && y) ≡ true → (x ≡ true) × (y ≡ true)
-    both true y f = (refl, f)
-    both false y f = absurd (true≢false (sym f))
 
 -- uses
 pub uses-binding : (t : Term) (n : ℕ) → node t .kind ≢ 0 → uses t n ≡ usesAll (outer t) n + usesAll (inner t) (suc n)

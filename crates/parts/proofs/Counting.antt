@@ -9,8 +9,8 @@ use lib.ListN.{length, getD, set, length-set}
 use lib.Seq.{getD-set-same}
 use borrow.Author.Tests.{eq-eqb, ne-eqb}
 use Rattle.syntax.specs.Words.{pack}
-use Rattle.syntax.specs.Term.{Term, Terms, var, done, arg, node}
-use Rattle.syntax.specs.Encoding.{wordOf, size}
+use Rattle.syntax.specs.Term.{Term, Terms, done, arg, node}
+use Rattle.syntax.specs.Encoding.{wordOf}
 use Rattle.syntax.specs.Parts.{partCount}
 use Rattle.syntax.specs.Shaped.{count}
 use Rattle.syntax.specs.Values.{counts, uses, usesAll}

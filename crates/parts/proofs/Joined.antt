@@ -7,7 +7,6 @@ use lib.ListN.{length, length-append}
 use Rattle.syntax.specs.Term.{Terms, done, arg}
 use Rattle.syntax.specs.Encoding.{encode, encodeAll}
 use Rattle.syntax.specs.Shaped.{count, Shaped, ShapedAll}
-use Rattle.syntax.specs.Substitution.{Kit, traverse, traverseAll}
 use Rattle.syntax.specs.Values.{uses, usesAll}
 use Rattle.syntax.proofs.Sizes.{sizeAll}
 use Rattle.parts.specs.Joined.{joined}
@@ -40,12 +39,6 @@ pub uses-joined : (ts us : Terms) (n : ℕ) → usesAll (joined ts us) n ≡ use
 unfolding joined uses
 uses-joined done us n = omega arith
 uses-joined (arg t ts) us n = omega (arith, uses-joined ts us n)
-
-pub traverse-joined : {X : Type 0} (kit : Kit X) (ts us : Terms) (f : ℕ → X)
-    → traverseAll kit (joined ts us) f ≡ joined (traverseAll kit ts f) (traverseAll kit us f)
-unfolding joined traverse
-traverse-joined kit done us f = refl
-traverse-joined kit (arg t ts) us f = ap (arg (traverse kit t f)) (traverse-joined kit ts us f)
 
 pub joined-assoc : (ts us vs : Terms) → joined (joined ts us) vs ≡ joined ts (joined us vs)
 unfolding joined

@@ -1,16 +1,16 @@
 -- Renaming into a buffer: the word of a variable is raised, any other is copied, so as many words are written as are read.
-use Prim.Native.Nat.{ℕ, suc, _+_, _-_, _*_, _^_, _≤_, _<_}
+use Prim.Native.Nat.{ℕ, suc, _+_, _-_, _*_, _^_, _≤_}
 use native.Mathlib.Omega.{arith}
 use native.Mathlib.Decide.{ℕ-discrete}
 use mathlib.Core.Path.{_≡_, refl, sym, _∙_, ap}
 use mathlib.Core.Bool.{Bool, true, false, _&&_, cond}
 use mathlib.Core.List.{List, [], _∷_, _++_}
-use lib.Dec.{eqb, leb}
+use lib.Dec.{leb}
 use lib.ListN.{length, getD, set}
 use borrow.Author.Tests.{eq-eqb, ne-eqb, leb-true, leb-false}
 use Rattle.syntax.specs.Words.{kindOf, numberOf, pack}
-use Rattle.syntax.specs.Term.{Term, var, node}
-use Rattle.syntax.specs.Encoding.{wordOf, encode, size}
+use Rattle.syntax.specs.Term.{Term, node}
+use Rattle.syntax.specs.Encoding.{wordOf, encode}
 use Rattle.syntax.specs.Substitution.{traverse, renaming}
 use Rattle.syntax.specs.Under.{raiseAt}
 use Rattle.syntax.proofs.Sizes.{size-rename}
@@ -65,7 +65,8 @@ pub rename-begin : {calls src old : List ℕ} {at : ℕ} (p : List ℕ) (cut by 
 rename-begin p cut by r e = trace-begin renaming (raises by) p cut (r .start) tt
     (omega (arith, r .room, size-rename (r .start .term) (raiseAt cut by))) (omega (arith, e, fits (r .start .holds)))
 
-pub rename-node : (by : ℕ) {calls src old : List ℕ} {cut at : ℕ} {p new : List ℕ} {owed i : ℕ} → Renaming calls src old cut at by p new owed i → 1 ≤ owed
+pub rename-node : (by : ℕ) {calls src old : List ℕ} {cut at : ℕ} {p new : List ℕ} {owed i : ℕ}
+    → Renaming calls src old cut at by p new owed i → 1 ≤ owed
     → (q : List ℕ) (r x : ℕ) → length q ≡ length p → x ≡ raisedWord (getD p (owed - 1) 0) by (getD src i 0)
     → Opens calls (getD src i 0) (getD p (owed - 1) 0) p q (owed - 1) r → Renaming calls src old cut at by q (set new (at + i) x) r (i + 1)
 rename-node by {src = src} {at = at} {p = p} {owed = owed} {i = i} g lt q r x l e ops =
@@ -75,7 +76,8 @@ rename-node by {src = src} {at = at} {p = p} {owed = owed} {i = i} g lt q r x l 
     raise-node w under by t a b c u
     ∙ ap {B = List ℕ} (λ (z : ℕ). z ∷ (putAll renaming (raises by) u (outer t) under ++ putAll renaming (raises by) u (inner t) (suc under))) (sym e)
 
-pub rename-end : (by : ℕ) {calls src old : List ℕ} {cut at : ℕ} {p new : List ℕ} {owed i : ℕ} → Renaming calls src old cut at by p new owed i → owed ≡ 0
+pub rename-end : (by : ℕ) {calls src old : List ℕ} {cut at : ℕ} {p new : List ℕ} {owed i : ℕ}
+    → Renaming calls src old cut at by p new owed i → owed ≡ 0
     → Renames calls src old new at cut by i
 rename-end by g z = record {
   told = λ t rest h. let e = trace-end renaming (raises by) g z t rest h tt in record { read-is = e .0; new-is = e .2 };

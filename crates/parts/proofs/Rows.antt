@@ -67,10 +67,6 @@ module _ (calls words : List ℕ) where
     here : drop i words ≡ encodeAll ts ++ (encodeAll us ++ rest)
     here = p .here ∙ ap (λ (l : List ℕ). l ++ rest) (encode-joined ts us) ∙ append-assoc (encodeAll ts) (encodeAll us) rest
 
-    -- the first terms of a row
-    row-front : (a : ℕ) → count ts ≡ a → HoldsAll calls (from words i) a ts (encodeAll us ++ rest)
-    row-front a e = record { shaped = joined-shaped calls ts us (p .shaped) .0; is = tail-part words i ∙ here; many = e }
-
     -- the others behind them
     pub row-behind : (l : ℕ) → l ≡ sizeAll ts → PartsAt calls words (i + l) us rest
     row-behind l e = record {
@@ -95,7 +91,8 @@ module _ (calls words : List ℕ) where
     pub stand : (ts : Terms) (rest : List ℕ) → HoldsAll calls words n ts rest → Standing Q at owed ts rest
 
   -- before the first node
-  unfoldable pub march-from : (Q : Terms → Terms → Type 0) (n : ℕ) → StartsAll calls words n → ((ts : Terms) → count ts ≡ n → Q ts ts) → Marching Q n 0 n
+  unfoldable pub march-from : (Q : Terms → Terms → Type 0) (n : ℕ) → StartsAll calls words n → ((ts : Terms) → count ts ≡ n → Q ts ts)
+      → Marching Q n 0 n
   march-from Q n s q = record {
     start = s;
     stand = λ ts rest h. record {
@@ -243,42 +240,3 @@ module _ (calls words : List ℕ) where
       → at + 1 + (owed - 1 + partCount calls (getD words at 0)) ≤ sizeAll (g .start .terms)
   unfolding march-on
   march-parts g lt = march-within (march-on g lt (λ ts us. Unit {0}) _ refl λ ts rest v. tt)
-
-  -- a row whose first a terms are gone through at once
-  module _ {a : ℕ} {P : Terms → Terms → Terms → Type 0} {n at owed : ℕ} (g : Marching (λ ts us. Cut a (P ts) us) n at owed) where
-    cut-here : {ts : Terms} {rest : List ℕ} (s : Standing (λ ts us. Cut a (P ts) us) at owed ts rest)
-        → PartsAt calls words at (joined (s .to-do .front) (s .to-do .later)) rest
-    cut-here {rest = rest} s = subst (λ (l : Terms). PartsAt calls words at l rest) (s .to-do .is) (s .here)
-
-    -- they stand at the front of a slice that can be handed on
-    pub march-front : (ts : Terms) (rest : List ℕ) (h : HoldsAll calls words n ts rest)
-        → HoldsAll calls (from words at) a (g .stand ts rest h .to-do .front) (encodeAll (g .stand ts rest h .to-do .later) ++ rest)
-    march-front ts rest h = let s = g .stand ts rest h in row-front _ _ (cut-here s) a (s .to-do .many)
-
-    pub march-starts : StartsAll calls (from words at) a
-    march-starts =
-        record { terms = g .stand _ _ (g .start .holds) .to-do .front; rest = _; holds = march-front _ _ (g .start .holds) }
-
-    -- past them, l words further
-    module _ (l m : ℕ) (S : Terms → Terms → Type 0) (me : owed ≡ a + m)
-        (d : (ts front later : Terms) (rest : List ℕ) → HoldsAll calls (from words at) a front rest → P ts front later
-        → (l ≡ sizeAll front) × S ts later) where
-      passed : {ts : Terms} {rest : List ℕ} (s : Standing (λ ts us. Cut a (P ts) us) at owed ts rest)
-          → (l ≡ sizeAll (s .to-do .front)) × S ts (s .to-do .later)
-      passed {ts} s = d ts (s .to-do .front) (s .to-do .later) _ (row-front _ _ (cut-here s) a (s .to-do .many)) (s .to-do .facts)
-
-      pub march-past : Marching S n (at + l) m
-      march-past = record {
-        start = g .start;
-        stand = λ ts rest h.
-            let s = g .stand ts rest h in
-            let c = s .to-do in
-            let p = passed s in
-            record {
-              ahead = c .later;
-              here = row-behind (c .front) (c .later) (cut-here s) l (p .0);
-              many = omega (arith, s .many, me, c .many, ap count (c .is), count-joined (c .front) (c .later));
-              sized = omega (arith, s .sized, p .0, ap (λ (x : Terms). sizeAll x) (c .is), size-joined (c .front) (c .later));
-              to-do = p .1;
-            };
-      }

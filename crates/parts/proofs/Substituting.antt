@@ -6,7 +6,7 @@ use mathlib.Core.Path.{_≡_, refl, sym, _∙_, ap, subst, fun-ext}
 use mathlib.Core.Logic.{_≢_}
 use mathlib.Core.Bool.{Bool, true, false, _&&_, cond}
 use mathlib.Core.List.{List, [], _∷_, _++_, append-nil}
-use lib.Dec.{eqb, ltb}
+use lib.Dec.{ltb}
 use lib.ListN.{length, getD, set, take, drop, take-append-drop, List·getD-append}
 use lib.Seq.{sets, take-all, length-take-le}
 use borrow.Rule.Slice.PartMut.{midOf, postOf, putMid, same-len-mid}
@@ -17,7 +17,7 @@ use Rattle.syntax.specs.Encoding.{wordOf, encode, size}
 use Rattle.syntax.specs.Kinds.{partsOfKind}
 use Rattle.syntax.specs.Parts.{partCount}
 use Rattle.syntax.specs.Tables.{arity}
-use Rattle.syntax.specs.Substitution.{traverse, rename, substitution, substitute, only}
+use Rattle.syntax.specs.Substitution.{traverse, rename, substitution, only}
 use Rattle.syntax.specs.Under.{underBy, raiseAt, onlyAt}
 use Rattle.syntax.proofs.Algebra.{rename-id}
 use Rattle.syntax.proofs.Sizes.{size-rename}
@@ -26,7 +26,6 @@ use Rattle.parts.specs.Binding.{outer, inner}
 use Rattle.parts.specs.Depths.{Opens}
 use Rattle.parts.specs.Fronts.{Holds, Whole}
 use Rattle.parts.specs.Writes.{Room, Renames, RoomFor, Substitutes, loweredWord, Raises}
-use Rattle.parts.specs.declared.substitute.Moved.{Moved}
 use Rattle.parts.proofs.Rows.{march-within}
 use Rattle.parts.proofs.Variables.{kind-0}
 use Rattle.parts.proofs.Tracing.{put, putAll, put-node, Trace, trace-begin, trace-end, put-room, trace-node, trace-leaf}

@@ -22,7 +22,8 @@ use Rattle.parts.proofs.Joined.{none-left}
 use Rattle.parts.proofs.Binding.{encode-binding}
 use Rattle.parts.proofs.Writing.{Writing, write-none, write-next, write-all, write-room}
 use Rattle.parts.proofs.Gathering.{Gathering, ahead, ahead-one, ahead-same, ahead-opened, Near, near-begin, near-opened}
-use Rattle.parts.proofs.Rows.{Marching, Visit, march-from, march-inside, march-within, march-end, visit, march-on, march-parts, one-starts, one-holds}
+use Rattle.parts.proofs.Rows.{Marching, Visit, march-from, march-inside, march-within, march-end, visit, march-on, march-parts}
+use Rattle.parts.proofs.Rows.{one-starts, one-holds}
 
 no-parts : (os is later : Terms) → count os ≡ 0 → count is ≡ 0 → later ≡ joined os (joined is later)
 unfolding joined
@@ -114,12 +115,6 @@ module _ {X A : Type 0} (kit : Kit X) (f : A → ℕ → X) where
     next-room : (xs left : List ℕ) → Writing old new at o (putAll (g .given) (g .going .start .terms) d) (xs ++ left)
         → at + o + length xs ≤ length new
     next-room xs left w = omega (arith, write-room xs left w, g .room, g .len)
-
-    -- what is written is within the buffer
-    pub trace-inside : at + o ≤ length new
-    trace-inside =
-        let s = g .going .stand _ _ (g .going .start .holds) in
-        omega (arith, next-room [] _ (s .to-do (g .given)))
 
     -- the depths of the node's parts have room
     pub trace-opens : 1 ≤ owed → 2 ≤ m → d + length words ≤ 65536

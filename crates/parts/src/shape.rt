@@ -1,8 +1,6 @@
 // What a kind decides: the fields it uses, its parts, and which of them bind a variable.
 ghost use mathlib.Core.Path.{_≡_};
-ghost use mathlib.Core.Bool.{_&&_};
 ghost use Prim.Native.Nat.{ℕ, _≤_};
-ghost use lib.Dec.{eqb};
 ghost use Rattle.syntax.specs.Kinds.{bindersAt};
 ghost use Rattle.syntax.specs.Tables.{arity as arityOf};
 ghost use Rattle.syntax.specs.Parts.{partCount};
@@ -72,16 +70,6 @@ pub fn outer_count(k: u64, n: usize) -> usize
         return s.free;
     }
     n
-}
-
-// whether one part is owed, and its node has inner parts only
-pub fn only_inner(owed: usize, outer: usize) -> bool
-    ensures { λ r. ⌜ r ≡ (eqb owed 1 && eqb outer 0) ⌝ }
-{
-    if owed == 1 {
-        return outer == 0;
-    }
-    false
 }
 
 // how many arguments a call takes, 0 past the table

@@ -1,6 +1,6 @@
 -- The first three depths are written one by one, any further by a loop.
 use borrow.Author.Needs.{needs}
-use Prim.Native.Nat.{ℕ, _+_}
+use Prim.Native.Nat.{_+_}
 use native.Mathlib.Omega.{arith}
 use mathlib.Core.Path.{_∙_}
 use lib.ListN.{length-set, set}
@@ -88,4 +88,5 @@ open-parts-spec =
     let start = at-kind .before .before .before in
     let x = at-last-binder .last-binder .ensures .0 in
     let y = at-middle-binder .middle-binder .ensures .0 in
-    filled-opens _ _ _ _ _ _ _ _ _ _ (at-kind .kind .ensures) (at-owed-count .owed-count .ensures .0) x y (start .pre .0) (three-filled _ _ _ _ (omega (arith, c .if1 .left)))))
+    filled-opens _ _ _ _ _ _ _ _ _ _ (at-kind .kind .ensures) (at-owed-count .owed-count .ensures .0) x y (start .pre .0)
+    (three-filled _ _ _ _ (omega (arith, c .if1 .left)))))

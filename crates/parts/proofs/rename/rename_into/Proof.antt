@@ -1,6 +1,5 @@
 -- One turn of the loop writes one word.
-use borrow.Author.Needs.{needs}
-use Prim.Native.Nat.{ℕ, _-_}
+use Prim.Native.Nat.{_-_}
 use native.Mathlib.Omega.{arith}
 use mathlib.Core.Path.{_≡_, refl, _∙_}
 use lib.ListN.{length, length-set}
@@ -12,7 +11,8 @@ use Rattle.parts.proofs.rename.rename_into.Statement.{statement}
 use Rattle.parts.proofs.rename.rename_into.Tie as tie
 
 abbrev Inv-loop : tie.InvT-loop
-Inv-loop calls src dst₀ at cut by pending₀ owed₀ i₀ dst pending owed i = Renaming calls src dst₀ cut at by pending dst owed i × (length pending ≡ length pending₀)
+Inv-loop calls src dst₀ at cut by pending₀ owed₀ i₀ dst pending owed i =
+    Renaming calls src dst₀ cut at by pending dst owed i × (length pending ≡ length pending₀)
 
 abbrev μ-loop : tie.MeasureT-loop
 μ-loop calls src dst₀ at cut by pending₀ owed₀ i₀ dst pending owed i = length src - i
@@ -49,7 +49,8 @@ rename-into-spec =
     let at-loop-test = c .before .before in
     let at-loop = at-loop-test .before in
     let start = at-loop .before .before .before .before .before in
-    omega (arith, trace-opens renaming (raises (start .args .by)) (at-loop .loop .inv .0) (at-loop-test .loop-test .taken) (omega arith) (start .pre .1) .0))
+    let o = trace-opens renaming (raises (start .args .by)) (at-loop .loop .inv .0) (at-loop-test .loop-test .taken) (omega arith) (start .pre .1) in
+    omega (arith, o .0))
     (λ c κs.
     let start = c .before .before .before .before .before .before .before .before in
     start .pre .2)
@@ -92,7 +93,9 @@ rename-into-spec =
     let at-loop = at-loop-test .before in
     let start = at-loop .before .before .before .before .before in
     let kept = at-open-parts .open-parts .kept .1 .1 .1 .0 in
-    (rename-node (start .args .by) (at-loop .loop .inv .0) (at-loop-test .loop-test .taken) _ _ _ kept (at-raised .raised .ensures) (at-open-parts .open-parts .ensures), kept ∙ at-loop .loop .inv .1))
+    let g = at-loop .loop .inv .0 in
+    let lt = at-loop-test .loop-test .taken in
+    (rename-node (start .args .by) g lt _ _ _ kept (at-raised .raised .ensures) (at-open-parts .open-parts .ensures), kept ∙ at-loop .loop .inv .1))
     (λ c.
     let at-loop = c .before in
     at-loop .loop .inv .0 .len)

@@ -1,7 +1,7 @@
 -- One turn of the loop writes one word, or the value.
 use borrow.Author.Needs.{needs}
 use borrow.Rule.Slice.PartMut.{same-len-mid}
-use Prim.Native.Nat.{ℕ, _-_}
+use Prim.Native.Nat.{_-_}
 use native.Mathlib.Omega.{arith}
 use mathlib.Core.Path.{_≡_, refl, _∙_}
 use lib.ListN.{length, length-set}
@@ -14,7 +14,8 @@ use Rattle.parts.proofs.substitute.substitute_into.Statement.{statement
 use Rattle.parts.proofs.substitute.substitute_into.Tie as tie
 
 abbrev Inv-loop : tie.InvT-loop
-Inv-loop calls body value dst₀ at depth pending₀ owed₀ i₀ o₀ dst pending owed i o = Substituting calls body value dst₀ depth at pending dst owed i o × (length pending ≡ length pending₀)
+Inv-loop calls body value dst₀ at depth pending₀ owed₀ i₀ o₀ dst pending owed i o =
+    Substituting calls body value dst₀ depth at pending dst owed i o × (length pending ≡ length pending₀)
 
 abbrev μ-loop : tie.MeasureT-loop
 μ-loop calls body value dst₀ at depth pending₀ owed₀ i₀ o₀ dst pending owed i o = length body - i
@@ -89,8 +90,10 @@ substitute-into-spec =
     let start = at-loop .before .before .before .before .before .before in
     let f = valued (start .args .calls .now) (start .args .value .now) in
     let o = trace-opens substitution f (at-loop .loop .inv .0) (at-loop-test .loop-test .taken) (omega arith) (start .pre .1 .0) in
-    let room = value-room (at-loop .loop .inv .0) (at-loop-test .loop-test .taken) _ _ refl refl (omega (arith, at-if1 .if1 .taken)) (omega (arith, o .2)) in
-    ((start .pre .0 .whole, room, start .pre .1 .1, o .2), omega (arith, march-within _ _ (at-loop .loop .inv .0 .going), at-loop .loop .inv .0 .spare)))
+    let g = at-loop .loop .inv .0 in
+    let lt = at-loop-test .loop-test .taken in
+    let room = value-room g lt _ _ refl refl (omega (arith, at-if1 .if1 .taken)) (omega (arith, o .2)) in
+    ((start .pre .0 .whole, room, start .pre .1 .1, o .2), omega (arith, march-within _ _ (g .going), g .spare)))
     (λ c.
     let at-put-value = c .before .before .before .before in
     let at-if1 = at-put-value .before .before .before in
@@ -99,7 +102,9 @@ substitute-into-spec =
     let start = at-loop .before .before .before .before .before .before in
     let f = valued (start .args .calls .now) (start .args .value .now) in
     let o = trace-opens substitution f (at-loop .loop .inv .0) (at-loop-test .loop-test .taken) (omega arith) (start .pre .1 .0) in
-    let room = value-room (at-loop .loop .inv .0) (at-loop-test .loop-test .taken) _ _ refl refl (omega (arith, at-if1 .if1 .taken)) (omega (arith, o .2)) in
+    let g = at-loop .loop .inv .0 in
+    let lt = at-loop-test .loop-test .taken in
+    let room = value-room g lt _ _ refl refl (omega (arith, at-if1 .if1 .taken)) (omega (arith, o .2)) in
     omega (arith, room, at-put-value .put-value .ensures .size-is, at-loop .loop .inv .0 .len, start .good))
     (λ c.
     let at-loop-test = c .before .before .before .before .before .before .before .before .before .before in
@@ -116,7 +121,8 @@ substitute-into-spec =
     let k = length (at-loop .loop .pending) - at-loop .loop .owed in
     let ys = at-put-value .put-value .last .1 .1 .1 .1 .1 .0 in
     let many = at-put-value .put-value .kept .1 .1 .1 .1 .1 .0 in (
-      substitute-value (at-loop .loop .inv .0) (at-loop-test .loop-test .taken) _ _ refl refl (omega (arith, at-if1 .if1 .taken)) (omega (arith, o .2)) ys _ k _ many
+      substitute-value (at-loop .loop .inv .0) (at-loop-test .loop-test .taken) _ _ refl refl (omega (arith, at-if1 .if1 .taken))
+          (omega (arith, o .2)) ys _ k _ many
           (at-put-value .put-value .kept .1 .1 .0) (at-put-value .put-value .ensures),
       same-len-mid (at-loop .loop .owed) k (at-loop .loop .pending) ys many ∙ at-loop .loop .inv .1,
     ))
@@ -167,7 +173,8 @@ substitute-into-spec =
     let at-loop-test = at-if1 .before .before .before in
     let at-loop = at-loop-test .before in
     let kept = at-open-parts .open-parts .kept .1 .1 .1 .0 in (
-      substitute-node (at-loop .loop .inv .0) (at-loop-test .loop-test .taken) (λ e. at-if1 .if1 .left (omega (arith, e))) _ _ _ kept (at-lowered .lowered .ensures) (at-open-parts .open-parts .ensures),
+      substitute-node (at-loop .loop .inv .0) (at-loop-test .loop-test .taken) (λ e. at-if1 .if1 .left (omega (arith, e))) _ _ _ kept
+          (at-lowered .lowered .ensures) (at-open-parts .open-parts .ensures),
       kept ∙ at-loop .loop .inv .1,
     ))
     (λ c.

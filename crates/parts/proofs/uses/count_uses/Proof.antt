@@ -1,6 +1,5 @@
 -- One turn of the loop passes one node.
-use borrow.Author.Needs.{needs}
-use Prim.Native.Nat.{ℕ, _-_}
+use Prim.Native.Nat.{_-_}
 use native.Mathlib.Omega.{arith}
 use mathlib.Core.Path.{_≡_, refl, _∙_}
 use lib.ListN.{length, length-set}
@@ -77,7 +76,9 @@ count-uses-spec =
     let start = at-loop .before .before .before .before in
     let kept = at-open-parts .open-parts .kept .1 .1 .1 .0 in
     let s = at-is-variable .is-variable .ensures in
-    (count-node (at-loop .loop .inv .0) (at-loop-test .loop-test .taken) (start .pre .1) _ _ _ kept (s .0) (s .1) (at-open-parts .open-parts .ensures), kept ∙ at-loop .loop .inv .1))
+    let g = at-loop .loop .inv .0 in
+    let lt = at-loop-test .loop-test .taken in
+    (count-node g lt (start .pre .1) _ _ _ kept (s .0) (s .1) (at-open-parts .open-parts .ensures), kept ∙ at-loop .loop .inv .1))
     (λ c.
     let at-loop = c .before in
     let start = at-loop .before .before .before .before in
