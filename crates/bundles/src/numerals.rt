@@ -4,20 +4,9 @@ ghost use mathlib.Core.List.{[], _∷_, _++_};
 ghost use Prim.Native.Nat.{_+_, _≤_, _<_};
 ghost use lib.ListN.{length};
 ghost use lib.Seq.{sets};
-ghost use Rattle.outcomes.specs.Listing.{digit as digitOf, decimal, hexadecimal, newline};
+ghost use Rattle.outcomes.specs.Listing.{decimal, hexadecimal, newline};
 ghost use Rattle.bundles.specs.Digits.{lastDigits};
 ghost use Rattle.bundles.specs.Puts.{Puts};
-
-// a digit, hexadecimal ones in lower case
-fn digit(d: u64) -> u8
-    requires { ⌜ d < 16 ⌝ }
-    ensures { λ r. ⌜ r ≡ digitOf d ⌝ }
-{
-    if d < 10 {
-        return b'0' + d as u8;
-    }
-    b'a' - 10 + d as u8
-}
 
 // how many decimal digits
 pub fn digit_count(n: u64) -> usize
@@ -37,11 +26,14 @@ fn put_digits(n: u64, base: u64, count: usize, text: &mut [u8], at: usize)
     requires { ⌜ (0 < base) × (base ≤ 16) × (at + count ≤ length (now text)) ⌝ }
     ensures { λ r. ⌜ now (text .exit) ≡ sets (now (text .entry)) at (lastDigits base count n []) ⌝ }
 {
+    // the digits, hexadecimal ones in lower case
+    let digits: [u8; 16] = *b"0123456789abcdef";
     let mut left = n;
     let mut i = at + count;
     while at < i {
         i -= 1;
-        text[i] = digit(left % base);
+        let d = left % base;
+        text[i] = digits[d as usize];
         left = left / base;
     }
 }
