@@ -13,7 +13,6 @@ use Rattle.syntax.specs.Shaped.{count}
 use Rattle.syntax.specs.Values.{isValue}
 use Rattle.parts.specs.Fronts.{Holds, Starts, from}
 use Rattle.parts.proofs.Traversal.{front-of, Going, enter, Does, reached, onward, next}
-use Rattle.parts.specs.Ends.{Sized}
 use Rattle.parts.specs.Joined.{joined}
 use Rattle.reducer.specs.ValueTest.{Tests}
 use Rattle.reducer.specs.Operands.{operandCount, allValues, Finds}
@@ -98,9 +97,8 @@ module _ {calls words : List ℕ} {n m at j : ℕ} (g : Seeking calls words n m 
 
     module _ {v : Value} (a : Tests calls (from words at) v) where
       -- an operand that is no value
-      pub find-first : (r : Operand) → v .value ≡ false → r .found ≡ true → r .index ≡ j → r .start ≡ at
-          → Sized calls (from words at) (r .size) → Finds calls words r
-      find-first r vf e ie se ze = record {
+      pub find-first : (r : Operand) → v .value ≡ false → r .found ≡ true → r .index ≡ j → r .start ≡ at → Finds calls words r
+      find-first r vf e ie se = record {
         told = λ t rest h.
             let x = next calls words (g .going) find-part t rest h in
             let p = x .to-do in
@@ -119,7 +117,6 @@ module _ {calls words : List ℕ} {n m at j : ℕ} (g : Seeking calls words n m 
                 operand = omega (arith, ie, o);
                 index-is = ie ∙ sym (p .many);
                 start-is = se ∙ p .start;
-                size-is = ze .told (x .part) _ (x .holds);
               };
             };
       }

@@ -7,7 +7,7 @@ use lib.Dec.{eqb}
 use lib.ListN.{length}
 use Rattle.syntax.specs.Maybe.{isSome}
 use Rattle.syntax.specs.Term.{Term, Terms, done, arg, node}
-use Rattle.syntax.specs.Encoding.{encodeAll, size}
+use Rattle.syntax.specs.Encoding.{encodeAll}
 use Rattle.syntax.specs.Shaped.{count}
 use Rattle.syntax.specs.Values.{isValue}
 use Rattle.reduction.specs.Rules.{letInsertion}
@@ -25,7 +25,7 @@ unfoldable pub allValues : Terms → Bool
 allValues done = true
 allValues (arg t ts) = isValue t && allValues ts
 
--- the first operand of t that is a computation: its index among the parts, where its words start, and its size
+-- the first operand of t that is a computation: its index among the parts, and where its words start
 pub record FirstComputation (t : Term) (r : Operand) : Type 0 where
   pub front : Terms
   pub part : Term
@@ -36,7 +36,6 @@ pub record FirstComputation (t : Term) (r : Operand) : Type 0 where
   pub operand : r .index < operandCount (node t .kind) (count (node t .parts))
   pub index-is : r .index ≡ count front
   pub start-is : r .start ≡ 1 + length (encodeAll front)
-  pub size-is : r .size ≡ size part
 
 -- whether t has such an operand, which is whether let insertion fits, and which
 pub record Inserts (t : Term) (r : Operand) : Type 0 where

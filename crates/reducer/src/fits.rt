@@ -10,7 +10,6 @@ ghost use Rattle.reducer.specs.Operands.{operandCount, Finds};
 ghost use Rattle.reducer.specs.Fits.{rootRedex, caseByKind, Fits};
 use crate::value::value_kind;
 use crate::value::value_test;
-use parts::ends::part_size;
 use parts::fields::kind;
 use parts::shape::owed_count;
 use reduction::Found;
@@ -29,12 +28,11 @@ fn operand_count(k: u64, n: usize) -> usize
     }
 }
 
-// an operand that is a computation, if one was found: its index among the parts, where its words start, and its size
+// an operand that is a computation, if one was found: its index among the parts, and where its words start
 pub struct Operand {
     pub found: bool,
     pub index: usize,
     pub start: usize,
-    pub size: usize,
 }
 
 // the first operand that is a computation; let insertion fits exactly if there is one
@@ -54,7 +52,6 @@ pub fn first_computation(calls: &[u64], t: &[u64]) -> Operand
                 found: true,
                 index: j,
                 start: at,
-                size: part_size(calls, &t[at..]),
             };
         }
         at = at + part.end;
@@ -64,7 +61,6 @@ pub fn first_computation(calls: &[u64], t: &[u64]) -> Operand
         found: false,
         index: 0,
         start: 0,
-        size: 0,
     }
 }
 

@@ -17,7 +17,7 @@ use Rattle.reduction.specs.declared.Rule.the-variants.{LetInsertion}
 use Rattle.reduction.proofs.Fires.{Fires, f-insertion}
 use Rattle.reduction.proofs.NextSize.{size-letInsertion}
 use Rattle.parts.specs.Joined.{joined}
-use Rattle.parts.specs.Fronts.{Holds, HoldsAll, StartsAll, from}
+use Rattle.parts.specs.Fronts.{Holds, Starts, HoldsAll, StartsAll, from}
 use Rattle.parts.specs.Ends.{Sized, SizedAll}
 use Rattle.parts.proofs.Joined.{size-joined, count-joined}
 use Rattle.parts.proofs.Traversal.{front-of, from-length}
@@ -27,7 +27,7 @@ use Rattle.reducer.specs.Operands.{allValues, FirstComputation, Finds}
 use Rattle.reducer.specs.declared.fits.Operand.{Operand}
 use Rattle.reducer.proofs.Testing.{apart}
 use Rattle.rewriter.specs.declared.plan.Plan.the-variants.{Insert as InsertPlan}
-use Rattle.rewriter.specs.Plans.{StartsRedex, Laid, inserts, Inserted, partSize, PartSized, MeasuredAs, Measures}
+use Rattle.rewriter.specs.Plans.{StartsRedex, Laid, inserts, Inserted, partSize, MeasuredAs, Measures}
 use Rattle.rewriter.proofs.Rows.{fired}
 use Rattle.rewriter.proofs.NamedPart.{NamedPart, named-part}
 
@@ -57,9 +57,6 @@ unfolding joined count partSize
 size-behind done ts p = refl
 size-behind (arg t fs) ts p = size-behind fs ts p
 
-found-size : (x : Term) (r : Operand) → FirstComputation x r → r .size ≡ partSize (node x .parts) (r .index)
-found-size x r c = c .size-is ∙ sym (size-behind (c .front) (c .later) (c .part)) ∙ ap₂ partSize (sym (c .parts)) (sym (c .index-is))
-
 module _ (calls words : List ℕ) (r : Operand) where
   module _ {x : Term} {rest : List ℕ} (h : Holds calls words x rest) (c : FirstComputation x r) where
     -- the part that is bound, and those behind it
@@ -70,45 +67,11 @@ module _ (calls words : List ℕ) (r : Operand) where
         subst (λ (j : ℕ). PartsAt calls words j ts rest) (sym (c .start-is))
         (row-behind calls words (c .front) ts all (sizeAll (c .front)) refl)
 
-    later-at : PartsAt calls words (r .start + r .size) (c .later) rest
-    later-at = parts-past calls words bound-at (r .size) (c .size-is)
-
-    -- how many parts the node has, and its size, by those behind
+    -- how many parts the node has, by those behind
     count-by-later : partCount calls (getD words 0 0) ≡ r .index + 1 + count (c .later)
     unfolding count
     count-by-later =
         omega (arith, front-of h .parts, ap count (c .parts), count-joined (c .front) (arg (c .part) (c .later)), c .index-is)
-
-    size-by-later : size x ≡ r .start + r .size + sizeAll (c .later)
-    size-by-later = omega (
-      arith,
-      size-node x,
-      ap (λ (ts : Terms). sizeAll ts) (c .parts),
-      size-joined (c .front) (arg (c .part) (c .later)),
-      size-arg (c .part) (c .later),
-      c .start-is,
-      c .size-is,
-    )
-
-  laid : {x y : Term} {rest : List ℕ} → Holds calls words x rest → NamedPart x y → FirstComputation x r
-      → PartSized calls words (r .index) (r .size) → Laid calls words (InsertPlan (r .index) (r .start) (r .size)) y
-  laid {x = x} {rest = rest} h s c ns =
-      let e = same-first (s .front) (c .front) (s .part) (c .part) (s .later) (c .later) (sym (s .parts) ∙ c .parts) (s .values)
-      (c .values) (s .computation) (c .computation) in
-      let i : count (s .front) ≡ r .index = ap count (e .0) ∙ sym (c .index-is) in
-      let hp = subst (λ (t : Term). Holds calls (from words (r .start)) t (encodeAll (c .later) ++ rest)) (sym (e .1))
-      (part-here calls words (bound-at h c)) in
-      subst (Laid calls words (InsertPlan (r .index) (r .start) (r .size))) (sym (s .is))
-      (inserts h (subst (λ (j : ℕ). Inserted j x (s .node-under)) i (s .inserted)) hp (c .size-is ∙ ap size (sym (e .1))) ns)
-
-  inserted : {x y : Term} {rest : List ℕ} (n : ℕ) → Holds calls words x rest → Fires allPure LetInsertion x y → FirstComputation x r
-      → PartSized calls words (r .index) (r .size) → n ≡ size x
-      → MeasuredAs calls words x y (record { plan = InsertPlan (r .index) (r .start) (r .size); read = n; wrote = n + 2 })
-  inserted n h (f-insertion i) c ns e = record {
-    read-is = e;
-    wrote-is = omega (arith, e, size-letInsertion i);
-    laid = laid h (named-part i) c ns;
-  }
 
   -- a redex of let insertion at the front
   module _ (f : Finds calls words r) (s : StartsRedex LetInsertion calls words) where
@@ -119,30 +82,88 @@ module _ (calls words : List ℕ) (r : Operand) where
     first : {x : Term} {rest : List ℕ} → Holds calls words x rest → FirstComputation x r
     first {x} {rest} h = f .told x rest h .first found
 
-    pub bound-inside : r .start + r .size ≤ length words
-    bound-inside = let h = s .start .holds in omega (arith, later-at h (first h) .inside)
+    pub bound-starts : Starts calls (from words (r .start))
+    bound-starts =
+        let h = s .start .holds in
+        record { term = first h .part; rest = _; holds = part-here calls words (bound-at h (first h)) }
 
-    module _ (n : ℕ) (ne : n ≡ partCount calls (getD words 0 0)) where
-      pub index-below : r .index + 1 ≤ n
-      index-below = let h = s .start .holds in omega (arith, ne, count-by-later h (first h))
+    pub start-inside : r .start ≤ length words
+    start-inside = let h = s .start .holds in omega (arith, bound-at h (first h) .inside)
 
-      later-holds : {x : Term} {rest : List ℕ} (h : Holds calls words x rest)
-          → HoldsAll calls (from words (r .start + r .size)) (n - 1 - r .index) (first h .later) rest
-      later-holds h = row-holds calls words (later-at h (first h)) (n - 1 - r .index) (omega (arith, ne, count-by-later h (first h)))
+    -- the part that is bound has m words
+    module _ (m : ℕ) (z : Sized calls (from words (r .start)) m) where
+      module _ {x : Term} {rest : List ℕ} (h : Holds calls words x rest) where
+        size-is : m ≡ size (first h .part)
+        size-is = z .told _ _ (part-here calls words (bound-at h (first h)))
 
-      pub later-starts : StartsAll calls (from words (r .start + r .size)) (n - 1 - r .index)
-      later-starts = let h = s .start .holds in record { terms = first h .later; rest = s .start .rest; holds = later-holds h }
+        found-size : m ≡ partSize (node x .parts) (r .index)
+        found-size =
+            let c = first h in
+            size-is ∙ sym (size-behind (c .front) (c .later) (c .part)) ∙ ap₂ partSize (sym (c .parts)) (sym (c .index-is))
 
-      pub whole-sized : (m : ℕ) → SizedAll calls (from words (r .start + r .size)) (n - 1 - r .index) m
-          → Sized calls words (r .start + r .size + m)
-      whole-sized m z = record {
-        within = omega (arith, z .within, from-length words (r .start + r .size), bound-inside);
-        told = λ x rest h. omega (arith, size-by-later h (first h), z .told (first h .later) rest (later-holds h));
-      }
+      module _ {x : Term} {rest : List ℕ} (h : Holds calls words x rest) where
+        later-at : PartsAt calls words (r .start + m) (first h .later) rest
+        later-at = parts-past calls words (bound-at h (first h)) m (size-is h)
 
-    pub insertion-measures : (n : ℕ) → Sized calls words n
-        → Measures LetInsertion calls words (record { plan = InsertPlan (r .index) (r .start) (r .size); read = n; wrote = n + 2 })
-    insertion-measures n z = record {
-      told = λ x y rest h e. inserted n h (fired LetInsertion x y e) (first h)
-          (record { told = λ t more g. found-size t r (first g) }) (z .told x rest h);
-    }
+        -- the node's size, by the parts behind
+        size-by-later : size x ≡ r .start + m + sizeAll (first h .later)
+        size-by-later =
+            let c = first h in
+            omega (
+              arith,
+              size-node x,
+              ap (λ (ts : Terms). sizeAll ts) (c .parts),
+              size-joined (c .front) (arg (c .part) (c .later)),
+              size-arg (c .part) (c .later),
+              c .start-is,
+              size-is h,
+            )
+
+        laid : {y : Term} → NamedPart x y → Laid calls words (InsertPlan (r .index) (r .start) m) y
+        laid n =
+            let c = first h in
+            let e = same-first (n .front) (c .front) (n .part) (c .part) (n .later) (c .later) (sym (n .parts) ∙ c .parts) (n .values)
+            (c .values) (n .computation) (c .computation) in
+            let i : count (n .front) ≡ r .index = ap count (e .0) ∙ sym (c .index-is) in
+            let hp = subst (λ (t : Term). Holds calls (from words (r .start)) t (encodeAll (c .later) ++ rest)) (sym (e .1))
+            (part-here calls words (bound-at h c)) in
+            subst (Laid calls words (InsertPlan (r .index) (r .start) m)) (sym (n .is))
+            (inserts h (subst (λ (j : ℕ). Inserted j x (n .node-under)) i (n .inserted)) hp (size-is h ∙ ap size (sym (e .1)))
+            (record { told = λ t more g. found-size g }))
+
+        inserted : {y : Term} (n : ℕ) → Fires allPure LetInsertion x y → n ≡ size x
+            → MeasuredAs calls words x y (record { plan = InsertPlan (r .index) (r .start) m; read = n; wrote = n + 2 })
+        inserted n (f-insertion i) e = record {
+          read-is = e;
+          wrote-is = omega (arith, e, size-letInsertion i);
+          laid = laid (named-part i);
+        }
+
+      pub bound-inside : r .start + m ≤ length words
+      bound-inside = omega (arith, later-at (s .start .holds) .inside)
+
+      module _ (n : ℕ) (ne : n ≡ partCount calls (getD words 0 0)) where
+        pub index-below : r .index + 1 ≤ n
+        index-below = let h = s .start .holds in omega (arith, ne, count-by-later h (first h))
+
+        later-holds : {x : Term} {rest : List ℕ} (h : Holds calls words x rest)
+            → HoldsAll calls (from words (r .start + m)) (n - 1 - r .index) (first h .later) rest
+        later-holds h = row-holds calls words (later-at h) (n - 1 - r .index) (omega (arith, ne, count-by-later h (first h)))
+
+        pub later-starts : StartsAll calls (from words (r .start + m)) (n - 1 - r .index)
+        later-starts = let h = s .start .holds in record { terms = first h .later; rest = s .start .rest; holds = later-holds h }
+
+        -- the node ends where the l words of the parts behind do
+        module _ (l : ℕ) (b : SizedAll calls (from words (r .start + m)) (n - 1 - r .index) l) where
+          pub end-inside : r .start + m + l ≤ length words
+          end-inside = omega (arith, b .within, from-length words (r .start + m), bound-inside)
+
+          pub insertion-measures : Measures LetInsertion calls words (record {
+            plan = InsertPlan (r .index) (r .start) m;
+            read = r .start + m + l;
+            wrote = r .start + m + l + 2;
+          })
+          insertion-measures = record {
+            told = λ x y rest h e. inserted h (r .start + m + l) (fired LetInsertion x y e)
+                (omega (arith, size-by-later h, b .told (first h .later) rest (later-holds h)));
+          }

@@ -226,19 +226,21 @@ fn let_of_case(calls: &[u64], t: &[u64]) -> Measured
     }
 }
 
-// let insertion: a let and a variable more; only the parts behind the one that is bound are still to be measured
+// let insertion: a let and a variable more; the part that is bound is measured, and then those behind it
 fn let_insertion(calls: &[u64], t: &[u64]) -> Measured
     requires { ⌜ StartsRedex LetInsertion (now calls) (now t) × (length (now t) ≤ 8192) ⌝ }
     ensures { λ r. ⌜ Measures LetInsertion (now (calls .entry)) (now (t .entry)) r ⌝ }
 {
     let operand = first_computation(calls, t);
-    let behind = operand.start + operand.size;
+    let start = operand.start;
+    let size = size_from(calls, t, start);
+    let behind = start + size;
     let n = owed_count(calls, t[0]);
-    let size = behind + parts_size(calls, &t[behind..], n - 1 - operand.index);
+    let end = behind + parts_size(calls, &t[behind..], n - 1 - operand.index);
     Measured {
-        plan: Plan::Insert(operand.index, operand.start, operand.size),
-        read: size,
-        wrote: size + 2,
+        plan: Plan::Insert(operand.index, start, size),
+        read: end,
+        wrote: end + 2,
     }
 }
 

@@ -47,30 +47,9 @@ first-computation-spec =
     ))
     (λ c.
     let loop = c .before .before .before .before .before .loop in
-    let good = c .before .before .before .before .before .before .before .before .before .before .before .before .good in
-    omega (arith, loop .inv .going .high, good))
-    (λ c.
-    let loop = c .before .before .before .before .before .loop in
-    loop .inv .going .high)
-    (λ c.
-    let loop = c .before .before .before .before .before .loop in
-    omega (arith, loop .inv .going .high))
-    (λ c. search needs)
-    (λ c κs.
-    let loop = c .before .before .before .before .before .before .loop in
-    let loop-test = c .before .before .before .before .before .loop-test in
-    let args = c .before .before .before .before .before .before .before .before .before .before .before .before .before .args in
-    let pre = c .before .before .before .before .before .before .before .before .before .before .before .before .before .pre in (
-      part-starts _ _ (loop .inv .going) (find-part (loop .inv) (loop-test .taken)),
-      omega
-          (arith, from-length (args .t .now) (loop .at), pre .1),
-    ))
-    (λ c.
-    let loop = c .before .before .before .before .before .before .before .loop in
-    let loop-test = c .before .before .before .before .before .before .loop-test in
-    let value-test = c .before .before .before .before .value-test in
-    let if1 = c .before .before .if1 in
-    find-first (loop .inv) (loop-test .taken) (value-test .ensures) _ (not-true _ (if1 .taken)) refl refl refl (c .part-size .ensures))
+    let loop-test = c .before .before .before .before .loop-test in
+    let value-test = c .before .before .value-test in
+    find-first (loop .inv) (loop-test .taken) (value-test .ensures) _ (not-true _ (c .if1 .taken)) refl refl refl)
     (λ c.
     let loop = c .before .before .before .before .before .before .loop in
     let loop-test = c .before .before .before .before .before .loop-test in
