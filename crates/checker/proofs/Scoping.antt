@@ -1,29 +1,35 @@
--- Variables in scope, on words: while the parts of the first term are gone through, the term is in scope if the parts to come are.
+-- Variables in scope, node by node: while the nodes passed are in scope, the term is if the row ahead is.
 use mathlib.Core.Path.{_≡_, refl, sym, _∙_, ap, ap₂}
 use mathlib.Core.Bool.{Bool, true, false, _&&_, cond}
-use mathlib.Core.List.{List, _++_}
-use Prim.Native.Nat.{ℕ, _+_, _≤_, _<_}
+use mathlib.Core.List.{List}
+use Prim.Native.Nat.{ℕ, suc, _+_, _-_, _≤_}
 use native.Mathlib.Omega.{arith}
+use native.Mathlib.Nat.{add-zero}
 use native.Mathlib.Numerals.{add-one}
-use lib.Dec.{ltb}
-use lib.ListN.{length, getD}
-use borrow.Author.Tests.{lt-ltb, le-ltb}
-use Rattle.syntax.specs.Words.{kindOf, numberOf}
+use lib.ListN.{length, getD, set, length-set}
+use lib.Seq.{getD-set-same}
+use lib.Dec.{eqb}
+use Rattle.syntax.specs.Maybe.{given}
 use Rattle.syntax.specs.Kinds.{bindersAt}
-use Rattle.syntax.specs.Term.{Term, Terms, var, arg, node, asVar}
-use Rattle.syntax.specs.Encoding.{encode, encodeAll, size}
+use Rattle.syntax.specs.Term.{Term, Terms, var, call, lam, app, bind, pair, fst, snd, inl, inr, case, done, arg, node, asVar}
+use Rattle.syntax.specs.Encoding.{size}
 use Rattle.syntax.specs.Parts.{partCount}
+use Rattle.syntax.specs.Shaped.{count}
 use Rattle.syntax.proofs.Nodes.{words-of}
-use Rattle.parts.specs.Fronts.{Holds, Starts, from}
-use Rattle.parts.proofs.Traversal.{Going, front-of, enter, next, leave, reached, onward}
-use Rattle.typing.specs.TermChecks.{scopedAt}
-use Rattle.checker.specs.Answers.{Scopes}
-use Rattle.checker.proofs.Variables.{is-var, not-var}
+use Rattle.syntax.proofs.Sizes.{size-arg, size-done}
+use Rattle.parts.specs.Fronts.{Starts}
+use Rattle.parts.specs.Binding.{outer, inner}
+use Rattle.parts.specs.Depths.{Opens}
+use Rattle.parts.proofs.Gathering.{Gathering, ahead, ahead-one, ahead-opened, Near, near-begin, near-opened}
+use Rattle.parts.proofs.Rows.{Marching, Visit, visit, march-from, march-inside, march-fits, march-parts, march-on, march-end}
+use Rattle.parts.proofs.Rows.{one-starts, one-holds}
+use Rattle.typing.specs.TermChecks.{below, scopedAt}
 use Rattle.typing.proofs.ScopedNode.{scopedParts, scoped-node}
+use Rattle.checker.specs.Answers.{variableOf, Scopes}
 
 -- what the answer for one term tells
-pub scoped-if : (b : Bool) (u : Term) (l : ℕ) → l ≡ cond b (size u) 0 → (l ≡ 0 → ⊥) → (b ≡ true) × (l ≡ size u)
-scoped-if true u l e z = (refl, e)
+pub scoped-if : (b : Bool) (u : Term) (l : ℕ) → l ≡ cond b (size u) 0 → (l ≡ 0 → ⊥) → b ≡ true
+scoped-if true u l e z = refl
 scoped-if false u l e z = absurd (z e)
 
 pub unscoped-if : (b : Bool) (u : Term) (l : ℕ) → l ≡ cond b (size u) 0 → l ≡ 0 → b ≡ false
@@ -31,71 +37,141 @@ unfolding size
 unscoped-if true u l e z = absurd (omega (arith, words-of u))
 unscoped-if false u l e z = refl
 
--- with parts still to come from part j on, of a node of kind k
-pub record ToCome (m k j : ℕ) (t : Term) (ts : Terms) : Type 0 where
-  pub same : scopedAt m t ≡ scopedParts m k j ts
+pub and-true : (b : Bool) → (b && true) ≡ b
+and-true true = refl
+and-true false = refl
 
-module _ (calls : List ℕ) (m : ℕ) (words : List ℕ) where
-  -- a variable is all of its term
-  scoped-var : (n : ℕ) → kindOf (getD words 0 0) ≡ 0 → n ≡ numberOf (getD words 0 0) → Scopes calls m words (cond (ltb n m) 1 0)
-  unfolding node asVar size encode scopedAt scopedParts
-  scoped-var n z e t rest h =
-      let f = front-of h in
-      is-var (λ (u : Term). numberOf (getD words 0 0) ≡ node u .number → cond (ltb n m) 1 0 ≡ cond (scopedAt m u) (size u) 0) t
-      (sym (f .kind) ∙ z)
-      (λ v g. ap (λ (b : Bool). cond b 1 0) (ap (λ (x : ℕ). ltb x m) (e ∙ g) ∙ sym (and-one (ltb v m)) ∙ sym (scoped-node m (var v))))
-      (f .number)
-    where
-      and-one : (b : Bool) → (b && true) ≡ b
-      and-one true = refl
-      and-one false = refl
+pub and-and : (a b c : Bool) → ((a && b) && c) ≡ (a && (b && c))
+and-and true b c = refl
+and-and false b c = refl
 
-  pub var-in : (n : ℕ) → kindOf (getD words 0 0) ≡ 0 → n ≡ numberOf (getD words 0 0) → n < m → Scopes calls m words 1
-  var-in n z e h t rest g = ap (λ (b : Bool). cond b 1 0) (sym (lt-ltb n m h)) ∙ scoped-var n z e t rest g
+-- the terms of a row under one number of binders and inputs
+unfoldable pub scopedAll : Terms → ℕ → Bool
+scopedAll done m = true
+scopedAll (arg t ts) m = scopedAt m t && scopedAll ts m
 
-  pub var-out : (n : ℕ) → kindOf (getD words 0 0) ≡ 0 → n ≡ numberOf (getD words 0 0) → m ≤ n → Scopes calls m words 0
-  var-out n z e h t rest g = ap (λ (b : Bool). cond b 1 0) (sym (le-ltb n m h)) ∙ scoped-var n z e t rest g
+abbrev pub inside : Gathering Bool
+unfolding scopedAll
+inside = record {
+  one = λ t m. scopedAt m t;
+  all = scopedAll;
+  none = true;
+  join = _&&_;
+  all-done = λ m. refl;
+  all-arg = λ t ts m. refl;
+  none-join = λ b. refl;
+  join-none = and-true;
+  join-join = and-and;
+}
 
-  -- before the first part
-  pub scoped-enter : (k n : ℕ) → k ≡ kindOf (getD words 0 0) → (k ≡ 0 → ⊥) → n ≡ partCount calls (getD words 0 0) → Starts calls words
-      → Going calls words (ToCome m k 0) n 1 0
-  scoped-enter k n ke z ne s = enter calls words (ToCome m k 0) n s ne λ t rest h.
-      let ft : k ≡ node t .kind = ke ∙ front-of h .kind in
-      record {
-        same = scoped-node m t
-            ∙ ap₂ {C = Bool} (λ (a : Bool) (i : ℕ). a && scopedParts m i 0 (node t .parts)) (not-var m t (λ y. z (ft ∙ y))) (sym ft);
+-- a node is in scope if its own variable is, and its outer parts as they stand, and its inner ones under one binder
+module _ (m : ℕ) where
+  at-0 : (t : Term) → scopedAt (m + 0) t ≡ scopedAt m t
+  at-0 t = ap (λ (n : ℕ). scopedAt n t) (add-zero m)
+
+  at-1 : (t : Term) → scopedAt (m + 1) t ≡ scopedAt (suc m) t
+  at-1 t = ap (λ (n : ℕ). scopedAt n t) (add-one m)
+
+  arguments : (j : ℕ) (ts : Terms) → scopedParts m 1 j ts ≡ scopedAll ts m
+  unfolding scopedParts scopedAll bindersAt
+  arguments j done = refl
+  arguments j (arg t ts) = ap₂ {C = Bool} (λ a b. a && b) (at-0 t) (arguments (suc j) ts)
+
+  scoped-binding : (t : Term) → scopedAt m t ≡ (below m (asVar t) && (scopedAll (outer t) m && scopedAll (inner t) (suc m)))
+  unfolding scopedParts scopedAll bindersAt node asVar outer inner
+  scoped-binding (var n) = scoped-node m (var n)
+  scoped-binding (call k ts) = scoped-node m (call k ts) ∙ arguments 0 ts ∙ sym (and-true (scopedAll ts m))
+  scoped-binding (lam A b) = scoped-node m (lam A b) ∙ simp (at-1 b)
+  scoped-binding (app f a) = scoped-node m (app f a) ∙ simp (at-0 f, at-0 a, and-true)
+  scoped-binding (bind e b) = scoped-node m (bind e b) ∙ simp (at-0 e, at-1 b, and-true)
+  scoped-binding (pair A a b) = scoped-node m (pair A a b) ∙ simp (at-0 a, at-0 b, and-true)
+  scoped-binding (fst a) = scoped-node m (fst a) ∙ simp (at-0 a, and-true)
+  scoped-binding (snd a) = scoped-node m (snd a) ∙ simp (at-0 a, and-true)
+  scoped-binding (inl A a) = scoped-node m (inl A a) ∙ simp (at-0 a, and-true)
+  scoped-binding (inr A a) = scoped-node m (inr A a) ∙ simp (at-0 a, and-true)
+  scoped-binding (case s l r) = scoped-node m (case s l r) ∙ simp (at-0 s, at-1 l, at-1 r, and-true)
+
+-- the row is in scope if the row ahead is
+abbrev pub Scoping : (p : List ℕ) (m : ℕ) → Terms → Terms → Type 0
+Scoping p m ts us = scopedAll ts m ≡ ahead inside p us
+
+-- the loop's invariant
+pub record Scan (calls words p : List ℕ) (m owed at : ℕ) : Type 0 where
+  pub space : length words + 2 ≤ length p
+  pub near : Near p owed (m + at)
+  pub going : Marching calls words (Scoping p m) 1 at owed
+
+pub scan-begin : {calls words : List ℕ} (p : List ℕ) (m : ℕ) → Starts calls words → length words + 2 ≤ length p
+    → Scan calls words (set p 0 m) m 1 0
+unfolding scopedAll inside
+scan-begin {calls} {words} p m s sp = record {
+  space = omega (arith, sp, length-set p 0 m);
+  near = near-begin p m (omega (arith, sp));
+  going = march-from calls words (Scoping (set p 0 m) m) 1 (one-starts s) λ ts e.
+      sym (ahead-one inside (set p 0 m) m ts e (getD-set-same p 0 m 0 (omega (arith, sp))));
+}
+
+module _ {calls words p : List ℕ} {m owed at : ℕ} (g : Scan calls words p m owed at) where
+  pub scan-inside : at + owed ≤ length words
+  scan-inside = march-inside calls words (g .going)
+
+  -- no term is owed
+  pub scan-end : owed ≡ 0 → Scopes calls m words at
+  unfolding scopedAll ahead
+  scan-end z t rest h =
+      let e = march-end calls words (g .going) z (arg t done) rest (one-holds h) in
+      let l : at ≡ size t = omega (arith, e .0, size-arg t done, size-done) in
+      l ∙ ap (λ (b : Bool). cond b (size t) 0) (sym (sym (and-true (scopedAt m t)) ∙ e .1))
+
+  module _ (lt : 1 ≤ owed) where
+    abbrev under : ℕ
+    under = getD p (owed - 1) 0
+
+    -- the node at the front is in scope if its variable is, and its parts are
+    at-node : {ts : Terms} {rest : List ℕ} (v : Visit calls words (Scoping p m) at owed ts rest) (b : Bool)
+        → below under (variableOf (getD words at 0)) ≡ b
+        → scopedAll ts m
+        ≡ ((b && (scopedAll (outer (v .term)) under && scopedAll (inner (v .term)) (suc under))) && ahead inside p (v .later))
+    unfolding ahead inside asVar
+    at-node v b e =
+        let c : count (v .later) ≡ owed - 1 = omega (arith, v .many) in
+        let own : below under (asVar (v .term)) ≡ b =
+        ap₂ (λ (k n : ℕ). below under (given (eqb k 0) n)) (sym (v .kind)) (sym (v .number)) ∙ e in
+        let parts = scopedAll (outer (v .term)) under && scopedAll (inner (v .term)) (suc under) in
+        v .to-do
+        ∙ ap (λ (i : ℕ). scopedAt (getD p i 0) (v .term) && ahead inside p (v .later)) c
+        ∙ ap (λ (x : Bool). x && ahead inside p (v .later)) (scoped-binding under (v .term) ∙ ap (λ (x : Bool). x && parts) own)
+
+    -- a variable is out of scope
+    pub scan-out : below under (variableOf (getD words at 0)) ≡ false → Scopes calls m words 0
+    unfolding scopedAll
+    scan-out e t rest h =
+        let v = visit calls words (g .going) lt (arg t done) rest (one-holds h) in
+        ap (λ (b : Bool). cond b (size t) 0) (sym (sym (and-true (scopedAt m t)) ∙ at-node v false e))
+
+    module _ (far : m + length words ≤ 65536) where
+      -- the depths of the node's parts have room
+      pub scan-opens : (owed - 1 + 3 ≤ length p) × (owed - 1 + partCount calls (getD words at 0) ≤ length p) × (under ≤ 65536)
+      scan-opens = (
+        omega (arith, scan-inside, g .space, lt),
+        omega (arith, march-parts calls words (g .going) lt, march-fits calls words (g .going), g .space),
+        omega (arith, g .near (owed - 1) (omega (arith, lt)), far, scan-inside),
+      )
+
+      -- a node in scope
+      pub scan-node : (q : List ℕ) (r : ℕ) → length q ≡ length p → below under (variableOf (getD words at 0)) ≡ true
+          → Opens calls (getD words at 0) under p q (owed - 1) r → Scan calls words q m r (at + 1)
+      unfolding inside
+      scan-node q r l e w = record {
+        space = omega (arith, g .space, l);
+        near = λ j h.
+            let n = near-opened (w .opened) (λ i k. g .near i (omega (arith, k))) (g .near (owed - 1) (omega (arith, lt))) j
+            (omega (arith, h, w .many)) in
+            omega (arith, n);
+        going = march-on calls words (g .going) lt (Scoping q m) r (w .many) λ ts rest v.
+            let c : owed - 1 ≡ count (v .later) = omega (arith, v .many) in
+            let o = outer (v .term) in
+            let i = inner (v .term) in
+            at-node v true e ∙ and-and (scopedAll o under) (scopedAll i (suc under)) (ahead inside p (v .later))
+            ∙ sym (ahead-opened inside (w .opened) o i (v .later) c (v .outers) (v .parts));
       }
-
-  module _ {k n at j : ℕ} (g : Going calls words (ToCome m k j) n at j) where
-    -- no part is left
-    pub scoped-leave : n ≤ j → Scopes calls m words at
-    unfolding scopedParts
-    scoped-leave ge t rest h = let (e, q) = leave calls words g ge t rest h in e ∙ ap (λ (b : Bool). cond b (size t) 0) (sym (q .same))
-
-    module _ (lt : j < n) (l : ℕ) (a : Scopes calls (m + bindersAt k j) (from words at) l) where
-      of-part : (t u : Term) (us : Terms) (b : Bool) → ToCome m k j t (arg u us) → scopedAt (m + bindersAt k j) u ≡ b
-          → scopedAt m t ≡ (b && scopedParts m k (j + 1) us)
-      unfolding scopedParts
-      of-part t u us b q e = q .same ∙ ap₂ {C = Bool} (λ (x : Bool) (i : ℕ). x && scopedParts m k i us) e (sym (add-one j))
-
-      -- a part is out of scope
-      pub scoped-fail : l ≡ 0 → Scopes calls m words 0
-      scoped-fail z t rest h =
-          let x = next calls words g lt t rest h in
-          let u = x .part in
-          let out = unscoped-if (scopedAt (m + bindersAt k j) u) u l (a u _ (x .holds)) z in
-          ap (λ (b : Bool). cond b (size t) 0) (sym (of-part t u (x .later) false (x .to-do) out))
-
-      module _ (z : l ≡ 0 → ⊥) where
-        passes : (t : Term) (rest : List ℕ) → Holds calls words t rest → (u : Term) (us : Terms)
-            → Holds calls (from words at) u (encodeAll us ++ rest) → ToCome m k j t (arg u us) → (l ≡ size u) × ToCome m k (j + 1) t us
-        passes t rest h u us hu q =
-            let (inside, e) = scoped-if (scopedAt (m + bindersAt k j) u) u l (a u _ hu) z in
-            (e, record { same = of-part t u us true q inside })
-
-        -- a part is in scope
-        pub scoped-next : Going calls words (ToCome m k (j + 1)) n (at + l) (j + 1)
-        scoped-next = onward calls words (ToCome m k (j + 1)) l g lt passes
-
-        pub scoped-reached : at + l ≤ length words
-        scoped-reached = reached calls words (ToCome m k (j + 1)) l g lt passes

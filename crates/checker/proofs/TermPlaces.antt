@@ -106,7 +106,7 @@ module _ (tables : Tables) (words : List ℕ) (pass : tableRefusal otherLimit ta
     unfolding scoped
     are-in-scope z = record {
       decoded = d;
-      in-scope = scoped-if (scopedAt (length (tables .inputs)) (d .term)) (d .term) l told z .0;
+      in-scope = scoped-if (scopedAt (length (tables .inputs)) (d .term)) (d .term) l told z;
     }
 
   module _ (i : InScope tables words) (r : Inferred) (a : Infers tables (tables .inputs) words r) where

@@ -1,11 +1,8 @@
--- A term of kind 0 is a variable, and no other term names one.
+-- A term of kind 0 is a variable.
 use mathlib.Core.Path.{_≡_}
-use mathlib.Core.Bool.{true}
 use Prim.Native.Nat.{ℕ}
 use native.Mathlib.Omega.{arith}
-use borrow.Author.Tests.{ne-eqb}
-use Rattle.syntax.specs.Term.{Term, var, call, lam, app, bind, pair, fst, snd, inl, inr, case, node, asVar}
-use Rattle.typing.specs.TermChecks.{below}
+use Rattle.syntax.specs.Term.{Term, var, call, lam, app, bind, pair, fst, snd, inl, inr, case, node}
 
 pub is-var : (P : Term → Type 0) (t : Term) → node t .kind ≡ 0 → ((n : ℕ) → P (var n)) → P t
 unfolding node
@@ -20,7 +17,3 @@ is-var P (snd a) h k = absurd (omega arith)
 is-var P (inl A a) h k = absurd (omega arith)
 is-var P (inr A a) h k = absurd (omega arith)
 is-var P (case s l r) h k = absurd (omega arith)
-
-pub not-var : (m : ℕ) (t : Term) → (node t .kind ≡ 0 → ⊥) → below m (asVar t) ≡ true
-unfolding asVar
-not-var m t h = simp (ne-eqb (node t .kind) 0 h)

@@ -6,6 +6,8 @@ use mathlib.Core.List.{List, _∷_}
 use mathlib.Core.Option.{Option, some, none}
 use lib.Dec.{eqb}
 use lib.ListN.{getD}
+use Rattle.syntax.specs.Maybe.{given}
+use Rattle.syntax.specs.Words.{kindOf, numberOf}
 use Rattle.syntax.specs.Tables.{Tables}
 use Rattle.syntax.specs.Term.{Term}
 use Rattle.syntax.specs.Encoding.{size}
@@ -34,6 +36,10 @@ inferredOf (some A) n = Typed A n
 abbrev pub Infers : Tables → Context → List ℕ → Inferred → Type 0
 Infers tables Γ words r =
     (t : Term) (rest : List ℕ) → Holds (tables .calls) words t rest → r ≡ inferredOf (infer tables t Γ) (size t)
+
+-- the number in a word that is a variable's
+abbrev pub variableOf : ℕ → Option ℕ
+variableOf w = given (eqb (kindOf w) 0) (numberOf w)
 
 -- for whatever term the words begin with: its number of words if its variables are in scope, and else 0
 abbrev pub Scopes : List ℕ → ℕ → List ℕ → ℕ → Type 0

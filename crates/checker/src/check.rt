@@ -16,6 +16,7 @@ use crate::tables::types_fit;
 use crate::words::is_whole;
 use crate::words::words_fit;
 use outcomes::Checked;
+use parts::PENDING;
 
 // the most term words that a call that normalizes takes
 pub const NORMALIZE_LIMIT: usize = 4096;
@@ -64,10 +65,10 @@ pub fn term_verdict(types: &[u64], calls: &[u64], inputs: &[u64], term: &[u64]) 
     if !is_whole(calls, term) {
         return Checked { refusal: 7, ty: 0 };
     }
-    if scoped(calls, inputs.len(), term) == 0 {
+    let mut stack: [u64; PENDING] = [0; PENDING];
+    if scoped(calls, inputs.len(), term, &mut stack) == 0 {
         return Checked { refusal: 8, ty: 0 };
     }
-    let mut stack: [u64; OTHER_LIMIT] = [0; OTHER_LIMIT];
     let r = infer(types, calls, inputs, &mut stack, 0, term);
     match r {
         Inferred::Typed(a, _) => Checked { refusal: 0, ty: a },

@@ -1,35 +1,41 @@
 // Variables in scope: refusal 8.
+ghost use mathlib.Core.Path.{_≡_};
 ghost use Prim.Native.Nat.{_+_, _≤_};
 ghost use lib.ListN.{length};
 ghost use Rattle.parts.specs.Fronts.{Starts};
-ghost use Rattle.checker.specs.Answers.{Scopes};
+ghost use Rattle.typing.specs.TermChecks.{below};
+ghost use Rattle.checker.specs.Answers.{variableOf, Scopes};
+use parts::depths::open_parts;
 
-// 8: the number of words of the first term if its variables are in scope, and else 0
-pub fn scoped(calls: &[u64], bound: usize, term: &[u64]) -> usize
+// whether a word names one of so many binders and inputs, where it is a variable's
+fn in_scope(w: u64, depth: u64) -> bool
+    ensures { λ r. ⌜ r ≡ below depth (variableOf w) ⌝ }
+{
+    if parts::fields::kind(w) == 0 {
+        return parts::fields::number(w) < depth;
+    }
+    true
+}
+
+// 8: the number of words of the first term if its variables are in scope, and else 0; `pending` has the depths of the parts still to come
+pub fn scoped(calls: &[u64], bound: usize, term: &[u64], pending: &mut [u64]) -> usize
     requires room { ⌜ bound + length (now term) ≤ 65536 ⌝ }
     requires starts { ⌜ Starts (now calls) (now term) ⌝ }
+    requires space { ⌜ length (now term) + 2 ≤ length (now pending) ⌝ }
     ensures { λ r. ⌜ Scopes (now (calls .entry)) bound (now (term .entry)) r ⌝ }
 {
-    let w = term[0];
-    let k = parts::fields::kind(w);
-    if k == 0 {
-        let n = parts::fields::number(w) as usize;
-        if n < bound {
-            return 1;
-        }
-        return 0;
-    }
-    let count = parts::shape::part_count(calls, w);
-    let mut at: usize = 1;
-    let mut j: usize = 0;
-    while j < count {
-        let inner = bound + parts::shape::binders(k, j);
-        let l = scoped(calls, inner, &term[at..]);
-        if l == 0 {
+    let mut owed: usize = 1;
+    let mut at: usize = 0;
+    pending[0] = bound as u64;
+    while 0 < owed {
+        let w = term[at];
+        let last = owed - 1;
+        let under = pending[last];
+        if !in_scope(w, under) {
             return 0;
         }
-        at = at + l;
-        j += 1;
+        owed = open_parts(calls, w, under, pending, last);
+        at += 1;
     }
     at
 }

@@ -37,11 +37,15 @@ decoded c =
     let s = c .before .before in
     is-whole (tables s) (words s) (pass s) (told-true (c .before .is-whole .ensures) (c .if1 .left))
 
-in-scope : (c : tie.Else2) → InScope (tables (c .before .before .before .before)) (words (c .before .before .before .before))
+-- the place where the words are known to be whole, from the one where they are known to be in scope
+abbrev whole : tie.Else2 → tie.Else1
+whole c = c .before .before .before .before
+
+in-scope : (c : tie.Else2) → InScope (tables (whole c .before .before)) (words (whole c .before .before))
 in-scope c =
-    let d = c .before .before in
+    let d = whole c in
     let s = d .before .before in
-    are-in-scope (tables s) (words s) (pass s) (decoded d) _ (c .before .scoped .ensures) (c .if2 .left)
+    are-in-scope (tables s) (words s) (pass s) (decoded d) _ (c .before .before .scoped .ensures) (c .if2 .left)
 
 pub term-verdict-spec : {M : Type 1} → statement M
 unfolding scope
@@ -52,27 +56,29 @@ term-verdict-spec =
     (λ c.
     let s = c .before .before in
     not-whole (tables s) (words s) (pass s) (told-false (c .before .is-whole .ensures) (c .if1 .taken)))
+    (λ c. search needs)
     (λ c κs.
-    let f = fit (c .before .before) in
-    (omega (arith, f .inputs, f .short), starts (decoded c)))
+    let d = c .before in
+    let f = fit (d .before .before) in
+    (omega (arith, f .inputs, f .short), (starts (decoded d), omega (arith, f .short, length-replicate {A = ℕ} 8194 0))))
     (λ c.
-    let d = c .before .before in
+    let d = c .before .before .before .before in
     let s = d .before .before in
-    out-of-scope (tables s) (words s) (pass s) (decoded d) _ (c .before .scoped .ensures) (c .if2 .taken))
+    out-of-scope (tables s) (words s) (pass s) (decoded d) _ (c .before .before .scoped .ensures) (c .if2 .taken))
     (λ c. search needs)
     (λ c κs.
     let i = c .before in
-    let f = fit (i .before .before .before .before) in
-    (omega (arith, f .short, length-replicate {A = ℕ} otherLimit 0), starts (in-scope i .decoded)))
+    let f = fit (whole i .before .before) in
+    (omega (arith, f .short), starts (in-scope i .decoded)))
     (λ c. search needs)
     (λ c. search needs)
     (λ c.
     let r = c .before .before .before .before in
     let i = r .before .before in
-    let s = i .before .before .before .before in
+    let s = whole i .before .before in
     has-type (tables s) (words s) (pass s) (in-scope i) _ (r .infer .ensures .1) _ _ (c .before .r .given .1))
     (λ c.
     let r = c .before .before .before in
     let i = r .before .before in
-    let s = i .before .before .before .before in
+    let s = whole i .before .before in
     has-no-type (tables s) (words s) (pass s) (in-scope i) _ (r .infer .ensures .1) (c .enum-told .given .1)))
