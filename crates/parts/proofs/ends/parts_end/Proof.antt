@@ -1,6 +1,6 @@
 -- Each word read pays for one part and owes its own; what is left to read is what is owed.
 use mathlib.Core.Path.{_≡_, refl, sym, ap}
-use mathlib.Core.List.{List, [], _∷_}
+use mathlib.Core.List.{List}
 use Prim.Native.Nat.{ℕ, _≤_, _<_, _+_, _-_, _*_}
 use native.Mathlib.Omega.{arith}
 use borrow.Author.Needs.{needs}
@@ -13,14 +13,12 @@ use Rattle.parts.proofs.PartCounts.{of-call, of-kind, kinds-agree}
 use Rattle.parts.proofs.ends.parts_end.Statement.{statement}
 use Rattle.parts.proofs.ends.parts_end.Tie as tie
 
-abbrev table : List ℕ
-table = 0 ∷ 0 ∷ 1 ∷ 2 ∷ 2 ∷ 2 ∷ 1 ∷ 1 ∷ 1 ∷ 1 ∷ 3 ∷ 0 ∷ 0 ∷ 0 ∷ 0 ∷ 0 ∷ []
+-- a table of the part counts
+abbrev Tabled : List ℕ → Type 0
+Tabled counts = (k : ℕ) → k < 16 → getD counts k 0 ≡ partsOfKind 0 k
 
-agrees : (k : ℕ) → k < 16 → getD table k 0 ≡ partsOfKind 0 k
-agrees = kinds-agree (λ j. getD table j 0) (partsOfKind 0) refl
-
-at-most : (k : ℕ) → k < 16 → getD table k 0 ≤ 15
-at-most k l = omega (arith, agrees k l, parts-le 0 k (omega arith))
+at-most : {counts : List ℕ} → Tabled counts → (k : ℕ) → k < 16 → getD counts k 0 ≤ 15
+at-most h k l = omega (arith, h k l, parts-le 0 k (omega arith))
 
 -- before a turn
 record Turn (calls t : List ℕ) (n owed i : ℕ) : Type 0 where
@@ -40,31 +38,35 @@ still-few : {calls t : List ℕ} {n owed i r : ℕ} → Turn calls t n owed i �
 still-few s l = omega (arith, s .small, s .within, s .few, l)
 
 abbrev Inv-loop : tie.InvT-loop
-Inv-loop calls t n counts owed₀ i₀ owed i = Turn calls t n owed i
+Inv-loop calls t n counts owed₀ i₀ owed i = Tabled counts × Turn calls t n owed i
 
 abbrev μ-loop : tie.MeasureT-loop
 μ-loop calls t n counts owed₀ i₀ owed i = length t - i
 
 loop-holds : tie.Need-loop-holds Inv-loop μ-loop
-loop-holds c = record { small = c .before .before .pre; within = omega arith; few = omega arith; owing = owing-start _ _ _ }
+loop-holds c = (
+  kinds-agree _ (partsOfKind 0) refl,
+  record { small = c .before .before .pre; within = omega arith; few = omega arith; owing = owing-start _ _ _ },
+)
 
 returns : tie.Need-returns Inv-loop μ-loop
-returns c = sym (ap endOf (owing-short _ _ _ _ _ (c .before .loop-test .taken) (c .if1 .taken) (c .before .before .loop .inv .owing)))
+returns c = sym (ap endOf (owing-short _ _ _ _ _ (c .before .loop-test .taken) (c .if1 .taken) (c .before .before .loop .inv .1 .owing)))
 
 -- a call
 add-owed : tie.Need-add-owed Inv-loop μ-loop
 add-owed c =
     let loop = c .before .before .before .before .before .before .before .loop in
-    omega (arith, still-few (loop .inv) (c .arity .ensures .1))
+    omega (arith, still-few (loop .inv .1) (c .arity .ensures .1))
 
 again : tie.Need-loop-again Inv-loop μ-loop
 again c =
     let loop = c .before .before .before .before .before .before .before .loop in
     let loop-test = c .before .before .before .before .before .before .loop-test in
     let if1 = c .before .before .before .before .before .if1 in
-    turn _ _ _ _ _ _ (loop .inv) (loop-test .taken) (if1 .left)
+    let next = turn _ _ _ _ _ _ (loop .inv .1) (loop-test .taken) (if1 .left)
     (of-call _ _ _ _ _ (c .before .before .before .kind .ensures) (c .before .before .if2 .taken) (c .before .number .ensures)
-    (c .arity .ensures))
+    (c .arity .ensures)) in
+    (loop .inv .0, next)
 
 -- any other kind
 in-table : tie.Need-array-read-owed Inv-loop μ-loop
@@ -73,23 +75,26 @@ in-table c =
     omega (arith, c .before .kind .ensures, c .before .before .shared-slice-known3 .given (loop .i))
 
 cast-owed : tie.Need-cast-owed Inv-loop μ-loop
-cast-owed c = omega (arith, at-most _ (in-table c))
+cast-owed c =
+    let loop = c .before .before .before .before .before .loop in
+    omega (arith, at-most (loop .inv .0) _ (in-table c))
 
 add-owed-2 : tie.Need-add-owed-2 Inv-loop μ-loop
 add-owed-2 c =
     let loop = c .before .before .before .before .before .loop in
-    omega (arith, still-few (loop .inv) (at-most _ (in-table c)))
+    omega (arith, still-few (loop .inv .1) (at-most (loop .inv .0) _ (in-table c)))
 
 again-2 : tie.Need-loop-again-2 Inv-loop μ-loop
 again-2 c =
     let loop = c .before .before .before .before .before .loop in
     let loop-test = c .before .before .before .before .loop-test in
     let if1 = c .before .before .before .if1 in
-    turn _ _ _ _ _ _ (loop .inv) (loop-test .taken) (if1 .left)
-    (of-kind _ _ _ _ (c .before .kind .ensures) (c .if2 .left) (agrees _ (in-table c)))
+    let next = turn _ _ _ _ _ _ (loop .inv .1) (loop-test .taken) (if1 .left)
+    (of-kind _ _ _ _ (c .before .kind .ensures) (c .if2 .left) (loop .inv .0 _ (in-table c))) in
+    (loop .inv .0, next)
 
 returns-2 : tie.Need-returns-2 Inv-loop μ-loop
-returns-2 c = sym (ap endOf (owing-done _ _ _ _ _ (c .loop-test .left) (c .before .loop .inv .owing)))
+returns-2 c = sym (ap endOf (owing-done _ _ _ _ _ (c .loop-test .left) (c .before .loop .inv .1 .owing)))
 
 pub parts-end-spec : {M : Type 1} → statement M
 parts-end-spec =
