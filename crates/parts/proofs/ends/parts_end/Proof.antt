@@ -17,8 +17,8 @@ use Rattle.parts.proofs.ends.parts_end.Tie as tie
 abbrev Tabled : List ℕ → Type 0
 Tabled counts = (k : ℕ) → k < 16 → getD counts k 0 ≡ partsOfKind 0 k
 
-at-most : {counts : List ℕ} → Tabled counts → (k : ℕ) → k < 16 → getD counts k 0 ≤ 15
-at-most h k l = omega (arith, h k l, parts-le 0 k (omega arith))
+at-most : (k r : ℕ) → r ≡ partsOfKind 0 k → r ≤ 15
+at-most k r e = omega (arith, e, parts-le 0 k (omega arith))
 
 -- before a turn
 record Turn (calls t : List ℕ) (n owed i : ℕ) : Type 0 where
@@ -77,12 +77,12 @@ in-table c =
 cast-owed : tie.Need-cast-owed Inv-loop μ-loop
 cast-owed c =
     let loop = c .before .before .before .before .before .loop in
-    omega (arith, at-most (loop .inv .0) _ (in-table c))
+    omega (arith, at-most (c .before .kind .result) _ (loop .inv .0 _ (in-table c)))
 
 add-owed-2 : tie.Need-add-owed-2 Inv-loop μ-loop
 add-owed-2 c =
     let loop = c .before .before .before .before .before .loop in
-    omega (arith, still-few (loop .inv .1) (at-most (loop .inv .0) _ (in-table c)))
+    omega (arith, still-few (loop .inv .1) (at-most (c .before .kind .result) _ (loop .inv .0 _ (in-table c))))
 
 again-2 : tie.Need-loop-again-2 Inv-loop μ-loop
 again-2 c =
