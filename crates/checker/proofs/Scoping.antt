@@ -1,6 +1,6 @@
 -- Variables in scope, node by node: while the nodes passed are in scope, the term is if the row ahead is.
 use mathlib.Core.Path.{_≡_, refl, sym, _∙_, ap, ap₂}
-use mathlib.Core.Bool.{Bool, true, false, _&&_, cond}
+use mathlib.Core.Bool.{Bool, true, false, _&&_, cond, and-true, and-assoc}
 use mathlib.Core.List.{List}
 use Prim.Native.Nat.{ℕ, suc, _+_, _-_, _≤_}
 use native.Mathlib.Omega.{arith}
@@ -20,8 +20,8 @@ use Rattle.syntax.proofs.Sizes.{size-arg, size-done}
 use Rattle.parts.specs.Fronts.{Starts}
 use Rattle.parts.specs.Binding.{outer, inner}
 use Rattle.parts.specs.Depths.{Opens}
-use Rattle.parts.proofs.Gathering.{Gathering, ahead, ahead-one, ahead-opened, Near, near-begin, near-opened}
-use Rattle.parts.proofs.Rows.{Marching, Visit, visit, march-from, march-inside, march-fits, march-parts, march-on, march-end}
+use Rattle.parts.proofs.Gathering.{Gathering, ahead, ahead-one, ahead-opened, Near, near-begin, near-next, opens-room}
+use Rattle.parts.proofs.Rows.{Marching, Visit, visit, march-from, march-inside, march-fits, march-on, march-end}
 use Rattle.parts.proofs.Rows.{one-starts, one-holds}
 use Rattle.typing.specs.TermChecks.{below, scopedAt}
 use Rattle.typing.proofs.ScopedNode.{scopedParts, scoped-node}
@@ -36,14 +36,6 @@ pub unscoped-if : (b : Bool) (u : Term) (l : ℕ) → l ≡ cond b (size u) 0 �
 unfolding size
 unscoped-if true u l e z = absurd (omega (arith, words-of u))
 unscoped-if false u l e z = refl
-
-pub and-true : (b : Bool) → (b && true) ≡ b
-and-true true = refl
-and-true false = refl
-
-pub and-and : (a b c : Bool) → ((a && b) && c) ≡ (a && (b && c))
-and-and true b c = refl
-and-and false b c = refl
 
 -- the terms of a row under one number of binders and inputs
 unfoldable pub scopedAll : Terms → ℕ → Bool
@@ -61,7 +53,7 @@ inside = record {
   all-arg = λ t ts m. refl;
   none-join = λ b. refl;
   join-none = and-true;
-  join-join = and-and;
+  join-join = and-assoc;
 }
 
 -- a node is in scope if its own variable is, and its outer parts as they stand, and its inner ones under one binder
@@ -152,11 +144,7 @@ module _ {calls words p : List ℕ} {m owed at : ℕ} (g : Scan calls words p m 
     module _ (far : m + length words ≤ 65536) where
       -- the depths of the node's parts have room
       pub scan-opens : (owed - 1 + 3 ≤ length p) × (owed - 1 + partCount calls (getD words at 0) ≤ length p) × (under ≤ 65536)
-      scan-opens = (
-        omega (arith, scan-inside, g .space, lt),
-        omega (arith, march-parts calls words (g .going) lt, march-fits calls words (g .going), g .space),
-        omega (arith, g .near (owed - 1) (omega (arith, lt)), far, scan-inside),
-      )
+      scan-opens = opens-room p m 2 (g .going) (g .near) (omega (arith, march-fits calls words (g .going), g .space)) (omega arith) lt far
 
       -- a node in scope
       pub scan-node : (q : List ℕ) (r : ℕ) → length q ≡ length p → below under (variableOf (getD words at 0)) ≡ true
@@ -164,14 +152,11 @@ module _ {calls words p : List ℕ} {m owed at : ℕ} (g : Scan calls words p m 
       unfolding inside
       scan-node q r l e w = record {
         space = omega (arith, g .space, l);
-        near = λ j h.
-            let n = near-opened (w .opened) (λ i k. g .near i (omega (arith, k))) (g .near (owed - 1) (omega (arith, lt))) j
-            (omega (arith, h, w .many)) in
-            omega (arith, n);
+        near = near-next p q m at owed r (g .near) lt w;
         going = march-on calls words (g .going) lt (Scoping q m) r (w .many) λ ts rest v.
             let c : owed - 1 ≡ count (v .later) = omega (arith, v .many) in
             let o = outer (v .term) in
             let i = inner (v .term) in
-            at-node v true e ∙ and-and (scopedAll o under) (scopedAll i (suc under)) (ahead inside p (v .later))
+            at-node v true e ∙ and-assoc (scopedAll o under) (scopedAll i (suc under)) (ahead inside p (v .later))
             ∙ sym (ahead-opened inside (w .opened) o i (v .later) c (v .outers) (v .parts));
       }

@@ -23,8 +23,8 @@ use Rattle.parts.specs.Depths.{Opens}
 use Rattle.parts.specs.declared.uses.Uses.{Uses}
 use Rattle.parts.proofs.Binding.{uses-binding}
 use Rattle.parts.proofs.Variables.{kind-0}
-use Rattle.parts.proofs.Gathering.{Gathering, ahead, ahead-one, ahead-opened, Near, near-begin, near-opened}
-use Rattle.parts.proofs.Rows.{Marching, march-from, march-inside, march-fits, march-end, march-on, march-parts, one-starts, one-holds}
+use Rattle.parts.proofs.Gathering.{Gathering, ahead, ahead-one, ahead-opened, Near, near-begin, near-next, opens-room}
+use Rattle.parts.proofs.Rows.{Marching, march-from, march-inside, march-fits, march-end, march-on, one-starts, one-holds}
 
 -- the uses of terms at their depths
 abbrev pub used : Gathering ℕ
@@ -104,11 +104,7 @@ module _ {calls words p : List ℕ} {d owed at u : ℕ} (g : Tally calls words p
   module _ (lt : 1 ≤ owed) (far : d + length words ≤ 65536) where
     -- the depths of the node's parts have room
     pub tally-opens : (owed - 1 + 3 ≤ length p) × (owed - 1 + partCount calls (getD words at 0) ≤ length p) × (getD p (owed - 1) 0 ≤ 65536)
-    tally-opens = (
-      omega (arith, tally-inside, g .space, lt),
-      omega (arith, march-parts calls words (g .going) lt, march-fits calls words (g .going), g .space),
-      omega (arith, g .near (owed - 1) (omega (arith, lt)), far, tally-inside),
-    )
+    tally-opens = opens-room p d 2 (g .going) (g .near) (omega (arith, march-fits calls words (g .going), g .space)) (omega arith) lt far
 
     -- a node
     pub count-node : (q : List ℕ) (s r : ℕ) → length q ≡ length p → s ≡ counts (eqb (getD words at 0) (pack 0 (getD p (owed - 1) 0) 0)) → s ≤ 1
@@ -119,10 +115,7 @@ module _ {calls words p : List ℕ} {d owed at u : ℕ} (g : Tally calls words p
         record {
           few = omega (arith, g .few, sl);
           space = omega (arith, g .space, l);
-          near = λ j h.
-              let n = near-opened (w .opened) (λ i k. g .near i (omega (arith, k))) (g .near (owed - 1) (omega (arith, lt))) j
-              (omega (arith, h, w .many)) in
-              omega (arith, n);
+          near = near-next p q d at owed r (g .near) lt w;
           going = march-on calls words (g .going) lt (Counting q d (u + s)) r (w .many) λ ts rest v.
               let c : owed - 1 ≡ count (v .later) = omega (arith, v .many) in
               let o = outer (v .term) in

@@ -9,10 +9,13 @@ use lib.ListN.{length, getD, set}
 use lib.Seq.{getD-set-same}
 use borrow.Author.Tests.{ltb-true, ltb-false}
 use Rattle.syntax.specs.Term.{Term, Terms, done, arg}
+use Rattle.syntax.specs.Parts.{partCount}
 use Rattle.syntax.specs.Shaped.{count}
+use Rattle.syntax.proofs.Sizes.{sizeAll}
 use Rattle.parts.specs.Joined.{joined}
-use Rattle.parts.specs.Depths.{Opened}
+use Rattle.parts.specs.Depths.{Opened, Opens}
 use Rattle.parts.proofs.Joined.{count-joined, joined-done}
+use Rattle.parts.proofs.Rows.{Marching, march-inside, march-within, march-parts}
 
 -- something of a term at a depth, and of a row at one depth
 pub record Gathering (M : Type 0) : Type 0 where
@@ -85,7 +88,7 @@ near-begin p d le j l =
     let z : j ≡ 0 = omega (arith, l) in
     omega (arith, ap (λ (i : ℕ). getD (set p 0 d) i 0) z, getD-set-same p 0 d 0 le)
 
-pub near-opened : {p q : List ℕ} {last n o d most : ℕ} → Opened p q last n o d → Near p last most → d ≤ most → Near q (last + n) (suc most)
+near-opened : {p q : List ℕ} {last n o d most : ℕ} → Opened p q last n o d → Near p last most → d ≤ most → Near q (last + n) (suc most)
 near-opened {p} {q} {last} {n} {o} {d} {most} w h le j l = by (ltb j last) refl
   where
     at : last ≤ j → getD q j 0 ≡ getD q (last + (j - last)) 0
@@ -98,3 +101,20 @@ near-opened {p} {q} {last} {n} {o} {d} {most} w h le j l = by (ltb j last) refl
     by : (b : Bool) → ltb j last ≡ b → getD q j 0 ≤ suc most
     by true e = omega (arith, w .kept j (ltb-true j last e), h j (ltb-true j last e))
     by false e = behind (ltb-false j last e) (ltb (j - last) (n - o)) refl
+
+-- a node is passed: the row ahead is one of its parts and the others, not deeper than one word further
+pub near-next : {calls : List ℕ} (p q : List ℕ) {w : ℕ} (d at owed r : ℕ) → Near p owed (d + at) → 1 ≤ owed
+    → Opens calls w (getD p (owed - 1) 0) p q (owed - 1) r → Near q r (d + (at + 1))
+near-next p q d at owed r near lt o j l =
+    let n = near-opened (o .opened) (λ i k. near i (omega (arith, k))) (near _ (omega (arith, lt))) j (omega (arith, l, o .many)) in
+    omega (arith, n)
+
+-- the depths of the parts of the node at the front have room
+pub opens-room : {calls words : List ℕ} (p : List ℕ) {Q : Terms → Terms → Type 0} (d m : ℕ) {at owed : ℕ} (g : Marching calls words Q 1 at owed)
+    → Near p owed (d + at) → sizeAll (g .start .terms) + m ≤ length p → 2 ≤ m → 1 ≤ owed → d + length words ≤ 65536
+    → (owed - 1 + 3 ≤ length p) × (owed - 1 + partCount calls (getD words at 0) ≤ length p) × (getD p (owed - 1) 0 ≤ 65536)
+opens-room {calls} {words} p d m {owed = owed} g near spare two lt far = (
+  omega (arith, march-within calls words g, spare, lt, two),
+  omega (arith, march-parts calls words g lt, spare),
+  omega (arith, near (owed - 1) (omega (arith, lt)), march-inside calls words g, far),
+)

@@ -21,8 +21,8 @@ use Rattle.parts.specs.Depths.{Opens}
 use Rattle.parts.proofs.Joined.{none-left}
 use Rattle.parts.proofs.Binding.{encode-binding}
 use Rattle.parts.proofs.Writing.{Writing, write-none, write-next, write-all, write-room}
-use Rattle.parts.proofs.Gathering.{Gathering, ahead, ahead-one, ahead-same, ahead-opened, Near, near-begin, near-opened}
-use Rattle.parts.proofs.Rows.{Marching, Visit, march-from, march-inside, march-within, march-end, visit, march-on, march-parts}
+use Rattle.parts.proofs.Gathering.{Gathering, ahead, ahead-one, ahead-same, ahead-opened, Near, near-begin, near-next, opens-room}
+use Rattle.parts.proofs.Rows.{Marching, Visit, march-from, march-end, visit, march-on}
 use Rattle.parts.proofs.Rows.{one-starts, one-holds}
 
 no-parts : (os is later : Terms) → count os ≡ 0 → count is ≡ 0 → later ≡ joined os (joined is later)
@@ -119,11 +119,7 @@ module _ {X A : Type 0} (kit : Kit X) (f : A → ℕ → X) where
     -- the depths of the node's parts have room
     pub trace-opens : 1 ≤ owed → 2 ≤ m → d + length words ≤ 65536
         → (owed - 1 + 3 ≤ length p) × (owed - 1 + partCount calls (getD words i 0) ≤ length p) × (getD p (owed - 1) 0 ≤ 65536)
-    trace-opens lt two far = (
-      omega (arith, march-within calls words (g .going), g .spare, lt, two),
-      omega (arith, march-parts calls words (g .going) lt, g .spare),
-      omega (arith, g .near (owed - 1) (omega (arith, lt)), march-inside calls words (g .going), far),
-    )
+    trace-opens lt two far = opens-room p d m (g .going) (g .near) (g .spare) two lt far
 
     module _ (lt : 1 ≤ owed) (w under : ℕ) (we : w ≡ getD words i 0) (ue : under ≡ getD p (owed - 1) 0) where
       pub trace-depth : under ≤ d + i
@@ -188,9 +184,7 @@ module _ {X A : Type 0} (kit : Kit X) (f : A → ℕ → X) where
         room = g .room;
         spare = omega (arith, g .spare, l);
         len = length-set new y x ∙ g .len;
-        near = λ j k.
-            let n = near-opened (ops .opened) (λ b c. g .near b (omega (arith, c))) trace-depth j (omega (arith, k, ops .many)) in
-            omega (arith, n);
+        near = near-next p q d i owed r (g .near) lt (subst (λ (x : ℕ). Opens calls w x p q (owed - 1) r) ue ops);
       }
         where
           outerCountOf : ℕ → ℕ

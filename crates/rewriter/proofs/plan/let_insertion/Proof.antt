@@ -29,7 +29,9 @@ let-insertion-spec =
     let at-size-from = c .before .before in
     let at-first-computation = at-size-from .before in
     let start = at-first-computation .before .before .before in
-    omega (arith, bound-inside _ _ _ (at-first-computation .first-computation .ensures) (start .pre .0) _ (at-size-from .size-from .ensures), start .pre .1))
+    let f = at-first-computation .first-computation .ensures in
+    let z = at-size-from .size-from .ensures in
+    omega (arith, bound-inside _ _ _ f (start .pre .0) _ z, start .pre .1))
     (λ c.
     let at-size-from = c .before .before in
     let at-first-computation = at-size-from .before in
@@ -71,21 +73,27 @@ let-insertion-spec =
     let at-size-from = at-owed-count .before .before in
     let at-first-computation = at-size-from .before in
     let start = at-first-computation .before .before .before in
+    let f = at-first-computation .first-computation .ensures in
+    let z = at-size-from .size-from .ensures in
     let n = at-owed-count .owed-count .ensures .0 in
-    let e = end-inside _ _ _ (at-first-computation .first-computation .ensures) (start .pre .0) _ (at-size-from .size-from .ensures) _ n _ (c .parts-size .ensures) in
+    let e = end-inside _ _ _ f (start .pre .0) _ z _ n _ (c .parts-size .ensures) in
     omega (arith, e, start .pre .1))
     (λ c.
     let at-owed-count = c .before .before .before in
     let at-size-from = at-owed-count .before .before in
     let at-first-computation = at-size-from .before in
     let start = at-first-computation .before .before .before in
+    let f = at-first-computation .first-computation .ensures in
+    let z = at-size-from .size-from .ensures in
     let n = at-owed-count .owed-count .ensures .0 in
-    let e = end-inside _ _ _ (at-first-computation .first-computation .ensures) (start .pre .0) _ (at-size-from .size-from .ensures) _ n _ (c .parts-size .ensures) in
+    let e = end-inside _ _ _ f (start .pre .0) _ z _ n _ (c .parts-size .ensures) in
     omega (arith, e, start .pre .1))
     (λ c.
     let at-owed-count = c .before .before .before in
     let at-size-from = at-owed-count .before .before in
     let at-first-computation = at-size-from .before in
     let start = at-first-computation .before .before .before in
+    let f = at-first-computation .first-computation .ensures in
+    let z = at-size-from .size-from .ensures in
     let n = at-owed-count .owed-count .ensures .0 in
-    insertion-measures _ _ _ (at-first-computation .first-computation .ensures) (start .pre .0) _ (at-size-from .size-from .ensures) _ n _ (c .parts-size .ensures)))
+    insertion-measures _ _ _ f (start .pre .0) _ z _ n _ (c .parts-size .ensures)))
