@@ -1,12 +1,11 @@
 pub mod Pasting
-pub mod Splicing
+pub mod Gapping
 pub mod Rewriting
 pub mod InPlace
-pub mod Seeking
+pub mod Finding
 pub mod Turning
 pub mod Standing
 pub mod StepLoop
 pub mod PhaseLoop
-pub mod Running
-pub mod Reducing
+pub mod Settling
 pub mod Deciding

@@ -7,7 +7,7 @@ use mathlib.Core.Path.{_≡_, refl, sym, _∙_, ap, ap₂}
 use mathlib.Core.List.{List, [], _∷_, _++_, append-assoc, append-nil}
 use lib.ListN.{length, getD, drop, take, set, replicate, length-drop, length-replicate, take-append-drop}
 use lib.Seq.{paste, paste-zero, paste-suc, drop-paste, getD-drop, getD-take, drop-cons, take-suc, set-at}
-use lib.Seq.{length-take-le, drop-drop}
+use lib.Seq.{length-take-le, drop-drop, drop-at, take-append-le, take-take}
 
 -- past what is pasted the words are the list's
 pub getD-paste-past : (l : List ℕ) (at : ℕ) (s : List ℕ) (n i : ℕ) → at + n ≤ length l → n ≤ length s → at + n ≤ i
@@ -83,6 +83,18 @@ zeros-all l₀ l i ge le e =
     all-dropped : (l : List ℕ) → drop (length l) l ≡ []
     all-dropped [] = refl
     all-dropped (x ∷ xs) = all-dropped xs
+
+-- the words before what is pasted, and those from it on
+pub take-before : (l : List ℕ) (at : ℕ) (s : List ℕ) (n i : ℕ) → at ≤ length l → i ≤ at → take i (paste l at s n) ≡ take i l
+take-before l at s n i h g =
+    let e : length (take at l) ≡ at = length-take-le at l h in
+    ap (take i) (append-assoc (take at l) (take n s) (drop (at + n) l))
+    ∙ take-append-le i (take at l) (take n s ++ drop (at + n) l) (omega (arith, e, g)) ∙ take-take i at l g
+
+pub drop-pasted : (l : List ℕ) (at : ℕ) (s : List ℕ) (n : ℕ) → at ≤ length l → drop at (paste l at s n) ≡ take n s ++ drop (at + n) l
+drop-pasted l at s n h =
+    ap (drop at) (append-assoc (take at l) (take n s) (drop (at + n) l))
+    ∙ drop-at (take at l) (take n s ++ drop (at + n) l) at (length-take-le at l h)
 
 -- words pasted where they stand change nothing
 pub paste-same : (l : List ℕ) (at n : ℕ) → l ≡ paste l at (drop at l) n

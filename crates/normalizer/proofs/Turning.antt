@@ -1,26 +1,36 @@
 -- A turn is the definition's step: what the search found is the first redex, and rewriting it gives the next term.
-use Prim.Native.Nat.{ℕ, _<_}
+use Prim.Native.Nat.{ℕ, _+_, _-_, _≤_, _<_}
 use native.Mathlib.Omega.{arith}
-use mathlib.Core.Path.{_≡_, refl, sym, _∙_, subst}
+use mathlib.Core.Path.{_≡_, refl, sym, _∙_, ap, subst}
 use mathlib.Core.List.{List, [], _∷_}
 use mathlib.Core.Option.{Option, some, none, Option·some-injective, Option·none-ne-some}
-use lib.ListN.{length, take, getElem?, length-take}
+use lib.ListN.{length, getElem?}
 use Rattle.syntax.specs.Term.{Term}
+use Rattle.syntax.specs.Encoding.{size}
 use Rattle.syntax.specs.Positions.{positions}
+use Rattle.syntax.proofs.Nodes.{tail-part}
+use Rattle.syntax.proofs.Sites.{site, size-plugged, index-below}
 use Rattle.reduction.specs.Rules.{allPure, fire, rules}
-use Rattle.reduction.specs.Redex.{Contraction, contract, step, firstRedex}
+use Rattle.reduction.specs.Redex.{Contraction, contract, Step, step, firstRedex}
 use Rattle.reduction.specs.declared.Rule.{Rule}
 use Rattle.reduction.specs.declared.Phase.{Phase}
+use Rattle.reduction.specs.declared.Phase.the-variants.{Insertion, Reduction, Dropping}
 use Rattle.reduction.specs.declared.Found.{Found}
 use Rattle.reduction.specs.declared.Found.the-variants.{Redex, Nothing}
-use Rattle.reduction.proofs.Clear.{FirstAt, step-at}
+use Rattle.reduction.proofs.Clear.{step-at}
 use Rattle.reduction.proofs.SearchAnswer.{StepAt, redex-step, nothing-none}
+use Rattle.parts.specs.Fronts.{from}
+use Rattle.parts.proofs.Traversal.{from-length}
+use Rattle.reducer.specs.Searches.{movedBy}
+use Rattle.normalizer.specs.Currents.{Gapped, Current}
+use Rattle.normalizer.specs.Gaps.{Seekable, Seeks}
 use Rattle.normalizer.specs.Finds.{SearchAt, Searchable, Finds}
 use Rattle.normalizer.specs.Rewrites.{RedexAt, Rewritable, RewrittenTo, full, next, Rewrites}
-use Rattle.normalizer.specs.Turns.{At, Ready, Turned, stops, spent, full as too-long, goes, Turns}
+use Rattle.normalizer.specs.Turns.{At, Ready, nextFrom, Turned, stops, spent, full as too-long, goes, Turns}
 use Rattle.normalizer.specs.declared.rewrite.Rewritten.{Rewritten}
 use Rattle.normalizer.specs.declared.rewrite.Rewritten.the-variants.{Full, Next}
 use Rattle.normalizer.specs.declared.turn.Turn.the-variants.{Stop, Refused, Step as Stepped}
+use Rattle.normalizer.proofs.Gapping.{gapped-size, gapped-behind, gapped-seekable, gapped-sought}
 
 -- what a phase makes of a node is what the rule it names makes of it
 contract-fires : (rs : List Rule) (t : Term) (c : Contraction) → contract allPure rs t ≡ some c
@@ -39,102 +49,140 @@ contract-fires (r ∷ rs) t c e = go (fire allPure r t) refl e (contract-fires r
         let q = Option·some-injective (record { rule = r; contractum = u }) c h in
         subst (λ (x : Contraction). fire allPure (x .rule) t ≡ some (x .contractum)) q d
 
-module _ {phase : Phase} {calls before : List ℕ} {len from : ℕ} where
-  -- the redex that was found
-  redex-of : {t : Term} (rule : Rule) (place : ℕ) → At phase calls before len from t → (f : StepAt allPure phase t rule place)
-      → (x : FirstAt allPure phase t (f .taken)) → RedexAt rule calls before len place t (x .position) (x .contraction .contractum)
-  redex-of {t} rule place a f x = record {
-    current = a .current;
-    at = subst (λ (i : ℕ). getElem? (positions t) i ≡ some (x .position)) (f .at) (x .at);
-    fires = subst (λ (r : Rule). fire allPure r (x .position .subterm) ≡ some (x .contraction .contractum)) (sym (x .rule) ∙ f .by)
-        (contract-fires (rules phase) (x .position .subterm) (x .contraction) (x .fits));
+-- where the search goes on is within the next term
+inside-next : (phase : Phase) (t : Term) (s : Step) → step allPure phase t ≡ some s → nextFrom phase (s .place) ≤ size (s .next)
+unfolding nextFrom
+inside-next phase t s e = below phase (place-inside t s e)
+  where
+    place-inside : (t : Term) (s : Step) → step allPure phase t ≡ some s → s .place ≤ size (s .next)
+    place-inside t s e =
+        let f = step-at allPure phase t s e in
+        omega (arith, ap size (f .next), size-plugged (site t (s .place) (f .position) (f .at)) (f .contraction .contractum))
+
+    below : (phase : Phase) → s .place ≤ size (s .next) → nextFrom phase (s .place) ≤ size (s .next)
+    below Insertion h = h
+    below Reduction h = omega (arith, h)
+    below Dropping h = omega arith
+
+module _ {phase : Phase} {calls before : List ℕ} {start end : ℕ} where
+  -- the search in the words behind the gap
+  search-at : {t : Term} → At phase calls before start end t → SearchAt phase calls (from before end) start t
+  search-at a = record {
+    shaped = a .current .shaped;
+    is = tail-part before end ∙ gapped-behind (a .current .gapped);
+    clear = a .clear;
+    begun = a .begun;
   }
 
-  pub turn-rewritable : (capacity : ℕ) (second : List ℕ) (rule : Rule) (place : ℕ) → (r : Ready phase calls before len from capacity second)
-      → Redex rule place ≡ firstRedex allPure phase (r .term) → (second′ : List ℕ) → length second′ ≡ length second
-      → Rewritable rule calls before len place capacity second′
-  turn-rewritable capacity second rule place r e second′ l =
-      let f = redex-step allPure phase (r .term) rule place (sym e) in
-      let x = step-at allPure phase (r .term) (f .taken) (f .is) in
-      record {
-        term = r .term;
-        position = x .position;
-        contractum = x .contraction .contractum;
-        redex = redex-of rule place (r .at) f x;
-        small = r .small;
-        limit = r .limit;
-        room = r .room;
-        scratch = omega (arith, r .scratch, l);
-      }
-
-  -- nothing is found
-  pub turned-stops : (left capacity : ℕ) (r : Found) → ((t : Term) → At phase calls before len from t → r ≡ firstRedex allPure phase t)
-      → r ≡ Nothing
-      → Turns phase calls before len from left capacity before Stop
-  turned-stops left capacity r f e = record {
-    told = λ t a. stops (nothing-none allPure phase t (sym (sym e ∙ f t a))) (a .current);
+  pub turn-searchable : {second : List ℕ} → Ready phase calls before start end second → Searchable phase calls (from before end) second
+  turn-searchable r = let l = from-length before end in record {
+    term = r .term;
+    from = start;
+    at = search-at (r .at);
+    small = omega (arith, l, r .limit);
+    deep = omega (arith, l, r .scratch);
+    marks-small = omega (arith, r .limit, r .scratch);
   }
 
-  module _ (left capacity : ℕ) (after : List ℕ) (r : Found) (rule : Rule) (place : ℕ)
-      (f : (t : Term) → At phase calls before len from t → r ≡ firstRedex allPure phase t) (e : r ≡ Redex rule place) where
-    -- the budget is used up
-    pub turned-spent : left ≡ 0 → Turns phase calls before len from left capacity after (Refused 10)
-    turned-spent z = record {
-      told = λ t a. let s = redex-step allPure phase t rule place (sym (sym e ∙ f t a)) in spent (s .taken) (s .is) z;
+  module _ {r : Found} (f : Finds phase calls (from before end) r) where
+    -- nothing is found
+    pub turned-stops : {left : ℕ} → r ≡ Nothing → Turns phase calls before start end left before Stop
+    turned-stops e = record {
+      told = λ t a. stops (nothing-none allPure phase t (sym (ap (movedBy start) (sym e) ∙ f .told t start (search-at a)))) (a .current);
     }
 
-    -- the redex is rewritten, or the next term is too long
-    rewritten-at : (w : Rewritten) → Rewrites rule calls before len place capacity after w → (t : Term) → At phase calls before len from t
-        → (s : StepAt allPure phase t rule place) → RewrittenTo capacity after (s .taken .next) w
-    rewritten-at w x t a s =
-        let y = step-at allPure phase t (s .taken) (s .is) in
-        subst (λ (u : Term). RewrittenTo capacity after u w) (sym (y .next))
-        (x .told t (y .position) (y .contraction .contractum) (redex-of rule place a s y))
+    -- a redex is found
+    module _ {rule : Rule} {ahead : ℕ} (e : r ≡ Redex rule ahead) where
+      step-of : (t : Term) → At phase calls before start end t → StepAt allPure phase t rule (start + ahead)
+      step-of t a = redex-step allPure phase t rule (start + ahead) (sym (ap (movedBy start) (sym e) ∙ f .told t start (search-at a)))
 
-    pub turned-full : 0 < left → Rewrites rule calls before len place capacity after Full
-        → Turns phase calls before len from left capacity after (Refused 11)
-    turned-full h x = record {
-      told = λ t a.
-          let s = redex-step allPure phase t rule place (sym (sym e ∙ f t a)) in
-          go t s (rewritten-at Full x t a s);
-    }
-      where
-        go : (t : Term) (s : StepAt allPure phase t rule place) → RewrittenTo capacity after (s .taken .next) Full
-            → Turned phase calls after len left capacity t (Refused 11)
-        go t s (full l) = too-long (s .taken) (s .is) h l
+      -- the budget is used up
+      pub turned-spent : {left : ℕ} {after : List ℕ} → left ≡ 0 → Turns phase calls before start end left after (Refused 10)
+      turned-spent z = record { told = λ t a. let s = step-of t a in spent (s .taken) (s .is) z }
 
-    pub turned-goes : (n : ℕ) → 0 < left → Rewrites rule calls before len place capacity after (Next n)
-        → Turns phase calls before len from left capacity after (Stepped rule place n)
-    turned-goes n h x = record {
-      told = λ t a.
-          let s = redex-step allPure phase t rule place (sym (sym e ∙ f t a)) in
-          subst (λ (i : Rule). Turned phase calls after len left capacity t (Stepped i place n)) (s .by)
-          (subst (λ (i : ℕ). Turned phase calls after len left capacity t (Stepped (s .taken .rule) i n)) (s .at)
-          (go t s (rewritten-at (Next n) x t a s)));
-    }
-      where
-        go : (t : Term) (s : StepAt allPure phase t rule place) {n : ℕ} → RewrittenTo capacity after (s .taken .next) (Next n)
-            → Turned phase calls after len left capacity t (Stepped (s .taken .rule) (s .taken .place) n)
-        go t s (next n l g) = goes (s .taken) n (s .is) h l (g .length-is) g
+      module _ {second : List ℕ} (d : Ready phase calls before start end second) where
+        -- the place is one of the term's
+        pub place-below : start + ahead < size (d .term)
+        place-below =
+            let s = step-of (d .term) (d .at) in
+            let x = step-at allPure phase (d .term) (s .taken) (s .is) in
+            omega (arith, index-below (d .term) (s .taken .place) (x .position) (x .at), s .at)
 
-  -- the search of the current term
-  search-at : {t : Term} → At phase calls before len from t → SearchAt phase calls (take len before) from t
-  search-at a = record { shaped = a .current .shaped; is = a .current .front .words-are; clear = a .clear; begun = a .begun }
+        pub place-small : start + ahead ≤ 8192
+        place-small = let g = d .at .current .gapped in omega (arith, place-below, gapped-size g, g .ordered, g .inside, d .limit)
 
-  pub turn-searchable : {capacity : ℕ} {second : List ℕ} → Ready phase calls before len from capacity second
-      → Searchable phase calls (take len before) from (take capacity second)
-  turn-searchable {capacity} {second} r =
-      let l = length-take len before in
-      let m = length-take capacity second in
-      record {
-        term = r .term;
-        at = search-at (r .at);
-        inside = omega (arith, l, r .at .inside, r .small, r .room);
-        small = omega (arith, l, r .small, r .limit);
-        deep = omega (arith, l, m, r .small, r .room, r .scratch);
-        marks-small = omega (arith, m, r .limit);
-      }
+        pub redex-seekable : Seekable before start end (start + ahead)
+        redex-seekable = gapped-seekable (d .at .current .gapped) (start + ahead) (omega (arith, place-below))
 
-  pub turn-finds : {r : Found} → Finds phase calls (take len before) from r → (t : Term) → At phase calls before len from t
-      → r ≡ firstRedex allPure phase t
-  turn-finds f t a = f .told t (search-at a)
+      -- the gap is at the redex
+      module _ {sought : List ℕ} {behind : ℕ} (k : Seeks before start end (start + ahead) sought behind)
+          (l : length sought ≡ length before) where
+        redex-of : (t : Term) (a : At phase calls before start end t)
+            → let x = step-at allPure phase t (step-of t a .taken) (step-of t a .is) in
+            RedexAt rule calls sought (start + ahead) behind t (x .position) (x .contraction .contractum)
+        redex-of t a =
+            let s = step-of t a in
+            let x = step-at allPure phase t (s .taken) (s .is) in
+            record {
+              current = record { shaped = a .current .shaped; gapped = gapped-sought (a .current .gapped) k };
+              at = subst (λ (i : ℕ). getElem? (positions t) i ≡ some (x .position)) (s .at) (x .at);
+              fires = subst (λ (r : Rule). fire allPure r (x .position .subterm) ≡ some (x .contraction .contractum)) (sym (x .rule) ∙ s .by)
+                  (contract-fires (rules phase) (x .position .subterm) (x .contraction) (x .fits));
+            }
+
+        pub turn-rewritable : {second : List ℕ} → Ready phase calls before start end second → (second′ : List ℕ)
+            → length second′ ≡ length second → Rewritable rule calls sought (start + ahead) behind second′
+        turn-rewritable d second′ m = record {
+          term = d .term;
+          position = _;
+          contractum = _;
+          redex = redex-of (d .term) (d .at);
+          limit = omega (arith, l, d .limit);
+          scratch = omega (arith, m, l, d .scratch);
+        }
+
+        -- the redex is rewritten, or the next term is too long
+        rewritten-at : {after : List ℕ} (w : Rewritten) → Rewrites rule calls sought (start + ahead) behind after w → (t : Term)
+            → (a : At phase calls before start end t) → RewrittenTo (length sought) after (start + ahead) (step-of t a .taken .next) w
+        rewritten-at {after} w x t a =
+            let s = step-of t a in
+            let y = step-at allPure phase t (s .taken) (s .is) in
+            subst (λ (u : Term). RewrittenTo (length sought) after (start + ahead) u w) (sym (y .next)) (x .told t _ _ (redex-of t a))
+
+        pub turned-full : {left : ℕ} {after : List ℕ} → 0 < left → Rewrites rule calls sought (start + ahead) behind after Full
+            → Turns phase calls before start end left after (Refused 11)
+        turned-full {left} {after} h x = record { told = λ t a. go t a (rewritten-at Full x t a) }
+          where
+            go : (t : Term) (a : At phase calls before start end t)
+                → RewrittenTo (length sought) after (start + ahead) (step-of t a .taken .next) Full
+                → Turned phase calls after start end left (length before) t (Refused 11)
+            go t a (full m) = let s = step-of t a in too-long (s .taken) (s .is) h (omega (arith, m, l))
+
+        module _ {rewritten : List ℕ} {n : ℕ} (x : Rewrites rule calls sought (start + ahead) behind rewritten (Next n)) where
+          -- the next term is there
+          next-there : (t : Term) (a : At phase calls before start end t) → Gapped rewritten (start + ahead) n (step-of t a .taken .next)
+          next-there t a = go (rewritten-at (Next n) x t a)
+            where
+              go : {u : Term} {n : ℕ} → RewrittenTo (length sought) rewritten (start + ahead) u (Next n)
+                  → Gapped rewritten (start + ahead) n u
+              go (next n g) = g
+
+          -- and the gap goes to where the search goes on
+          pub next-seekable : {second : List ℕ} → Ready phase calls before start end second → (to : ℕ) → to ≡ nextFrom phase (start + ahead)
+              → Seekable rewritten (start + ahead) n to
+          next-seekable d to e =
+              let s = step-of (d .term) (d .at) in
+              let i = inside-next phase (d .term) (s .taken) (s .is) in
+              gapped-seekable (next-there (d .term) (d .at)) to (omega (arith, e, i, ap (nextFrom phase) (s .at)))
+
+          pub turned-goes : {left to rest : ℕ} {after : List ℕ} → 0 < left → to ≡ nextFrom phase (start + ahead)
+              → Seeks rewritten (start + ahead) n to after rest → Turns phase calls before start end left after (Stepped rule to rest)
+          turned-goes {left} {to} {rest} {after} h e k = record {
+            told = λ t a.
+                let s = step-of t a in
+                let q : nextFrom phase (s .taken .place) ≡ to = ap (nextFrom phase) (s .at) ∙ sym e in
+                let g = gapped-sought (next-there t a) k in
+                subst (λ (i : Rule). Turned phase calls after start end left (length before) t (Stepped i to rest)) (s .by)
+                (subst (λ (i : ℕ). Turned phase calls after start end left (length before) t (Stepped (s .taken .rule) i rest)) q
+                (goes (s .taken) rest (s .is) h (subst (λ (i : ℕ). Gapped after i rest (s .taken .next)) (sym q) g)));
+          }

@@ -1,4 +1,5 @@
--- What a phase takes as known of a term.
+-- What a phase takes as known of a term, and of where its search begins.
+use Prim.Native.Nat.{ℕ}
 use mathlib.Core.Path.{_≡_}
 use mathlib.Core.Option.{none}
 use Rattle.syntax.specs.Term.{Term}
@@ -7,8 +8,8 @@ use Rattle.reduction.specs.Redex.{step}
 use Rattle.reduction.specs.declared.Phase.{Phase}
 use Rattle.reduction.specs.declared.Phase.the-variants.{Insertion, Reduction, Dropping}
 
--- in phase 2, that phase 1 is over
-abbrev pub Begun : Phase → Term → Type 0
-Begun Insertion t = Unit
-Begun Reduction t = step allPure Insertion t ≡ none
-Begun Dropping t = Unit
+-- in phase 2, that phase 1 is over; in phase 3, that the search goes over the whole term
+abbrev pub Begun : Phase → Term → ℕ → Type 0
+Begun Insertion t from = Unit
+Begun Reduction t from = step allPure Insertion t ≡ none
+Begun Dropping t from = from ≡ 0

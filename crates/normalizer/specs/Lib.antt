@@ -1,4 +1,4 @@
-pub mod Splices
+pub mod Gaps
 pub mod Currents
 pub mod Begun
 pub mod Finds

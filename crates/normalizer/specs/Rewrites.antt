@@ -1,4 +1,4 @@
--- What rewriting the redex at a place asks and says.
+-- What rewriting the redex behind the gap asks and says.
 use Prim.Native.Nat.{ℕ, _≤_, _<_}
 use mathlib.Core.Path.{_≡_}
 use mathlib.Core.List.{List}
@@ -9,33 +9,31 @@ use Rattle.syntax.specs.Encoding.{size}
 use Rattle.syntax.specs.Positions.{Position, positions}
 use Rattle.reduction.specs.Rules.{allPure, fire}
 use Rattle.reduction.specs.declared.Rule.{Rule}
-use Rattle.normalizer.specs.Currents.{Front, Current}
+use Rattle.normalizer.specs.Currents.{Gapped, Current}
 use Rattle.normalizer.specs.declared.rewrite.Rewritten.{Rewritten}
 use Rattle.normalizer.specs.declared.rewrite.Rewritten.the-variants.{Full, Next}
 
--- at a place of the current term t, the rule makes y of the subterm there
-pub record RedexAt (rule : Rule) (calls words : List ℕ) (len place : ℕ) (t : Term) (p : Position Term) (y : Term) : Type 0 where
-  pub current : Current calls words len t
-  pub at : getElem? (positions t) place ≡ some p
+-- the subterm of the current term t that begins behind the gap is one that the rule makes y of
+pub record RedexAt (rule : Rule) (calls words : List ℕ) (start end : ℕ) (t : Term) (p : Position Term) (y : Term) : Type 0 where
+  pub current : Current calls words start end t
+  pub at : getElem? (positions t) start ≡ some p
   pub fires : fire allPure rule (p .subterm) ≡ some y
 
--- there is such a redex, and the buffers hold every term within the capacity
-pub record Rewritable (rule : Rule) (calls words : List ℕ) (len place capacity : ℕ) (second : List ℕ) : Type 0 where
+-- there is such a redex, and the second buffer is as long as the first
+pub record Rewritable (rule : Rule) (calls words : List ℕ) (start end : ℕ) (second : List ℕ) : Type 0 where
   pub term : Term
   pub position : Position Term
   pub contractum : Term
-  pub redex : RedexAt rule calls words len place term position contractum
-  pub small : len ≤ capacity
-  pub limit : capacity ≤ 8192
-  pub room : capacity ≤ length words
-  pub scratch : capacity ≤ length second
+  pub redex : RedexAt rule calls words start end term position contractum
+  pub limit : length words ≤ 8192
+  pub scratch : length second ≡ length words
 
--- the next term u is too long, or it is current
-pub data RewrittenTo (capacity : ℕ) (after : List ℕ) (u : Term) : Rewritten → Type 0 where
-  full : capacity < size u → RewrittenTo capacity after u Full
-  next : (n : ℕ) → size u ≤ capacity → Front after n u → RewrittenTo capacity after u (Next n)
+-- the next term u is too long for the buffer, or it is there, around a gap that begins where it did
+pub data RewrittenTo (capacity : ℕ) (after : List ℕ) (start : ℕ) (u : Term) : Rewritten → Type 0 where
+  full : capacity < size u → RewrittenTo capacity after start u Full
+  next : (n : ℕ) → Gapped after start n u → RewrittenTo capacity after start u (Next n)
 
 -- for whatever redex is there
-pub record Rewrites (rule : Rule) (calls before : List ℕ) (len place capacity : ℕ) (after : List ℕ) (r : Rewritten) : Type 0 where
-  pub told : (t : Term) (p : Position Term) (y : Term) → RedexAt rule calls before len place t p y
-      → RewrittenTo capacity after (p .plug y) r
+pub record Rewrites (rule : Rule) (calls before : List ℕ) (start end : ℕ) (after : List ℕ) (r : Rewritten) : Type 0 where
+  pub told : (t : Term) (p : Position Term) (y : Term) → RedexAt rule calls before start end t p y
+      → RewrittenTo (length before) after start (p .plug y) r

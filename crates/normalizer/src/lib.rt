@@ -1,7 +1,7 @@
 // The call that normalizes: the loop over phases and steps, in place.
 
 pub mod moves; // moves.rt: words copied, moved and cleared
-pub mod splice; // splice.rt: a stretch of words replaced in place
+pub mod gap; // gap.rt: a term around a gap, and the gap moved
 pub mod counts; // counts.rt: the ten counts
 pub mod phases; // phases.rt: where the search of a phase goes on
 pub mod find; // find.rt: the first redex of a phase in the current term

@@ -1,11 +1,10 @@
 // The public call `normalize`.
 ghost use mathlib.Core.Path.{_≡_};
 ghost use Prim.Native.Nat.{ℕ, min};
-ghost use mathlib.Core.List.{List};
+ghost use lib.ListN.{length as lengthOf};
 ghost use Rattle.syntax.specs.Tables.{over};
-ghost use Rattle.reduction.specs.Reduction.{zeroCounts};
 ghost use Rattle.outcomes.specs.Contract.{Normalizes};
-ghost use Rattle.normalizer.specs.Runs.{Runs};
+ghost use Rattle.normalizer.specs.Runs.{Runs, Settleable, Settles};
 use crate::moves::clear;
 use crate::moves::copy;
 use crate::reduce::reduce;
@@ -30,6 +29,40 @@ fn refused(refusal: u32, counts: [u32; 10]) -> Answer
         refusal: refusal,
         ty: 0,
         length: 0,
+        counts: counts,
+    }
+}
+
+// reduces a typed term in the scratch buffers, whose length is the capacity, and writes its normal form to the output
+fn settle(
+    calls: &[u64],
+    term: &[u64],
+    ty: u64,
+    budget: u32,
+    output: &mut [u64],
+    first: &mut [u64],
+    second: &mut [u64],
+) -> Answer
+    requires { ⌜ Settleable (now calls) (now term) (now output) (now first) (now second) ⌝ }
+    ensures { λ r. ⌜
+        Settles (now (calls .entry)) (now (term .entry)) ty budget (lengthOf (now (first .entry))) (now (output .entry)) r (now (output .exit))
+        ⌝ }
+{
+    let begin = first.len() - term.len();
+    copy(term, term.len(), first, begin);
+    let reduced = reduce(calls, first, begin, budget, second);
+    let refusal = reduced.refusal;
+    let counts = reduced.counts;
+    if refusal != 0 {
+        return refused(refusal, counts);
+    }
+    let last = reduced.begin;
+    let length = first.len() - last;
+    copy(&first[last..], length, output, 0);
+    Answer {
+        refusal: 0,
+        ty: ty,
+        length: length,
         counts: counts,
     }
 }
@@ -60,25 +93,18 @@ fn run(
         smaller(output.len(), smaller(first.len(), second.len())),
         8192,
     );
-    let length = term.len();
-    if capacity < length {
+    if capacity < term.len() {
         return refused(11, none);
     }
-    copy(term, length, first, 0);
-    let reduced = reduce(calls, first, length, budget, capacity, second);
-    let stopped = reduced.refusal;
-    let counts = reduced.counts;
-    if stopped != 0 {
-        return refused(stopped, counts);
-    }
-    let last = reduced.length;
-    copy(first, last, output, 0);
-    Answer {
-        refusal: 0,
-        ty: checked.ty,
-        length: last,
-        counts: counts,
-    }
+    settle(
+        calls,
+        term,
+        checked.ty,
+        budget,
+        output,
+        &mut first[..capacity],
+        &mut second[..capacity],
+    )
 }
 
 // normalizes a term: refused with a number, or its type, its normal form in the output's leading words, and the counts of the rules;

@@ -1,48 +1,47 @@
 // The loop over phases and steps.
 ghost use Rattle.normalizer.specs.Reductions.{Reducible, Reduces};
 use crate::counts::raise;
-use crate::phases::next_from;
+use crate::gap::seek;
 use crate::turn::Turn;
 use crate::turn::take_turn;
 use parts::PENDING;
 use reduction::Phase;
 
-// refusal 0 and the last term's length, or 10 or 11; and the counts of the steps taken
+// refusal 0 and where the last term begins, or 10 or 11; and the counts of the steps taken
 pub struct Reduced {
     pub refusal: u32,
-    pub length: usize,
+    pub begin: usize,
     pub counts: [u32; 10],
 }
 
-// reduces the term in the first `start` words of the buffer, in place, to its normal form; `pending` is space for going through parts
+// reduces the term at the buffer's end, from `begin` on, to its normal form, which is there then; the buffer's length is the capacity.
+// `pending` is space for going through parts.
 pub fn reduce(
     calls: &[u64],
     current: &mut [u64],
-    start: usize,
+    begin: usize,
     budget: u32,
-    capacity: usize,
     second: &mut [u64],
 ) -> Reduced
-    requires { ⌜ Reducible (now calls) (now current) start capacity (now second) ⌝ }
-    ensures { λ r. ⌜ Reduces (now (calls .entry)) (now (current .entry)) start budget capacity (now (current .exit)) r ⌝ }
+    requires { ⌜ Reducible (now calls) (now current) begin (now second) ⌝ }
+    ensures { λ r. ⌜ Reduces (now (calls .entry)) (now (current .entry)) begin budget (now (current .exit)) r ⌝ }
 {
     let mut pending: [u64; PENDING] = [0; PENDING];
     let mut counts: [u32; 10] = [0; 10];
     let mut left: u32 = budget;
     let mut phase = Phase::Insertion;
     let mut refusal: u32 = 0;
-    let mut length: usize = start;
+    let mut start: usize = 0;
+    let mut end: usize = begin;
     'reduce: loop {
-        let mut from: usize = 0;
         loop {
             let turn = take_turn(
                 phase,
                 calls,
                 current,
-                length,
-                from,
+                start,
+                end,
                 left,
-                capacity,
                 second,
                 &mut pending,
             );
@@ -54,15 +53,19 @@ pub fn reduce(
                     refusal = n;
                     break 'reduce;
                 }
-                Turn::Step(rule, place, next) => {
+                Turn::Step(rule, from, rest) => {
                     let raised = raise(counts, rule);
                     counts = raised;
                     left = left - 1;
-                    length = next;
-                    from = next_from(phase, place);
+                    start = from;
+                    end = rest;
                 }
             }
         }
+        // the next phase begins at the front
+        let front = seek(current, start, end, 0);
+        start = 0;
+        end = front;
         match phase {
             Phase::Insertion => {
                 phase = Phase::Reduction;
@@ -77,7 +80,7 @@ pub fn reduce(
     }
     Reduced {
         refusal: refusal,
-        length: length,
+        begin: end,
         counts: counts,
     }
 }

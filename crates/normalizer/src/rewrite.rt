@@ -1,44 +1,41 @@
-// The redex at a place rewritten in place, if the next term is not too long.
+// The redex behind the gap rewritten in place, if the next term is not too long.
 ghost use Prim.Native.Nat.{ℕ, _≤_};
 ghost use lib.ListN.{length as lengthOf};
 ghost use Rattle.normalizer.specs.Rewrites.{Rewritable, Rewrites};
-use crate::splice::splice;
+use crate::moves::copy;
 use reduction::Rule;
 use rewriter::plan::measure;
 use rewriter::write::write;
 
-// the next term is longer than the capacity; or its length
+// the next term is longer than the capacity; or where the gap ends then
 pub enum Rewritten {
     Full,
     Next(usize),
 }
 
-// the next term's length is known before a word of it is written
+// what the redex becomes has room in its own place and the gap before it, or the next term is longer than the buffer; that is
+// known before a word is written. The words before the gap and behind the redex are not touched.
 pub fn rewrite(
     rule: Rule,
     calls: &[u64],
     current: &mut [u64],
-    length: usize,
-    place: usize,
-    capacity: usize,
+    start: usize,
+    end: usize,
     second: &mut [u64],
     pending: &mut [u64],
 ) -> Rewritten
-    requires { ⌜ Rewritable rule (now calls) (now current) length place capacity (now second) × (8194 ≤ lengthOf (now pending)) ⌝ }
-    ensures { λ r. ⌜ Rewrites rule (now (calls .entry)) (now (current .entry)) length place capacity (now (current .exit)) r ⌝ }
+    requires { ⌜ Rewritable rule (now calls) (now current) start end (now second) × (8194 ≤ lengthOf (now pending)) ⌝ }
+    ensures { λ r. ⌜ Rewrites rule (now (calls .entry)) (now (current .entry)) start end (now (current .exit)) r ⌝ }
 {
-    let m = measure(rule, calls, &current[place..length], pending);
+    let m = measure(rule, calls, &current[end..], pending);
     let plan = m.plan;
-    let read = m.read;
     let wrote = m.wrote;
-    if capacity < wrote {
+    let behind = end + m.read;
+    if behind - start < wrote {
         return Rewritten::Full;
     }
-    let next = length - read + wrote;
-    if capacity < next {
-        return Rewritten::Full;
-    }
-    write(plan, calls, &current[place..length], second, wrote, pending);
-    splice(current, length, place, read, second, wrote);
+    write(plan, calls, &current[end..], second, wrote, pending);
+    let next = behind - wrote;
+    copy(second, wrote, current, next);
     Rewritten::Next(next)
 }

@@ -35,8 +35,3 @@ movedBy i (Redex r k) = Redex r (i + k)
 -- for whatever term the words go on with, from whatever index on: its first redex
 pub record FindsFirst (phase : Phase) (calls words : List ℕ) (r : Found) : Type 0 where
   pub told : (t : Term) (i : ℕ) → Onward phase calls words t i → movedBy i r ≡ firstRedex allPure phase t
-
--- the place that an answer names
-abbrev pub placeOf : Found → ℕ
-placeOf (Redex rule place) = place
-placeOf Nothing = 0

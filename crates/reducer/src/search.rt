@@ -1,8 +1,7 @@
 // The first redex of phase 1 or 2, from a place on.
-ghost use mathlib.Core.Path.{_≡_};
-ghost use Prim.Native.Nat.{ℕ, _+_, _≤_};
+ghost use Prim.Native.Nat.{_≤_};
 ghost use lib.ListN.{length};
-ghost use Rattle.reducer.specs.Searches.{Continues, FindsFirst, movedBy, placeOf};
+ghost use Rattle.reducer.specs.Searches.{Continues, FindsFirst};
 use crate::fits::fit;
 use reduction::Found;
 use reduction::Phase;
@@ -21,15 +20,4 @@ pub fn search(phase: Phase, calls: &[u64], rest: &[u64]) -> Found
         k += 1;
     }
     Found::Nothing
-}
-
-// what is found in a part that begins `at` words further
-pub fn moved_by(found: Found, at: usize) -> Found
-    requires { ⌜ at + placeOf found ≤ 131072 ⌝ }
-    ensures { λ r. ⌜ r ≡ movedBy at found ⌝ }
-{
-    match found {
-        Found::Redex(rule, place) => Found::Redex(rule, at + place),
-        Found::Nothing => Found::Nothing,
-    }
 }

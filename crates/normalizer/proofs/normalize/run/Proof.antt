@@ -1,8 +1,9 @@
--- Each way the call can go is the definition's: refused by a check, too long, stopped on the way, or come through.
+-- Each way the call can go is the definition's: refused by a check, too long, or what the reduction comes to.
 use native.Mathlib.Omega.{arith}
-use Prim.Native.Nat.{ℕ, _-_, min}
-use mathlib.Core.Path.{_≡_, refl, _∙_, ap}
-use Rattle.normalizer.proofs.Deciding.{run-refused, run-too-long, run-reducible, run-stopped, run-ended, run-room}
+use Prim.Native.Nat.{ℕ, min}
+use mathlib.Core.Path.{_≡_, _∙_, ap}
+use lib.ListN.{length-take}
+use Rattle.normalizer.proofs.Deciding.{run-refused, run-too-long, run-settleable, run-settled}
 use borrow.Author.Needs.{needs}
 use Rattle.normalizer.proofs.normalize.run.Statement.{statement}
 use Rattle.normalizer.proofs.normalize.run.Tie as tie
@@ -17,109 +18,60 @@ run-spec =
     (λ c κs. search needs)
     (λ c κs. search needs)
     (λ c.
-    let args = c .before .before .before .before .before .before .before .before .before .before .args in
-    let verdict = c .before .before .verdict in
-    run-refused _ _ _ _ (args .output .now) (args .first .now) (args .second .now) (args .budget) _ (verdict .ensures)
-    (c .before .if1 .taken) _ (c .refused .ensures))
+    let at-if1 = c .before in
+    let at-verdict = at-if1 .before in
+    let args = at-verdict .before .before .before .before .before .before .before .before .args in
+    run-refused _ _ _ _ (args .output .now) (args .first .now) (args .second .now) (args .budget) _ (at-verdict .verdict .ensures) (at-if1 .if1 .taken) _
+    (c .refused .ensures))
     (λ c κs. search needs)
     (λ c κs. search needs)
     (λ c κs. search needs)
     (λ c κs. search needs)
     (λ c.
-    let args = c .before .before .before .before .before .before .before .before .before .before .before .before .before .before .args in
-    let verdict = c .before .before .before .before .before .before .verdict in
-    let smaller = c .before .before .before .before .smaller in
-    let smaller2 = c .before .before .before .smaller2 in
-    let smaller3 = c .before .before .smaller3 in
-    let if1 = c .before .before .before .before .before .if1 in
-    run-too-long _ _ _ _ (args .output .now) (args .first .now) (args .second .now) (args .budget) _ (verdict .ensures) _
-    (capacity-of _ _ _ _ _ _ (smaller .ensures) (smaller2 .ensures) (smaller3 .ensures)) (if1 .left) (c .before .if2 .taken) _
-    (c .refused2 .ensures))
-    (λ c κs.
-    let smaller = c .before .before .before .before .smaller in
-    let smaller2 = c .before .before .before .smaller2 in
-    let smaller3 = c .before .before .smaller3 in
-    (omega arith, omega (arith, c .before .if2 .left, smaller .ensures, smaller2 .ensures, smaller3 .ensures)))
-    (λ c κs.
-    let args = c .before .before .before .before .before .before .before .before .before .before .before .before .before .before .before
-    .before .before .before .before .args in
-    let verdict = c .before .before .before .before .before .before .before .before .before .before .before .verdict in
-    let smaller = c .before .before .before .before .before .before .before .before .before .smaller in
-    let smaller2 = c .before .before .before .before .before .before .before .before .smaller2 in
-    let smaller3 = c .before .before .before .before .before .before .before .smaller3 in
-    let if1 = c .before .before .before .before .before .before .before .before .before .before .if1 in
-    let if2 = c .before .before .before .before .before .before .if2 in
-    let copy = c .before .before .before .before .copy in
-    run-reducible _ _ _ _ (args .output .now) (args .first .now) (args .second .now) (args .budget) _ (verdict .ensures) _
-    (capacity-of _ _ _ _ _ _ (smaller .ensures) (smaller2 .ensures) (smaller3 .ensures)) (if1 .left) (if2 .left) _
-    (copy .ensures) _ refl)
-    (λ c κs. search needs)
-    (λ c. search needs)
+    let at-if2 = c .before in
+    let at-smaller3 = at-if2 .before in
+    let at-smaller2 = at-smaller3 .before in
+    let at-smaller = at-smaller2 .before in
+    let at-if1 = at-smaller .before in
+    let at-verdict = at-if1 .before in
+    let args = at-verdict .before .before .before .before .before .before .before .before .args in
+    run-too-long _ _ _ _ (args .output .now) (args .first .now) (args .second .now) (args .budget) _ (at-verdict .verdict .ensures) _
+    (capacity-of _ _ _ _ _ _ (at-smaller .smaller .ensures) (at-smaller2 .smaller2 .ensures) (at-smaller3 .smaller3 .ensures)) (at-if1 .if1 .left) (at-if2 .if2 .taken) _ (c .refused2 .ensures))
     (λ c. search needs)
     (λ c.
-    let args = c .before .before .before .before .before .before .before .before .before .before .before .before .before .before .before
-    .before .before .before .before .before .before .before .before .before .before .before .before .args in
-    let verdict = c .before .before .before .before .before .before .before .before .before .before .before .before .before .before .before
-    .before .before .before .before .verdict in
-    let smaller = c .before .before .before .before .before .before .before .before .before .before .before .before .before .before .before
-    .before .before .smaller in
-    let smaller2 = c .before .before .before .before .before .before .before .before .before .before .before .before .before .before .before
-    .before .smaller2 in
-    let smaller3 = c .before .before .before .before .before .before .before .before .before .before .before .before .before .before .before
-    .smaller3 in
-    let if1 = c .before .before .before .before .before .before .before .before .before .before .before .before .before .before .before
-    .before .before .before .if1 in
-    let if2 = c .before .before .before .before .before .before .before .before .before .before .before .before .before .before .if2 in
-    let copy = c .before .before .before .before .before .before .before .before .before .before .before .before .copy in
-    let reduce = c .before .before .before .before .before .before .before .reduce in
-    run-stopped _ _ _ _ (args .output .now) (args .first .now) (args .second .now) (args .budget) _ (verdict .ensures) _
-    (capacity-of _ _ _ _ _ _ (smaller .ensures) (smaller2 .ensures) (smaller3 .ensures)) (if1 .left) (if2 .left) _ (copy .ensures) _ _
-    (reduce .ensures) (c .before .if3 .taken) _ (c .refused3 .ensures))
+    let at-smaller3 = c .before .before .before in
+    let at-smaller2 = at-smaller3 .before in
+    let at-smaller = at-smaller2 .before in
+    let args = at-smaller .before .before .before .before .before .before .before .before .before .before .args in
+    omega (arith, length-take (at-smaller3 .smaller3 .result) (args .first .now), at-smaller .smaller .ensures, at-smaller2 .smaller2 .ensures, at-smaller3 .smaller3 .ensures))
+    (λ c. search needs)
+    (λ c.
+    let at-smaller3 = c .before .before .before .before in
+    let at-smaller2 = at-smaller3 .before in
+    let at-smaller = at-smaller2 .before in
+    let args = at-smaller .before .before .before .before .before .before .before .before .before .before .args in
+    omega (arith, length-take (at-smaller3 .smaller3 .result) (args .second .now), at-smaller .smaller .ensures, at-smaller2 .smaller2 .ensures, at-smaller3 .smaller3 .ensures))
     (λ c κs.
-    let args = c .before .before .before .before .before .before .before .before .before .before .before .before .before .before .before
-    .before .before .before .before .before .before .before .before .before .before .before .before .before .args in
-    let verdict = c .before .before .before .before .before .before .before .before .before .before .before .before .before .before .before
-    .before .before .before .before .before .verdict in
-    let smaller = c .before .before .before .before .before .before .before .before .before .before .before .before .before .before .before
-    .before .before .before .smaller in
-    let smaller2 = c .before .before .before .before .before .before .before .before .before .before .before .before .before .before .before
-    .before .before .smaller2 in
-    let smaller3 = c .before .before .before .before .before .before .before .before .before .before .before .before .before .before .before
-    .before .smaller3 in
-    let if1 = c .before .before .before .before .before .before .before .before .before .before .before .before .before .before .before
-    .before .before .before .before .if1 in
-    let if2 = c .before .before .before .before .before .before .before .before .before .before .before .before .before .before .before .if2
-    in
-    let copy = c .before .before .before .before .before .before .before .before .before .before .before .before .before .copy in
-    let reduce = c .before .before .before .before .before .before .before .before .reduce in
-    let if3 = c .before .before .if3 in
-    let room = run-room _ _ _ _ (args .output .now) (args .first .now) (args .second .now) (args .budget) _ (verdict .ensures) _
-    (capacity-of _ _ _ _ _ _ (smaller .ensures) (smaller2 .ensures) (smaller3 .ensures)) (if1 .left) (if2 .left) _ (copy .ensures) _ _
-    (reduce .ensures) (if3 .left) in (room .0, omega (arith, room .1)))
+    let at-if2 = c .before .before .before in
+    let at-smaller3 = at-if2 .before in
+    let at-smaller2 = at-smaller3 .before in
+    let at-smaller = at-smaller2 .before in
+    let at-if1 = at-smaller .before in
+    let at-verdict = at-if1 .before in
+    let args = at-verdict .before .before .before .before .before .before .before .before .args in
+    run-settleable _ _ _ _ (args .output .now) (args .first .now) (args .second .now) (args .budget) _ (at-verdict .verdict .ensures) _
+    (capacity-of _ _ _ _ _ _ (at-smaller .smaller .ensures) (at-smaller2 .smaller2 .ensures) (at-smaller3 .smaller3 .ensures)) (at-if1 .if1 .left) (at-if2 .if2 .left))
     (λ c. search needs)
     (λ c. search needs)
     (λ c. search needs)
     (λ c.
-    let args = c .before .before .before .before .before .before .before .before .before .before .before .before .before .before .before
-    .before .before .before .before .before .before .before .before .before .before .before .before .before .before .before .before
-    .args in
-    let verdict = c .before .before .before .before .before .before .before .before .before .before .before .before .before .before .before
-    .before .before .before .before .before .before .before .before .verdict in
-    let smaller = c .before .before .before .before .before .before .before .before .before .before .before .before .before .before .before
-    .before .before .before .before .before .before .smaller in
-    let smaller2 = c .before .before .before .before .before .before .before .before .before .before .before .before .before .before .before
-    .before .before .before .before .before .smaller2 in
-    let smaller3 = c .before .before .before .before .before .before .before .before .before .before .before .before .before .before .before
-    .before .before .before .before .smaller3 in
-    let if1 = c .before .before .before .before .before .before .before .before .before .before .before .before .before .before .before
-    .before .before .before .before .before .before .before .if1 in
-    let if2 = c .before .before .before .before .before .before .before .before .before .before .before .before .before .before .before
-    .before .before .before .if2 in
-    let copy = c .before .before .before .before .before .before .before .before .before .before .before .before .before .before .before
-    .before .copy in
-    let reduce = c .before .before .before .before .before .before .before .before .before .before .before .reduce in
-    let if3 = c .before .before .before .before .before .if3 in
-    let copy2 = c .before .before .copy2 in
-    run-ended _ _ _ _ (args .output .now) (args .first .now) (args .second .now) (args .budget) _ (verdict .ensures) _
-    (capacity-of _ _ _ _ _ _ (smaller .ensures) (smaller2 .ensures) (smaller3 .ensures)) (if1 .left) (if2 .left) _ (copy .ensures) _ _
-    (reduce .ensures) (if3 .left) _ (copy2 .ensures)))
+    let at-settle = c .before .before .before .before .before .before in
+    let at-if2 = at-settle .before .before .before .before in
+    let at-smaller3 = at-if2 .before in
+    let at-smaller2 = at-smaller3 .before in
+    let at-smaller = at-smaller2 .before in
+    let at-if1 = at-smaller .before in
+    let at-verdict = at-if1 .before in
+    let args = at-verdict .before .before .before .before .before .before .before .before .args in
+    run-settled _ _ _ _ (args .output .now) (args .first .now) (args .second .now) (args .budget) _ (at-verdict .verdict .ensures) _
+    (capacity-of _ _ _ _ _ _ (at-smaller .smaller .ensures) (at-smaller2 .smaller2 .ensures) (at-smaller3 .smaller3 .ensures)) (at-if1 .if1 .left) (at-if2 .if2 .left) _ _ (at-settle .settle .ensures)))
