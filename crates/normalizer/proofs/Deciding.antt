@@ -6,10 +6,10 @@ use mathlib.Core.List.{List, [], append-nil}
 use lib.ListN.{length, take, length-take}
 use Rattle.syntax.specs.Tables.{over}
 use Rattle.syntax.specs.Encoding.{encode, size}
-use Rattle.typing.specs.Refusals.{refused, accepted, Typed, elaborate, normalizeLimit}
+use Rattle.typing.specs.Refusals.{refused, Typed, elaborate, normalizeLimit}
 use Rattle.typing.proofs.Accepted.{Passed}
 use Rattle.reduction.specs.Rules.{allPure}
-use Rattle.reduction.specs.Reduction.{zeroCounts, Progress, stopped, reduce}
+use Rattle.reduction.specs.Reduction.{zeroCounts, reduce}
 use Rattle.reduction.proofs.Remaining.{reduce-too-long}
 use Rattle.outcomes.specs.Buffers.{overwrite}
 use Rattle.outcomes.specs.Check.{checkedOf}

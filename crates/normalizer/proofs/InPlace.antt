@@ -1,7 +1,7 @@
 -- The redex behind the gap is measured, written to the second buffer and copied in: the term there is the term with its subterm replaced.
 use Prim.Native.Nat.{ℕ, _+_, _-_, _≤_, _<_}
 use native.Mathlib.Omega.{arith}
-use mathlib.Core.Path.{_≡_, refl, sym, _∙_, ap}
+use mathlib.Core.Path.{_≡_, _∙_, ap}
 use mathlib.Core.List.{List}
 use lib.ListN.{length, take}
 use lib.Seq.{paste, sets}
@@ -39,9 +39,6 @@ module _ (rule : Rule) (calls words : List ℕ) (start end : ℕ) where
       -- no sum wraps
       pub read-inside : end + m .read ≤ length words
       read-inside = redex-inside (r .redex .current) (r .position) (r .redex .at) (m .read) (measured (r .redex) .read-is)
-
-      pub gap-ordered : start ≤ end
-      gap-ordered = r .redex .current .gapped .ordered
 
       pub wrote-small : m .wrote ≤ end + m .read - start → m .wrote ≤ length words
       wrote-small h = omega (arith, h, read-inside)

@@ -1,4 +1,4 @@
--- The loop over the phases: a phase that is over is followed by the next at the same term, so it comes to what the whole reduction comes to.
+-- The loop over the phases: a phase that is over is followed by the next at the same term, so it comes to what the whole comes to.
 use Prim.Native.Nat.{ℕ, suc, _≤_}
 use native.Mathlib.Omega.{arith}
 use mathlib.Core.Path.{_≡_, refl, sym, _∙_, ap, subst}
@@ -7,7 +7,6 @@ use mathlib.Core.Option.{some, Option·some-injective}
 use lib.ListN.{length}
 use Rattle.syntax.specs.Tables.{over}
 use Rattle.syntax.specs.Term.{Term}
-use Rattle.syntax.specs.Encoding.{size}
 use Rattle.syntax.specs.Decoding.{decode}
 use Rattle.syntax.proofs.Decoding.{decode-words}
 use Rattle.typing.specs.Infer.{infer}
@@ -24,7 +23,7 @@ use Rattle.normalizer.specs.Gaps.{Seeks}
 use Rattle.normalizer.specs.Turns.{Turned, spent, full, Turns}
 use Rattle.normalizer.specs.declared.turn.Turn.{Turn}
 use Rattle.normalizer.specs.declared.turn.Turn.the-variants.{Stop, Refused}
-use Rattle.normalizer.specs.Reductions.{TypedOver, Reducible, Comes, refusal, ended, Reduces}
+use Rattle.normalizer.specs.Reductions.{Reducible, Comes, refusal, ended, Reduces}
 use Rattle.normalizer.specs.declared.reduce.Reduced.{Reduced}
 use Rattle.normalizer.proofs.Gapping.{gapped-size}
 use Rattle.normalizer.proofs.Standing.{Standing, Ended, standing-refused, standing-inserted, standing-reduced, standing-ended}

@@ -1,5 +1,5 @@
 -- A redex rewritten in place: its words stand behind the gap, and the rest of the term before the gap and behind the redex.
-use Prim.Native.Nat.{ℕ, _+_, _-_, _≤_, _<_}
+use Prim.Native.Nat.{ℕ, _+_, _-_, _≤_}
 use native.Mathlib.Omega.{arith}
 use mathlib.Core.Path.{_≡_, refl, sym, _∙_, ap, ap₂}
 use mathlib.Core.List.{List, _++_}
@@ -28,7 +28,8 @@ module _ {calls words : List ℕ} {start end : ℕ} {t : Term} (c : Current call
   -- the words before the gap
   before-gap : take start words ≡ here .before
   before-gap =
-      sym (take-at (take start words) (drop end words) start (length-take-le start words (omega (arith, g .ordered, g .inside)))) ∙ ap (take start) (g .words-are ∙ here .whole)
+      let long : length (take start words) ≡ start = length-take-le start words (omega (arith, g .ordered, g .inside)) in
+      sym (take-at (take start words) (drop end words) start long) ∙ ap (take start) (g .words-are ∙ here .whole)
       ∙ take-at (here .before) (encode (p .subterm) ++ here .after) start (here .index)
 
   -- the subterm's words stand behind it

@@ -80,8 +80,8 @@ module _ {calls : List ℕ} {phase : Phase} {words₀ words : List ℕ} {start�
     pub inner-next : (second′ : List ℕ) (counts′ : Counts) → length second′ ≡ length second → counts′ ≡ raise rule counts
         → Inner calls phase words₀ after start₀ from end₀ rest left₀ (left - 1) counts₀ counts′ second₀ second′ refused
     inner-next second′ counts′ b ce =
-        subst (λ (cs : Counts). Inner calls phase words₀ after start₀ from end₀ rest left₀ (left - 1) counts₀ cs second₀ second′ refused) (sym ce)
-        (record {
+        subst (λ (cs : Counts). Inner calls phase words₀ after start₀ from end₀ rest left₀ (left - 1) counts₀ cs second₀ second′ refused)
+        (sym ce) (record {
           begun = v .begun;
           carries = λ types inputs capacity whole fit s.
               let t = v .carries types inputs capacity whole fit s in

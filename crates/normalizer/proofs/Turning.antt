@@ -11,7 +11,7 @@ use Rattle.syntax.specs.Positions.{positions}
 use Rattle.syntax.proofs.Nodes.{tail-part}
 use Rattle.syntax.proofs.Sites.{site, size-plugged, index-below}
 use Rattle.reduction.specs.Rules.{allPure, fire, rules}
-use Rattle.reduction.specs.Redex.{Contraction, contract, Step, step, firstRedex}
+use Rattle.reduction.specs.Redex.{Contraction, contract, Step, step}
 use Rattle.reduction.specs.declared.Rule.{Rule}
 use Rattle.reduction.specs.declared.Phase.{Phase}
 use Rattle.reduction.specs.declared.Phase.the-variants.{Insertion, Reduction, Dropping}
@@ -22,7 +22,7 @@ use Rattle.reduction.proofs.SearchAnswer.{StepAt, redex-step, nothing-none}
 use Rattle.parts.specs.Fronts.{from}
 use Rattle.parts.proofs.Traversal.{from-length}
 use Rattle.reducer.specs.Searches.{movedBy}
-use Rattle.normalizer.specs.Currents.{Gapped, Current}
+use Rattle.normalizer.specs.Currents.{Gapped}
 use Rattle.normalizer.specs.Gaps.{Seekable, Seeks}
 use Rattle.normalizer.specs.Finds.{SearchAt, Searchable, Finds}
 use Rattle.normalizer.specs.Rewrites.{RedexAt, Rewritable, RewrittenTo, full, next, Rewrites}

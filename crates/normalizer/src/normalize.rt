@@ -1,6 +1,6 @@
 // The public call `normalize`.
 ghost use mathlib.Core.Path.{_≡_};
-ghost use Prim.Native.Nat.{ℕ, min};
+ghost use Prim.Native.Nat.{min};
 ghost use lib.ListN.{length as lengthOf};
 ghost use Rattle.syntax.specs.Tables.{over};
 ghost use Rattle.outcomes.specs.Contract.{Normalizes};
@@ -45,7 +45,8 @@ fn settle(
 ) -> Answer
     requires { ⌜ Settleable (now calls) (now term) (now output) (now first) (now second) ⌝ }
     ensures { λ r. ⌜
-        Settles (now (calls .entry)) (now (term .entry)) ty budget (lengthOf (now (first .entry))) (now (output .entry)) r (now (output .exit))
+        Settles (now (calls .entry)) (now (term .entry)) ty budget (lengthOf (now (first .entry))) (now (output .entry)) r
+        (now (output .exit))
         ⌝ }
 {
     let begin = first.len() - term.len();

@@ -1,5 +1,5 @@
 // The redex behind the gap rewritten in place, if the next term is not too long.
-ghost use Prim.Native.Nat.{ℕ, _≤_};
+ghost use Prim.Native.Nat.{_≤_};
 ghost use lib.ListN.{length as lengthOf};
 ghost use Rattle.normalizer.specs.Rewrites.{Rewritable, Rewrites};
 use crate::moves::copy;

@@ -31,12 +31,18 @@ find-spec =
     (tie.spec
     (λ c. search needs)
     (λ c κs.
-    let pre = c .before .before .before .before .before .pre in
-    (continues-at Insertion (c .enum-told .given .1) (continues insertion-ready (searchable-at Insertion (c .enum-told .given .1) (pre))), pre .small))
+    let pre = c .before .before .before .before .before .pre in (
+      continues-at Insertion (c .enum-told .given .1) (continues insertion-ready
+          (searchable-at Insertion (c .enum-told .given .1) (pre))),
+      pre .small,
+    ))
     (λ c. search needs)
     (λ c κs.
-    let pre = c .before .before .before .before .before .pre in
-    (continues-at Reduction (c .enum-told2 .given .1) (continues reduction-ready (searchable-at Reduction (c .enum-told2 .given .1) (pre))), pre .small))
+    let pre = c .before .before .before .before .before .pre in (
+      continues-at Reduction (c .enum-told2 .given .1) (continues reduction-ready
+          (searchable-at Reduction (c .enum-told2 .given .1) (pre))),
+      pre .small,
+    ))
     (λ c. search needs)
     (λ c κs.
     let at-enum-told3 = c .before in
@@ -44,11 +50,14 @@ find-spec =
     (whole-starts (searchable-at Dropping (at-enum-told3 .enum-told3 .given .1) (pre)), marks-open (pre), pre .small))
     (λ c.
     let enum-told = c .before .enum-told in
-    finds-at Insertion (enum-told .given .1) (finds-first insertion-ready (first-at Insertion (enum-told .given .1) (c .search .ensures))))
+    finds-at Insertion (enum-told .given .1) (finds-first insertion-ready
+    (first-at Insertion (enum-told .given .1) (c .search .ensures))))
     (λ c.
     let enum-told2 = c .before .enum-told2 in
-    finds-at Reduction (enum-told2 .given .1) (finds-first reduction-ready (first-at Reduction (enum-told2 .given .1) (c .search2 .ensures))))
+    finds-at Reduction (enum-told2 .given .1) (finds-first reduction-ready
+    (first-at Reduction (enum-told2 .given .1) (c .search2 .ensures))))
     (λ c. search needs)
     (λ c.
     let at-first-unused = c .before .before in
-    finds-at Dropping (at-first-unused .before .before .enum-told3 .given .1) (finds-unused (at-first-unused .first-unused .ensures))))
+    finds-at Dropping (at-first-unused .before .before .enum-told3 .given .1)
+    (finds-unused (at-first-unused .first-unused .ensures))))

@@ -1,5 +1,4 @@
 -- Towards the end the words behind the gap move before it, towards the front those before it behind it.
-use native.Mathlib.Omega.{arith}
 use mathlib.Core.Path.{refl}
 use Rattle.normalizer.proofs.Gapping.{seeks-on, seeks-back}
 use borrow.Author.Needs.{needs}

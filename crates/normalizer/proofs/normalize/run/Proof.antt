@@ -21,8 +21,8 @@ run-spec =
     let at-if1 = c .before in
     let at-verdict = at-if1 .before in
     let args = at-verdict .before .before .before .before .before .before .before .before .args in
-    run-refused _ _ _ _ (args .output .now) (args .first .now) (args .second .now) (args .budget) _ (at-verdict .verdict .ensures) (at-if1 .if1 .taken) _
-    (c .refused .ensures))
+    run-refused _ _ _ _ (args .output .now) (args .first .now) (args .second .now) (args .budget) _ (at-verdict .verdict .ensures)
+    (at-if1 .if1 .taken) _ (c .refused .ensures))
     (λ c κs. search needs)
     (λ c κs. search needs)
     (λ c κs. search needs)
@@ -35,22 +35,37 @@ run-spec =
     let at-if1 = at-smaller .before in
     let at-verdict = at-if1 .before in
     let args = at-verdict .before .before .before .before .before .before .before .before .args in
-    run-too-long _ _ _ _ (args .output .now) (args .first .now) (args .second .now) (args .budget) _ (at-verdict .verdict .ensures) _
-    (capacity-of _ _ _ _ _ _ (at-smaller .smaller .ensures) (at-smaller2 .smaller2 .ensures) (at-smaller3 .smaller3 .ensures)) (at-if1 .if1 .left) (at-if2 .if2 .taken) _ (c .refused2 .ensures))
+    run-too-long _ _ _ _ (args .output .now) (args .first .now) (args .second .now) (args .budget) _ (at-verdict .verdict .ensures)
+    _ (capacity-of _ _ _ _ _ _ (at-smaller .smaller .ensures) (at-smaller2 .smaller2 .ensures) (at-smaller3 .smaller3 .ensures))
+    (at-if1 .if1 .left) (at-if2 .if2 .taken) _ (c .refused2 .ensures))
     (λ c. search needs)
     (λ c.
     let at-smaller3 = c .before .before .before in
     let at-smaller2 = at-smaller3 .before in
     let at-smaller = at-smaller2 .before in
     let args = at-smaller .before .before .before .before .before .before .before .before .before .before .args in
-    omega (arith, length-take (at-smaller3 .smaller3 .result) (args .first .now), at-smaller .smaller .ensures, at-smaller2 .smaller2 .ensures, at-smaller3 .smaller3 .ensures))
+    omega (
+      arith,
+      length-take (at-smaller3 .smaller3 .result) (args .first .now),
+      at-smaller .smaller .ensures,
+      at-smaller2
+          .smaller2 .ensures,
+      at-smaller3 .smaller3 .ensures,
+    ))
     (λ c. search needs)
     (λ c.
     let at-smaller3 = c .before .before .before .before in
     let at-smaller2 = at-smaller3 .before in
     let at-smaller = at-smaller2 .before in
     let args = at-smaller .before .before .before .before .before .before .before .before .before .before .args in
-    omega (arith, length-take (at-smaller3 .smaller3 .result) (args .second .now), at-smaller .smaller .ensures, at-smaller2 .smaller2 .ensures, at-smaller3 .smaller3 .ensures))
+    omega (
+      arith,
+      length-take (at-smaller3 .smaller3 .result) (args .second .now),
+      at-smaller .smaller .ensures,
+      at-smaller2
+          .smaller2 .ensures,
+      at-smaller3 .smaller3 .ensures,
+    ))
     (λ c κs.
     let at-if2 = c .before .before .before in
     let at-smaller3 = at-if2 .before in
@@ -59,8 +74,9 @@ run-spec =
     let at-if1 = at-smaller .before in
     let at-verdict = at-if1 .before in
     let args = at-verdict .before .before .before .before .before .before .before .before .args in
-    run-settleable _ _ _ _ (args .output .now) (args .first .now) (args .second .now) (args .budget) _ (at-verdict .verdict .ensures) _
-    (capacity-of _ _ _ _ _ _ (at-smaller .smaller .ensures) (at-smaller2 .smaller2 .ensures) (at-smaller3 .smaller3 .ensures)) (at-if1 .if1 .left) (at-if2 .if2 .left))
+    run-settleable _ _ _ _ (args .output .now) (args .first .now) (args .second .now) (args .budget) _
+    (at-verdict .verdict .ensures) _ (capacity-of _ _ _ _ _ _ (at-smaller .smaller .ensures) (at-smaller2 .smaller2 .ensures)
+    (at-smaller3 .smaller3 .ensures)) (at-if1 .if1 .left) (at-if2 .if2 .left))
     (λ c. search needs)
     (λ c. search needs)
     (λ c. search needs)
@@ -74,4 +90,5 @@ run-spec =
     let at-verdict = at-if1 .before in
     let args = at-verdict .before .before .before .before .before .before .before .before .args in
     run-settled _ _ _ _ (args .output .now) (args .first .now) (args .second .now) (args .budget) _ (at-verdict .verdict .ensures) _
-    (capacity-of _ _ _ _ _ _ (at-smaller .smaller .ensures) (at-smaller2 .smaller2 .ensures) (at-smaller3 .smaller3 .ensures)) (at-if1 .if1 .left) (at-if2 .if2 .left) _ _ (at-settle .settle .ensures)))
+    (capacity-of _ _ _ _ _ _ (at-smaller .smaller .ensures) (at-smaller2 .smaller2 .ensures) (at-smaller3 .smaller3 .ensures))
+    (at-if1 .if1 .left) (at-if2 .if2 .left) _ _ (at-settle .settle .ensures)))

@@ -1,6 +1,6 @@
 -- The term is copied to the end of the first scratch buffer and reduced there; what it comes to is answered.
 use native.Mathlib.Omega.{arith}
-use mathlib.Core.Path.{refl, _∙_}
+use mathlib.Core.Path.{refl}
 use Rattle.normalizer.proofs.Settling.{settle-reducible, settled-stopped, last-inside, settled-ended}
 use borrow.Author.Needs.{needs}
 use Rattle.normalizer.proofs.normalize.settle.Statement.{statement}
@@ -34,7 +34,8 @@ settle-spec =
     let at-reduce = c .before .before .before .before .before .before in
     let at-copy = at-reduce .before .before .before .before .before in
     let pre = at-copy .before .before .before .before .before .before .before .pre in
-    let inside = last-inside (pre) refl (at-copy .copy .ensures) (at-reduce .reduce .ensures) (c .if1 .left) (at-reduce .reduce .kept .1 .0) in
+    let inside = last-inside (pre) refl (at-copy .copy .ensures) (at-reduce .reduce .ensures) (c .if1 .left)
+    (at-reduce .reduce .kept .1 .0) in
     omega (arith, inside .0, at-reduce .reduce .kept .1 .0, at-copy .copy .kept .1 .1 .0, pre .at-most))
     (λ c.
     let at-reduce = c .before .before .before .before .before .before in
@@ -46,7 +47,8 @@ settle-spec =
     let at-reduce = at-if1 .before .before .before .before .before .before in
     let at-copy = at-reduce .before .before .before .before .before in
     let pre = at-copy .before .before .before .before .before .before .before .pre in
-    last-inside (pre) refl (at-copy .copy .ensures) (at-reduce .reduce .ensures) (at-if1 .if1 .left) (at-reduce .reduce .kept .1 .0) .0)
+    last-inside (pre) refl (at-copy .copy .ensures) (at-reduce .reduce .ensures) (at-if1 .if1 .left) (at-reduce .reduce .kept .1 .0)
+    .0)
     (λ c. search needs)
     (λ c κs. search needs)
     (λ c. search needs)
@@ -58,4 +60,5 @@ settle-spec =
     let at-reduce = at-if1 .before .before .before .before .before .before in
     let at-copy = at-reduce .before .before .before .before .before in
     let pre = at-copy .before .before .before .before .before .before .before .pre in
-    settled-ended (pre) refl (at-copy .copy .ensures) (at-reduce .reduce .ensures) (at-if1 .if1 .left) (at-reduce .reduce .kept .1 .0) _ _ (at-copy2 .copy2 .ensures)))
+    settled-ended (pre) refl (at-copy .copy .ensures) (at-reduce .reduce .ensures) (at-if1 .if1 .left)
+    (at-reduce .reduce .kept .1 .0) _ _ (at-copy2 .copy2 .ensures)))

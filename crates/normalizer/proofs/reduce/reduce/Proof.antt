@@ -65,23 +65,29 @@ reduce-spec =
     let at-turn2 = c .before in
     let at-take-turn = at-turn2 .before .before .before .before .before .before .before in
     let loop = at-take-turn .before .before .before .before .loop in
-    inner-below (loop .inv .0) (at-take-turn .take-turn .kept .1 .1 .0) (at-take-turn .take-turn .ensures) (at-turn2 .turn2 .given .1))
+    inner-below (loop .inv .0) (at-take-turn .take-turn .kept .1 .1 .0) (at-take-turn .take-turn .ensures)
+    (at-turn2 .turn2 .given .1))
     (λ c.
     let at-turn2 = c .before .before in
     let at-take-turn = at-turn2 .before .before .before .before .before .before .before in
     let loop = at-take-turn .before .before .before .before .loop in
-    inner-positive (loop .inv .0) (at-take-turn .take-turn .kept .1 .1 .0) (at-take-turn .take-turn .ensures) (at-turn2 .turn2 .given .1))
+    inner-positive (loop .inv .0) (at-take-turn .take-turn .kept .1 .1 .0) (at-take-turn .take-turn .ensures)
+    (at-turn2 .turn2 .given .1))
     (λ c.
     let at-turn2 = c .before .before in
     let at-take-turn = at-turn2 .before .before .before .before .before .before .before in
     let loop = at-take-turn .before .before .before .before .loop in
-    omega (arith, inner-positive (loop .inv .0) (at-take-turn .take-turn .kept .1 .1 .0) (at-take-turn .take-turn .ensures) (at-turn2 .turn2 .given .1)))
+    omega (
+      arith,
+      inner-positive (loop .inv .0) (at-take-turn .take-turn .kept .1 .1 .0) (at-take-turn .take-turn .ensures)
+          (at-turn2 .turn2 .given .1),
+    ))
     (λ c.
     let at-turn2 = c .before .before in
     let at-take-turn = at-turn2 .before .before .before .before .before .before .before in
     let loop = at-take-turn .before .before .before .before .loop in (
-      inner-next (loop .inv .0) (at-take-turn .take-turn .kept .1 .1 .0) (at-take-turn .take-turn .ensures) (at-turn2 .turn2 .given .1) _ _
-          (at-take-turn .take-turn .kept .1 .1 .1 .1 .1 .1 .0) (c .raise .ensures),
+      inner-next (loop .inv .0) (at-take-turn .take-turn .kept .1 .1 .0) (at-take-turn .take-turn .ensures)
+          (at-turn2 .turn2 .given .1) _ _ (at-take-turn .take-turn .kept .1 .1 .1 .1 .1 .1 .0) (c .raise .ensures),
       at-take-turn .take-turn .kept .1 .1 .1 .1 .1 .1 .1 .0 ∙ loop .inv .1,
     ))
     (λ c κs.
@@ -96,8 +102,9 @@ reduce-spec =
     let at-enum-told = at-seek .before .before in
     let at-take-turn = at-enum-told .before .before .before .before .before .before .before in
     let at-loop = at-take-turn .before .before .before .before in (
-      outer-next (at-loop .before .reduce .inv .0) (at-loop .loop .inv .0) (at-take-turn .take-turn .ensures) (at-enum-told .enum-told .given .1) (at-seek .seek .ensures)
-          (at-seek .seek .kept .0 ∙ at-take-turn .take-turn .kept .1 .1 .0) (at-take-turn .take-turn .kept .1 .1 .1 .1 .1 .1 .0) Insertion Reduction (c .enum-told2 .given .1)
+      outer-next (at-loop .before .reduce .inv .0) (at-loop .loop .inv .0) (at-take-turn .take-turn .ensures)
+          (at-enum-told .enum-told .given .1) (at-seek .seek .ensures) (at-seek .seek .kept .0 ∙ at-take-turn .take-turn .kept .1 .1 .0)
+          (at-take-turn .take-turn .kept .1 .1 .1 .1 .1 .1 .0) Insertion Reduction (c .enum-told2 .given .1)
           (after-insertion _ _ _ _ _ _ _ _ _),
       at-take-turn .take-turn .kept .1 .1 .1 .1 .1 .1 .1 .0 ∙ at-loop .loop .inv .1,
     ))
@@ -108,8 +115,9 @@ reduce-spec =
     let at-enum-told = at-seek .before .before in
     let at-take-turn = at-enum-told .before .before .before .before .before .before .before in
     let at-loop = at-take-turn .before .before .before .before in (
-      outer-next (at-loop .before .reduce .inv .0) (at-loop .loop .inv .0) (at-take-turn .take-turn .ensures) (at-enum-told .enum-told .given .1) (at-seek .seek .ensures)
-          (at-seek .seek .kept .0 ∙ at-take-turn .take-turn .kept .1 .1 .0) (at-take-turn .take-turn .kept .1 .1 .1 .1 .1 .1 .0) Reduction Dropping (c .enum-told3 .given .1)
+      outer-next (at-loop .before .reduce .inv .0) (at-loop .loop .inv .0) (at-take-turn .take-turn .ensures)
+          (at-enum-told .enum-told .given .1) (at-seek .seek .ensures) (at-seek .seek .kept .0 ∙ at-take-turn .take-turn .kept .1 .1 .0)
+          (at-take-turn .take-turn .kept .1 .1 .1 .1 .1 .1 .0) Reduction Dropping (c .enum-told3 .given .1)
           (after-reduction _ _ _ _ _ _ _ _ _),
       at-take-turn .take-turn .kept .1 .1 .1 .1 .1 .1 .1 .0 ∙ at-loop .loop .inv .1,
     ))
@@ -120,7 +128,8 @@ reduce-spec =
     let at-turn = c .before in
     let at-take-turn = at-turn .before .before .before .before .before .before .before in
     let at-loop = at-take-turn .before .before .before .before in
-    outer-refused (at-loop .before .reduce .inv .0) (at-loop .loop .inv .0) (turn-as _ (at-turn .turn .given .1) (at-take-turn .take-turn .ensures)) refl refl)
+    outer-refused (at-loop .before .reduce .inv .0) (at-loop .loop .inv .0)
+    (turn-as _ (at-turn .turn .given .1) (at-take-turn .take-turn .ensures)) refl refl)
     (λ c. search needs)
     (λ c. search needs)
     (λ c.
@@ -128,5 +137,6 @@ reduce-spec =
     let at-enum-told = at-seek .before .before in
     let at-take-turn = at-enum-told .before .before .before .before .before .before .before in
     let at-loop = at-take-turn .before .before .before .before in
-    outer-ended (at-loop .before .reduce .inv .0) (at-loop .loop .inv .0) (at-take-turn .take-turn .ensures) (at-enum-told .enum-told .given .1) (at-seek .seek .ensures)
-    (at-seek .seek .kept .0 ∙ at-take-turn .take-turn .kept .1 .1 .0) (c .enum-told4 .given .1) refl refl refl))
+    outer-ended (at-loop .before .reduce .inv .0) (at-loop .loop .inv .0) (at-take-turn .take-turn .ensures)
+    (at-enum-told .enum-told .given .1) (at-seek .seek .ensures) (at-seek .seek .kept .0 ∙ at-take-turn .take-turn .kept .1 .1 .0)
+    (c .enum-told4 .given .1) refl refl refl))

@@ -1,7 +1,7 @@
 -- The redex is measured, written to the second buffer, and copied in; or the next term is too long.
 use native.Mathlib.Omega.{arith}
 use Prim.Native.Nat.{ℕ, _≤_}
-use mathlib.Core.Path.{refl, _∙_}
+use mathlib.Core.Path.{refl}
 use mathlib.Core.List.{List}
 use lib.ListN.{length}
 use Rattle.parts.specs.Fronts.{from}
@@ -23,8 +23,12 @@ rewrite-spec =
     (λ c. search needs)
     (λ c. search needs)
     (λ c κs.
-    let start = c .before .before .before .before .before .before .before in
-    (redex-starts _ _ _ _ _ (start .pre .0), small-part (start .args .current .now) (start .args .end) (start .pre .0 .limit), start .pre .1))
+    let start = c .before .before .before .before .before .before .before in (
+      redex-starts _ _ _ _ _ (start .pre .0),
+      small-part (start .args .current .now) (start .args .end) (start .pre .0 .limit),
+      start
+          .pre .1,
+    ))
     (λ c.
     let at-measure = c .before .before .before in
     let pre = at-measure .before .before .before .before .before .before .before .before .pre in
@@ -53,7 +57,13 @@ rewrite-spec =
     let at-if1 = at-write .before .before .before .before .before in
     let at-measure = at-if1 .before .before .before .before in
     let pre = at-measure .before .before .before .before .before .before .before .before .pre in (
-      omega (arith, wrote-small _ _ _ _ _ _ (at-measure .measure .ensures) (pre .0) (at-if1 .if1 .left), pre .0 .scratch, at-write .write .kept .1 .1 .1 .0),
+      omega (
+        arith,
+        wrote-small _ _ _ _ _ _ (at-measure .measure .ensures) (pre .0) (at-if1 .if1 .left),
+        pre .0 .scratch,
+        at-write
+            .write .kept .1 .1 .1 .0,
+      ),
       omega (arith, at-if1 .if1 .left, read-inside _ _ _ _ _ _ (at-measure .measure .ensures) (pre .0)),
     ))
     (λ c. search needs)
@@ -65,5 +75,5 @@ rewrite-spec =
     let at-if1 = at-write .before .before .before .before .before in
     let at-measure = at-if1 .before .before .before .before in
     let pre = at-measure .before .before .before .before .before .before .before .before .pre in
-    rewrites-next _ _ _ _ _ _ (at-measure .measure .ensures) _ _ _ _ (at-write .write .kept .1 .1 .1 .0) (pre .0 .scratch) (at-if1 .if1 .left) refl (at-write .write .ensures)
-    (at-copy .copy .ensures)))
+    rewrites-next _ _ _ _ _ _ (at-measure .measure .ensures) _ _ _ _ (at-write .write .kept .1 .1 .1 .0) (pre .0 .scratch)
+    (at-if1 .if1 .left) refl (at-write .write .ensures) (at-copy .copy .ensures)))

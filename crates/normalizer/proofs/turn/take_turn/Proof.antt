@@ -1,7 +1,7 @@
 -- What is found is the definition's step; the budget is looked at before the next term's length.
 use native.Mathlib.Omega.{arith}
-use Prim.Native.Nat.{ℕ, _+_}
-use mathlib.Core.Path.{_≡_, sym, _∙_, subst}
+use Prim.Native.Nat.{ℕ}
+use mathlib.Core.Path.{_≡_, subst}
 use mathlib.Core.List.{List}
 use Rattle.reduction.specs.declared.Rule.{Rule}
 use Rattle.normalizer.specs.Rewrites.{Rewrites}
@@ -51,7 +51,8 @@ take-turn-spec =
     let at-found = at-seek .before .before .before .before in
     let at-find = at-found .before .before .before .before in
     let pre = at-find .before .before .before .before .before .before .before .before .pre in (
-      turn-rewritable (at-find .find .ensures) (at-found .found .given .1) (at-seek .seek .ensures) (at-seek .seek .kept .0) (pre .0) _ (search needs),
+      turn-rewritable (at-find .find .ensures) (at-found .found .given .1) (at-seek .seek .ensures) (at-seek .seek .kept .0)
+          (pre .0) _ (search needs),
       pre .1,
     ))
     (λ c. search needs)
@@ -81,8 +82,8 @@ take-turn-spec =
     let at-if1 = at-seek .before .before in
     let at-found = at-if1 .before .before in
     let find = at-found .before .before .before .before .find in
-    turned-full (find .ensures) (at-found .found .given .1) (at-seek .seek .ensures) (at-seek .seek .kept .0) (omega (arith, at-if1 .if1 .left))
-    (told-as _ (c .enum-told2 .given .1) (at-rewrite .rewrite .ensures)))
+    turned-full (find .ensures) (at-found .found .given .1) (at-seek .seek .ensures) (at-seek .seek .kept .0)
+    (omega (arith, at-if1 .if1 .left)) (told-as _ (c .enum-told2 .given .1) (at-rewrite .rewrite .ensures)))
     (λ c. search needs)
     (λ c. search needs)
     (λ c. search needs)
@@ -96,4 +97,5 @@ take-turn-spec =
     let at-found = at-if1 .before .before in
     let find = at-found .before .before .before .before .find in
     turned-goes (find .ensures) (at-found .found .given .1) (at-seek .seek .ensures) (at-seek .seek .kept .0)
-    (told-as _ (at-rewritten .rewritten .given .1) (at-rewrite .rewrite .ensures)) (omega (arith, at-if1 .if1 .left)) (at-next-from .next-from .ensures) (at-seek2 .seek2 .ensures)))
+    (told-as _ (at-rewritten .rewritten .given .1) (at-rewrite .rewrite .ensures)) (omega (arith, at-if1 .if1 .left))
+    (at-next-from .next-from .ensures) (at-seek2 .seek2 .ensures)))
