@@ -84,9 +84,12 @@ module _ (tables : Tables) (capacity : ℕ) (whole : Progress) where
             → (step allPure phase (s .term) ≡ none) × Current (tables .calls) after start end (s .term)
         told (stops e c) = (e, c)
 
-    -- the gap can go to the front then
-    pub standing-seekable : {after : List ℕ} → Turns phase (tables .calls) words start end left after Stop → Seekable after start end 0
-    standing-seekable x = gapped-seekable (standing-stops x .1 .gapped) 0 (omega arith)
+    -- the gap can go back to any place then
+    pub standing-seekable : {after : List ℕ} (place : ℕ) → place ≤ start → Turns phase (tables .calls) words start end left after Stop
+        → Seekable after start end place
+    standing-seekable place le x =
+        let g = standing-stops x .1 .gapped in
+        gapped-seekable g place (omega (arith, le, gapped-size g))
 
     -- a turn that is refused
     pub standing-refused : {after : List ℕ} (n : ℕ) → Turns phase (tables .calls) words start end left after (Refused n)

@@ -58,10 +58,11 @@ module _ {calls : List ℕ} {phase : Phase} {words₀ words : List ℕ} {start�
   pub inner-ready : Ready phase calls words start end second
   inner-ready = standing-ready _ _ _ now second (v .limit) (v .scratch)
 
-  -- the phase is over: the gap can go to the front
-  pub inner-seekable : {after : List ℕ} {r : Turn} → Turns phase calls words start end left after r → r ≡ Stop → Seekable after start end 0
-  inner-seekable {after} x e =
-      standing-seekable _ _ _ now (subst (λ (t : Turn). Turns phase calls words start end left after t) e x)
+  -- the phase is over: the gap can go back
+  pub inner-seekable : {after : List ℕ} {r : Turn} (place : ℕ) → place ≤ start → Turns phase calls words start end left after r → r ≡ Stop
+      → Seekable after start end place
+  inner-seekable {after} place le x e =
+      standing-seekable _ _ _ now place le (subst (λ (t : Turn). Turns phase calls words start end left after t) e x)
 
   module _ {after : List ℕ} {r : Turn} {rule : Rule} {from rest : ℕ} (a : length after ≡ length words)
       (x : Turns phase calls words start end left after r) (e : r ≡ Stepped rule from rest) where

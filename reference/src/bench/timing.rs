@@ -12,10 +12,10 @@ use std::time::Duration;
 /// A repetition answers the bundles as often as takes this long, at least once.
 const SHORTEST_REPETITION: Duration = Duration::from_millis(5);
 /// Repetitions end after this time for each implementation, or after so many; there are at least
-/// three, or one if one takes that long.
+/// seven, so that one during which the machine was slow does not decide, or one if one takes that long.
 const ENOUGH: Duration = Duration::from_millis(1500);
 const MOST_REPETITIONS: usize = 21;
-const FEWEST_REPETITIONS: usize = 3;
+const FEWEST_REPETITIONS: usize = 7;
 const LONG: Duration = Duration::from_secs(5);
 /// An implementation that is expected to take longer for one repetition is left out.
 const TOO_LONG: Duration = Duration::from_secs(60);

@@ -94,7 +94,7 @@ reduce-spec =
     let at-enum-told = c .before in
     let at-take-turn = at-enum-told .before .before .before .before .before .before .before in
     let loop = at-take-turn .before .before .before .before .loop in
-    inner-seekable (loop .inv .0) (at-take-turn .take-turn .ensures) (at-enum-told .enum-told .given .1))
+    inner-seekable (loop .inv .0) _ (omega arith) (at-take-turn .take-turn .ensures) (at-enum-told .enum-told .given .1))
     (λ c. search needs)
     (λ c. omega (arith, ap phasesAfter (c .enum-told2 .given .1)))
     (λ c.
