@@ -25,7 +25,7 @@ use Rattle.reducer.specs.NormalTest.{Tests, Decides}
 use Rattle.reducer.specs.declared.normal.Part.{Part}
 
 -- no binder is in scope yet: marks for as many as there can be words
-pub space-none : (l : ℕ) → l ≤ 8192 → Space (replicate 8192 0) 0 l
+pub space-none : (l : ℕ) → l ≤ 8192 → Space 1 (replicate 8192 0) 0 l
 space-none l le = record {
   deep = omega (arith, length-replicate {A = ℕ} 8192 0);
   small = omega (arith, length-replicate {A = ℕ} 8192 0);

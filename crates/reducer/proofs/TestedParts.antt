@@ -68,7 +68,7 @@ module _ (test : Term → Bool) (each : ℕ → Term → Bool) (calls words : Li
 
     module _ {opened : List ℕ} {b : ℕ} (o : Opened mid opened depth b) (bl : b ≤ 1) where
       -- its words can be gone through
-      pub test-space : Space old depth (length words) → Space opened (depth + b) (length (from words at))
+      pub test-space : Space 1 old depth (length words) → Space 1 opened (depth + b) (length (from words at))
       test-space s = space-next (length words) (length (from words at)) o bl (g .grown) s (g .going .low) (g .going .high)
           (from-length words at)
 

@@ -21,7 +21,7 @@ use Rattle.parts.proofs.Binding.{uses-binding}
 use Rattle.parts.proofs.Traversal.{from-length}
 use Rattle.parts.proofs.Variables.{kind-0}
 use Rattle.parts.proofs.Rows.{Cut, Marching, Visit, march-term, march-on, visit}
-use Rattle.reducer.specs.Marks.{MarkedBy}
+use Rattle.reducer.specs.Marks.{Marked}
 use Rattle.reducer.specs.Unused.{openMark, finalMark, Passed, Opens, Least, Scans}
 use Rattle.reducer.specs.declared.unused.Scan.{Scan}
 use Rattle.reducer.proofs.Marking.{uses-size}
@@ -130,7 +130,7 @@ module _ {calls words : List ℕ} {base depth : ℕ} {old cur : List ℕ} {owed 
   module _ (k : ℕ) (ke : k ≡ kindOf (getD words at 0)) where
     -- a variable
     pub scan-variable : (number : ℕ) (new : List ℕ) → k ≡ 0 → number ≡ numberOf (getD words at 0)
-        → MarkedBy 65536 (var number) under cur new → length new ≡ length cur → State new (owed - 1) later under (at + 1) fresh first
+        → Marked 65536 (var number) under cur new → length new ≡ length cur → State new (owed - 1) later under (at + 1) fresh first
     unfolding partCount outerCount uses outer inner joined
     scan-variable number new z ne m le = record {
       len = le ∙ g .len;
