@@ -15,22 +15,19 @@ use Rattle.syntax.specs.Term.{Term, Terms, var, call, lam, app, bind, pair, fst
 use Rattle.syntax.specs.Encoding.{size}
 use Rattle.syntax.specs.PartsUnder.{usesParts}
 use Rattle.syntax.specs.Values.{counts, uses, usesAll}
+use Rattle.syntax.proofs.Options.{counts-one}
 use Rattle.syntax.proofs.PartsUnder.{uses-node}
 use Rattle.syntax.proofs.Sizes.{sizeAll, size-var, size-call, size-lam, size-app, size-bind, size-pair, size-fst, size-snd, size-inl}
 use Rattle.syntax.proofs.Sizes.{size-inr}
 use Rattle.syntax.proofs.Sizes.{size-case, size-done, size-arg}
 use Rattle.reducer.specs.Marks.{Marked, Raisable, Space}
 
-at-most-one : (b : Bool) → counts b ≤ 1
-at-most-one true = omega arith
-at-most-one false = omega arith
-
 -- a term uses a variable at most once a word
 mutual
   unfolding uses
 
   pub uses-size : (t : Term) (n : ℕ) → uses t n ≤ size t
-  uses-size (var m) n = omega (arith, at-most-one (eqb m n), size-var m)
+  uses-size (var m) n = omega (arith, counts-one (eqb m n), size-var m)
   uses-size (call k ts) n = omega (arith, uses-sizes ts n, size-call k ts)
   uses-size (lam A b) n = omega (arith, uses-size b (suc n), size-lam A b)
   uses-size (app f a) n = omega (arith, uses-size f n, uses-size a n, size-app f a)
