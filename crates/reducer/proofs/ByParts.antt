@@ -4,7 +4,6 @@
 use mathlib.Core.Path.{_≡_, refl, sym, _∙_, ap, ap₂}
 use mathlib.Core.Bool.{Bool, true, false, _&&_, _||_, cond, and-true, true≢false}
 use Prim.Native.Nat.{ℕ, suc}
-use native.Mathlib.Omega.{arith}
 use lib.Dec.{eqb, leb}
 use Rattle.syntax.specs.Maybe.{isSome}
 use Rattle.syntax.specs.Term.{Term, Terms, var, call, lam, app, bind, pair, fst, snd, inl, inr, case, done, arg, node, asVar}
@@ -19,6 +18,7 @@ use Rattle.reducer.specs.Roles.{roleOf, suits, operationKind, keepsVaria
 use Rattle.reducer.specs.declared.normal.Role.{Role}
 use Rattle.reducer.specs.declared.normal.Role.the-variants.{Variable, Value, Operation}
 use Rattle.reducer.specs.NormalTest.{isNormalValue}
+use Rattle.reducer.proofs.ByKind.{kind-2}
 
 -- whether every part passes the test of its place
 unfoldable pub allPass : (ℕ → Term → Bool) → ℕ → Terms → Bool
@@ -187,14 +187,5 @@ value-parts (case s l r) h z l′ = absurd (true≢false (sym h))
 -- a function
 pub function-parts : (t : Term) → node t .kind ≡ 2 → isNormalValue t ≡ allPass (λ j. inGrammar allPure) 0 (node t .parts)
 unfolding isNormalValue inGrammar class node allPass
-function-parts (var n) h = absurd (omega arith)
-function-parts (call k ts) h = absurd (omega arith)
-function-parts (lam A b) h = value-passes (inGrammar allPure b) ∙ sym (and-true (inGrammar allPure b))
-function-parts (app f a) h = absurd (omega arith)
-function-parts (bind e b) h = absurd (omega arith)
-function-parts (pair A a b) h = absurd (omega arith)
-function-parts (fst a) h = absurd (omega arith)
-function-parts (snd a) h = absurd (omega arith)
-function-parts (inl A a) h = absurd (omega arith)
-function-parts (inr A a) h = absurd (omega arith)
-function-parts (case s l r) h = absurd (omega arith)
+function-parts t h = kind-2 (λ u. isNormalValue u ≡ allPass (λ j. inGrammar allPure) 0 (node u .parts)) t h λ A b.
+    value-passes (inGrammar allPure b) ∙ sym (and-true (inGrammar allPure b))
