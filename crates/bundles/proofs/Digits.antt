@@ -2,7 +2,7 @@
 use Prim.Native.Nat.{ℕ, zero, suc, _+_, _-_, _/_, _%_, _^_, _≤_, _<_}
 use native.Mathlib.Omega.{arith}
 use native.Mathlib.Nat.{pow-succ', div-div-eq-div-mul}
-use mathlib.Core.Path.{_≡_, refl, _∙_, ap}
+use mathlib.Core.Path.{_≡_, refl, sym, _∙_, ap}
 use mathlib.Core.Logic.{_≢_}
 use mathlib.Core.List.{List, [], _∷_, _++_}
 use lib.ListN.{length, set, length-set}
@@ -17,47 +17,43 @@ set-before l i k a (v ∷ vs) h =
     let n : k ≢ i = λ e. omega (arith, e) in
     set-before (set l k v) i (suc k) a vs (omega arith) ∙ ap (λ (m : List ℕ). sets m (suc k) vs) (set-comm l k i v a n)
 
--- the digits from i on are written, and `left` is what is left of the number
+-- the digits but the first i are written, and `left` is what is left of the number
 pub record DigitsPut (base n count : ℕ) (old new : List ℕ) (at i left : ℕ) : Type 0 where
-  pub low : at ≤ i
   pub done : List ℕ
-  pub reach : i + length done ≡ at + count
-  pub new-is : new ≡ sets old i done
-  pub same : lastDigits base (i - at) left done ≡ lastDigits base count n []
+  pub reach : i + length done ≡ count
+  pub new-is : new ≡ sets old (at + i) done
+  pub same : lastDigits base i left done ≡ lastDigits base count n []
   pub len : length new ≡ length old
 
-pub digits-none : (base n count : ℕ) (old : List ℕ) (at : ℕ) → DigitsPut base n count old old at (at + count) n
-digits-none base n count old at =
-    let e : at + count - at ≡ count = omega arith in
-    record { low = omega arith; done = []; reach = omega arith; new-is = refl; same = rw e; len = refl }
+pub digits-none : (base n count : ℕ) (old : List ℕ) (at : ℕ) → DigitsPut base n count old old at count n
+digits-none base n count old at = record { done = []; reach = omega arith; new-is = refl; same = refl; len = refl }
 
-pub digits-more : {base n count : ℕ} {old new : List ℕ} {at i left : ℕ} (d : ℕ) → DigitsPut base n count old new at i left → at < i
-    → d ≡ digit (left % base) → DigitsPut base n count old (set new (i - 1) d) at (i - 1) (left / base)
+pub digits-more : {base n count : ℕ} {old new : List ℕ} {at i left : ℕ} (d : ℕ) → DigitsPut base n count old new at i left → 0 < i
+    → d ≡ digit (left % base) → DigitsPut base n count old (set new (at + (i - 1)) d) at (i - 1) (left / base)
 unfolding lastDigits
 digits-more {base} {n} {count} {old} {new} {at} {i} {left} d s l e =
-    let j : ℕ = i - 1 in
-    let up : i ≡ suc j = omega arith in
-    let more : i - at ≡ suc (j - at) = omega arith in
+    let j : ℕ = at + (i - 1) in
+    let next : at + i ≡ suc j = omega arith in
+    let more : i ≡ suc (i - 1) = omega arith in
     record {
-      low = omega arith;
       done = digit (left % base) ∷ s .done;
       reach = omega (arith, s .reach);
       new-is =
-          ap (λ (m : List ℕ). set m j d) (s .new-is ∙ ap (λ (k : ℕ). sets old k (s .done)) up)
+          ap (λ (m : List ℕ). set m j d) (s .new-is ∙ ap (λ (k : ℕ). sets old k (s .done)) next)
           ∙ ap (λ (x : ℕ). set (sets old (suc j) (s .done)) j x) e
           ∙ set-before old j (suc j) (digit (left % base)) (s .done) (omega arith);
-      same = rw more at (s .same);
+      same = ap (λ (k : ℕ). lastDigits base k left (s .done)) (sym more) ∙ s .same;
       len = length-set new j d ∙ s .len;
     }
 
-pub digits-all : {base n count : ℕ} {old new : List ℕ} {at i left : ℕ} → DigitsPut base n count old new at i left → i ≤ at
+pub digits-all : {base n count : ℕ} {old new : List ℕ} {at i left : ℕ} → DigitsPut base n count old new at i left → i ≤ 0
     → new ≡ sets old at (lastDigits base count n [])
 unfolding lastDigits
 digits-all {base} {n} {count} {old} {new} {at} {i} {left} s l =
-    let e : i ≡ at = omega arith in
-    let none : i - at ≡ 0 = omega arith in
+    let first : at + i ≡ at = omega arith in
+    let none : i ≡ 0 = omega arith in
     let all : s .done ≡ lastDigits base count n [] = rw none at (s .same) in
-    s .new-is ∙ ap (λ (k : ℕ). sets old k (s .done)) e ∙ ap (sets old at) all
+    s .new-is ∙ ap (λ (k : ℕ). sets old k (s .done)) first ∙ ap (sets old at) all
 
 -- hexadecimal digits, the most significant first, end in that of the remainder
 hexadecimal-last : (k n : ℕ) (rest : List ℕ) → hexadecimal (suc k) n ++ rest ≡ hexadecimal k (n / 16) ++ (digit (n % 16) ∷ rest)

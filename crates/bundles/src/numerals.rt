@@ -29,11 +29,11 @@ fn put_digits(n: u64, base: u64, count: usize, text: &mut [u8], at: usize)
     // the digits, hexadecimal ones in lower case
     let digits: [u8; 16] = *b"0123456789abcdef";
     let mut left = n;
-    let mut i = at + count;
-    while at < i {
+    let mut i = count;
+    while 0 < i {
         i -= 1;
         let d = left % base;
-        text[i] = digits[d as usize];
+        text[at + i] = digits[d as usize];
         left = left / base;
     }
 }

@@ -75,16 +75,16 @@ pub fn absent(words: &[u64], w: u64) -> bool
 }
 
 // one mark for each residue by a prime: equal words have equal residues
-pub const RESIDUES: usize = 16381;
+const RESIDUES: usize = 16381;
 
-pub fn residue(w: u64) -> usize
+fn residue(w: u64) -> usize
     ensures { λ r. ⌜ r ≡ residueOf w ⌝ }
 {
     w as usize % RESIDUES
 }
 
 // the same as `absent`, of words whose residues are marked
-pub fn absent_marked(marks: &[u8; RESIDUES], words: &[u64], w: u64) -> bool
+fn absent_marked(marks: &[u8; RESIDUES], words: &[u64], w: u64) -> bool
     requires { ⌜ Noted (now marks) (now words) ⌝ }
     ensures { λ r. ⌜ r ≡ every (λ x. not (eqb w x)) (now (words .entry)) ⌝ }
 {

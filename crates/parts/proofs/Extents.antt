@@ -12,7 +12,7 @@ use lib.ListN.{length, getD, drop}
 use lib.Seq.{drop-cons, drop-length}
 use Rattle.syntax.specs.Kinds.{partsOfKind}
 use Rattle.syntax.specs.Parts.{partCount, extent}
-use Rattle.syntax.proofs.Parts.{longer}
+use Rattle.syntax.proofs.Parts.{longer, no-longer}
 
 cond-le : (b : Bool) (x y n : ℕ) → x ≤ n → y ≤ n → cond b x y ≤ n
 cond-le true x y n h g = h
@@ -29,10 +29,6 @@ parts-le a k h = cond-le (leb k 0) 0 _ 15 (omega arith)
 longer-suc : (i : ℕ) (o : Option ℕ) → longer i (Option·map suc o) ≡ longer (i + 1) o
 longer-suc i none = refl
 longer-suc i (some n) = ap (λ (x : ℕ). some x) (omega arith)
-
-pub longer-0 : (o : Option ℕ) → o ≡ longer 0 o
-longer-0 none = refl
-longer-0 (some n) = ap (λ (x : ℕ). some x) (omega arith)
 
 pub nothing-owed : (calls ws : List ℕ) → extent calls ws 0 ≡ some 0
 unfolding extent
@@ -57,7 +53,7 @@ module _ (calls t : List ℕ) where
     Owing owed i = extent calls t n ≡ longer i (extent calls (drop i t) owed)
 
     pub owing-start : Owing n 0
-    owing-start = longer-0 (extent calls t n)
+    owing-start = no-longer (extent calls t n)
 
     pub owing-word : (owed i : ℕ) → 0 < owed → i < length t → Owing owed i → Owing (owed - 1 + partCount calls (getD t i 0)) (i + 1)
     owing-word owed i p h e = e ∙ ap (longer i) (extent-word owed i p h)

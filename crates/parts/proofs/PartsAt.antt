@@ -5,7 +5,7 @@ use native.Mathlib.Omega.{arith}
 use mathlib.Core.Path.{_≡_, sym, _∙_, ap}
 use mathlib.Core.List.{List, _∷_, _++_, append-assoc}
 use lib.ListN.{length, getD, drop, take}
-use lib.Seq.{drop-drop, take-at, getD-drop}
+use lib.Seq.{drop-drop, getD-drop}
 use Rattle.syntax.specs.Term.{Term, Terms, done, arg, node}
 use Rattle.syntax.specs.Encoding.{wordOf, encode, encodeAll, size}
 use Rattle.syntax.specs.Shaped.{count, Shaped, ShapedAll}
@@ -17,7 +17,7 @@ use Rattle.parts.specs.Ends.{Sized}
 use Rattle.parts.specs.Counts.{Counts}
 use Rattle.parts.specs.declared.uses.Uses.{Uses}
 use Rattle.parts.proofs.Joined.{encode-joined, shaped-joined, size-joined}
-use Rattle.parts.proofs.Traversal.{front-of, first-word, fits, from-length}
+use Rattle.parts.proofs.Traversal.{front-of, first-word, fits, front-words, from-length}
 
 -- the first word of a slice's words from an index on
 pub first-from : (words : List ℕ) (i : ℕ) → getD (from words i) 0 0 ≡ getD words i 0
@@ -32,8 +32,7 @@ module _ {calls : List ℕ} (words : List ℕ) (i : ℕ) {t : Term} {rest : List
   held-inside = omega (arith, fits h, size-positive t, from-length words i)
 
   pub held-words : (n : ℕ) → n ≡ size t → take n (drop i words) ≡ encode t
-  unfolding size
-  held-words n e = ap (take n) (sym (tail-part words i) ∙ h .is) ∙ take-at (encode t) rest n (sym e)
+  held-words n e = ap (take n) (sym (tail-part words i)) ∙ front-words h n e
 
   pub held-first : getD words i 0 ≡ wordOf t
   held-first = sym (first-from words i) ∙ first-word h

@@ -1,21 +1,23 @@
 -- The end of the part at the front, as the call answers it, is the size of the term there: a term's words do not run out.
 use Prim.Native.Nat.{ℕ}
-use mathlib.Core.Path.{_≡_, sym, _∙_, ap}
+use mathlib.Core.Path.{_≡_, refl, sym, _∙_, ap}
 use mathlib.Core.List.{List, _++_}
 use mathlib.Core.Option.{some, Option·some-injective}
 use native.Mathlib.Omega.{arith}
 use native.Mathlib.Nat.{add-zero}
 use Rattle.syntax.specs.Term.{Term, Terms}
 use Rattle.syntax.specs.Encoding.{size, encodeAll}
+use Rattle.syntax.specs.Decoding.{decode}
 use Rattle.syntax.specs.Shaped.{count}
 use Rattle.syntax.specs.Parts.{extent, partEnd}
+use Rattle.syntax.proofs.Decoding.{decode-words}
 use Rattle.syntax.proofs.Parts.{longer, terms-hold, part-end}
 use Rattle.syntax.proofs.Sizes.{sizeAll}
 use Rattle.parts.specs.Fronts.{Holds, HoldsAll, StartsAll}
 use Rattle.parts.specs.Ends.{endOf, SizedAll}
 use Rattle.parts.specs.declared.ends.End.{End}
 use Rattle.parts.specs.declared.ends.End.the-variants.{At, Short}
-use Rattle.parts.proofs.Traversal.{all-fit}
+use Rattle.parts.proofs.Traversal.{front-words, all-fit}
 use Rattle.parts.proofs.Extents.{nothing-owed}
 
 -- two terms at the front of the same words have the same size
@@ -23,6 +25,13 @@ pub same-size : {calls words : List ℕ} {t u : Term} {rest more : List ℕ} →
     → size t ≡ size u
 same-size {calls} {words} {t} {u} {rest} {more} h g = Option·some-injective (size t) (size u)
     (sym (part-end calls t rest (h .shaped)) ∙ ap (partEnd calls) (sym (h .is) ∙ g .is) ∙ part-end calls u more (g .shaped))
+
+-- so they are the same
+pub same-term : {calls words : List ℕ} {t u : Term} {rest more : List ℕ} → Holds calls words t rest → Holds calls words u more → t ≡ u
+same-term {calls} {words} {t} {u} h g = Option·some-injective t u
+    (sym (decode-words calls t (h .shaped))
+    ∙ ap (decode calls) (sym (front-words h (size t) refl) ∙ front-words g (size t) (same-size h g))
+    ∙ decode-words calls u (g .shaped))
 
 module _ (calls words : List ℕ) (m : ℕ) where
   ended : (ts : Terms) (rest : List ℕ) → HoldsAll calls words m ts rest → endOf (extent calls words m) ≡ At (sizeAll ts)

@@ -122,9 +122,6 @@ module _ {X A : Type 0} (kit : Kit X) (f : A → ℕ → X) where
     trace-opens lt two far = opens-room p d m (g .going) (g .near) (g .spare) two lt far
 
     module _ (lt : 1 ≤ owed) (w under : ℕ) (we : w ≡ getD words i 0) (ue : under ≡ getD p (owed - 1) 0) where
-      pub trace-depth : under ≤ d + i
-      trace-depth = omega (arith, ue, g .near (owed - 1) (omega (arith, lt)))
-
       -- of the term whose word this is
       abbrev pub OfTerm : (Term → A → Type 0) → Type 0
       OfTerm P = (t : Term) → w ≡ wordOf t → kindOf w ≡ node t .kind → numberOf w ≡ node t .number → (a : A) → P t a

@@ -3,7 +3,8 @@ use Prim.Native.Nat.{ℕ, _+_, _-_, _≤_, _<_}
 use native.Mathlib.Omega.{arith}
 use mathlib.Core.Path.{_≡_, refl, sym, _∙_, ap, subst}
 use mathlib.Core.List.{List, _++_}
-use lib.ListN.{length, getD, drop, length-append, length-drop}
+use lib.ListN.{length, getD, drop, take, length-append, length-drop}
+use lib.Seq.{take-at}
 use Rattle.syntax.specs.Term.{Term, Terms, done, arg, node}
 use Rattle.syntax.specs.Encoding.{wordOf, encode, encodeAll, size}
 use Rattle.syntax.specs.Parts.{partCount}
@@ -22,6 +23,12 @@ first-word {t = t} {rest = rest} h = ap (λ (l : List ℕ). getD l 0 0) (h .is �
 pub fits : {calls words : List ℕ} {t : Term} {rest : List ℕ} → Holds calls words t rest → size t ≤ length words
 unfolding size
 fits {t = t} {rest = rest} h = omega (arith, ap (λ (l : List ℕ). length l) (h .is), length-append (encode t) rest)
+
+-- and they are its words
+pub front-words : {calls words : List ℕ} {t : Term} {rest : List ℕ} → Holds calls words t rest → (n : ℕ) → n ≡ size t
+    → take n words ≡ encode t
+unfolding size
+front-words {t = t} {rest = rest} h n e = ap (take n) (h .is) ∙ take-at (encode t) rest n (sym e)
 
 pub all-fit : {calls words : List ℕ} {n : ℕ} {ts : Terms} {rest : List ℕ} → HoldsAll calls words n ts rest
     → length (encodeAll ts) ≤ length words

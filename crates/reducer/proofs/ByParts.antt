@@ -4,11 +4,11 @@
 use mathlib.Core.Path.{_≡_, refl, sym, _∙_, ap, ap₂}
 use mathlib.Core.Bool.{Bool, true, false, _&&_, _||_, cond, and-true, true≢false}
 use Prim.Native.Nat.{ℕ, suc}
-use native.Mathlib.Omega.{arith}
 use lib.Dec.{eqb, leb}
 use Rattle.syntax.specs.Maybe.{isSome}
 use Rattle.syntax.specs.Term.{Term, Terms, var, call, lam, app, bind, pair, fst, snd, inl, inr, case, done, arg, node, asVar}
 use Rattle.syntax.specs.Values.{uses}
+use Rattle.syntax.proofs.Options.{and-last}
 use Rattle.reduction.specs.Rules.{allPure}
 use Rattle.reduction.specs.NormalForm.{needed}
 use Rattle.reduction.specs.FitByKinds.{valueKind}
@@ -18,6 +18,7 @@ use Rattle.reducer.specs.Roles.{roleOf, suits, operationKind, keepsVaria
 use Rattle.reducer.specs.declared.normal.Role.{Role}
 use Rattle.reducer.specs.declared.normal.Role.the-variants.{Variable, Value, Operation}
 use Rattle.reducer.specs.NormalTest.{isNormalValue}
+use Rattle.reducer.proofs.ByKind.{kind-2}
 
 -- whether every part passes the test of its place
 unfoldable pub allPass : (ℕ → Term → Bool) → ℕ → Terms → Bool
@@ -60,12 +61,9 @@ value-passes : (b : Bool) → isAValue (provided b aValue) ≡ b
 value-passes true = refl
 value-passes false = refl
 
--- one part, two parts; a let's and a case's
-one : {a a′ : Bool} → a ≡ a′ → a ≡ (a′ && true)
-one {a} {a′} e = e ∙ sym (and-true a′)
-
+-- two parts; a let's and a case's
 two : {a a′ b b′ : Bool} → a ≡ a′ → b ≡ b′ → (a && b) ≡ (a′ && (b′ && true))
-two e d = ap₂ _&&_ e (one d)
+two e d = ap₂ _&&_ e (and-last d)
 
 let-parts : {a a′ : Bool} → a ≡ a′ → (u b : Bool) → (a && (u || false) && b) ≡ (a′ && ((true && b && u) && true))
 let-parts {a} {a′} e u b = ap (λ (x : Bool). x && (u || false) && b) e ∙ go a′ u b
@@ -163,8 +161,8 @@ grammar-parts (lam A b) h = absurd (true≢false h)
 grammar-parts (app f a) h = passes _ anOperation refl ∙ two (variable-part f) (value-part a)
 grammar-parts (bind e b) h = passes _ aBlock refl ∙ let-parts (operation-part e) (leb 1 (uses b 0)) (inGrammar allPure b)
 grammar-parts (pair A a b) h = absurd (true≢false h)
-grammar-parts (fst a) h = passes _ anOperation refl ∙ one (variable-part a)
-grammar-parts (snd a) h = passes _ anOperation refl ∙ one (variable-part a)
+grammar-parts (fst a) h = passes _ anOperation refl ∙ and-last (variable-part a)
+grammar-parts (snd a) h = passes _ anOperation refl ∙ and-last (variable-part a)
 grammar-parts (inl A a) h = absurd (true≢false h)
 grammar-parts (inr A a) h = absurd (true≢false h)
 grammar-parts (case s l r) h = passes _ aBlock refl ∙ case-parts (variable-part s) (inGrammar allPure l) (inGrammar allPure r)
@@ -189,14 +187,5 @@ value-parts (case s l r) h z l′ = absurd (true≢false (sym h))
 -- a function
 pub function-parts : (t : Term) → node t .kind ≡ 2 → isNormalValue t ≡ allPass (λ j. inGrammar allPure) 0 (node t .parts)
 unfolding isNormalValue inGrammar class node allPass
-function-parts (var n) h = absurd (omega arith)
-function-parts (call k ts) h = absurd (omega arith)
-function-parts (lam A b) h = value-passes (inGrammar allPure b) ∙ sym (and-true (inGrammar allPure b))
-function-parts (app f a) h = absurd (omega arith)
-function-parts (bind e b) h = absurd (omega arith)
-function-parts (pair A a b) h = absurd (omega arith)
-function-parts (fst a) h = absurd (omega arith)
-function-parts (snd a) h = absurd (omega arith)
-function-parts (inl A a) h = absurd (omega arith)
-function-parts (inr A a) h = absurd (omega arith)
-function-parts (case s l r) h = absurd (omega arith)
+function-parts t h = kind-2 (λ u. isNormalValue u ≡ allPass (λ j. inGrammar allPure) 0 (node u .parts)) t h λ A b.
+    value-passes (inGrammar allPure b) ∙ sym (and-true (inGrammar allPure b))

@@ -1,13 +1,14 @@
 -- The answer of `is_normal` from that of the checks: a term that is accepted is typed, so the grammar says whether a rule fits.
 use Prim.Native.Nat.{ℕ, _≤_}
 use native.Mathlib.Omega.{arith}
-use mathlib.Core.Path.{_≡_, refl, sym, _∙_, ap}
-use mathlib.Core.Bool.{Bool, true, false, _&&_}
+use mathlib.Core.Path.{_≡_, sym, _∙_, ap}
+use mathlib.Core.Bool.{Bool, false, _&&_}
 use mathlib.Core.List.{List, []}
 use lib.Dec.{T, leb}
 use lib.ListN.{length, replicate, length-replicate}
 use borrow.Author.Tests.{leb-true}
 use Rattle.syntax.specs.Tables.{Tables}
+use Rattle.syntax.proofs.Options.{is-true, and-left, and-right}
 use Rattle.typing.specs.TableChecks.{lengthsFit}
 use Rattle.typing.specs.Refusals.{elaborate, otherLimit}
 use Rattle.typing.proofs.Accepted.{Passed}
@@ -25,7 +26,7 @@ use Rattle.reducer.specs.NormalTest.{Tests, Decides}
 use Rattle.reducer.specs.declared.normal.Part.{Part}
 
 -- no binder is in scope yet: marks for as many as there can be words
-pub space-none : (l : ℕ) → l ≤ 8192 → Space (replicate 8192 0) 0 l
+pub space-none : (l : ℕ) → l ≤ 8192 → Space 1 (replicate 8192 0) 0 l
 space-none l le = record {
   deep = omega (arith, length-replicate {A = ℕ} 8192 0);
   small = omega (arith, length-replicate {A = ℕ} 8192 0);
@@ -36,19 +37,13 @@ pub decides : {calls words : List ℕ} {depth : ℕ} {old new : List ℕ} {r : P
     → Decides calls words (r .ok)
 decides a = record { told = λ t rest h. a .told t rest h .ok-is }
 
-both : (a b : Bool) → T (a && b) → T a × T b
-both true b h = (tt, h)
-
-is-true : (b : Bool) → T b → b ≡ true
-is-true true h = refl
-
 -- what passed has no more words than the limit
 short : (limit : ℕ) (tables : Tables) (words : List ℕ) → T (lengthsFit limit tables words) → length words ≤ limit
 unfolding lengthsFit
 short limit tables words h =
     let fits = leb (length (tables .types)) 1024 && leb (length (tables .calls)) 1024 && leb (length (tables .inputs)) 256 in
-    let x = both (fits && leb (length words) limit) (leb 1 (length words)) h in
-    leb-true (length words) limit (is-true _ (both fits (leb (length words) limit) (x .0) .1))
+    let within = and-left (fits && leb (length words) limit) (leb 1 (length words)) h in
+    leb-true (length words) limit (is-true _ (and-right fits (leb (length words) limit) within))
 
 module _ (tables : Tables) (words : List ℕ) (r : Checked) (e : r ≡ checkedOf (elaborate otherLimit tables words)) where
   -- refused by a check

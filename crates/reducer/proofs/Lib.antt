@@ -1,3 +1,4 @@
+pub mod ByKind
 pub mod Testing
 pub mod Inserting
 pub mod Finding

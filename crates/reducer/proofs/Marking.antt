@@ -1,6 +1,7 @@
 -- Marking part by part: what is marked so far and what the parts still to come use make up the uses of the whole.
 use Prim.Native.Nat.{ℕ, suc, _+_, _-_, _*_, _^_, _≤_, _<_}
 use native.Mathlib.Omega.{arith}
+use native.Mathlib.Nat.{le-mul-of-pos-right}
 use native.Mathlib.Numerals.{add-one}
 use mathlib.Core.Path.{_≡_, refl, sym, _∙_, ap}
 use mathlib.Core.Bool.{Bool, true, false, cond}
@@ -14,22 +15,19 @@ use Rattle.syntax.specs.Term.{Term, Terms, var, call, lam, app, bind, pair, fst
 use Rattle.syntax.specs.Encoding.{size}
 use Rattle.syntax.specs.PartsUnder.{usesParts}
 use Rattle.syntax.specs.Values.{counts, uses, usesAll}
+use Rattle.syntax.proofs.Options.{counts-one}
 use Rattle.syntax.proofs.PartsUnder.{uses-node}
 use Rattle.syntax.proofs.Sizes.{sizeAll, size-var, size-call, size-lam, size-app, size-bind, size-pair, size-fst, size-snd, size-inl}
 use Rattle.syntax.proofs.Sizes.{size-inr}
 use Rattle.syntax.proofs.Sizes.{size-case, size-done, size-arg}
-use Rattle.reducer.specs.Marks.{MarkedBy, Raisable, Marked, Space}
-
-at-most-one : (b : Bool) → counts b ≤ 1
-at-most-one true = omega arith
-at-most-one false = omega arith
+use Rattle.reducer.specs.Marks.{Marked, Raisable, Space}
 
 -- a term uses a variable at most once a word
 mutual
   unfolding uses
 
   pub uses-size : (t : Term) (n : ℕ) → uses t n ≤ size t
-  uses-size (var m) n = omega (arith, at-most-one (eqb m n), size-var m)
+  uses-size (var m) n = omega (arith, counts-one (eqb m n), size-var m)
   uses-size (call k ts) n = omega (arith, uses-sizes ts n, size-call k ts)
   uses-size (lam A b) n = omega (arith, uses-size b (suc n), size-lam A b)
   uses-size (app f a) n = omega (arith, uses-size f n, uses-size a n, size-app f a)
@@ -47,7 +45,7 @@ mutual
 
 -- a variable that a binder in scope binds, and one that names an input
 pub mark-binder : (by : ℕ) (used : List ℕ) (depth number : ℕ) → number < depth → depth ≤ length used
-    → MarkedBy by (var number) depth used (set used (depth - 1 - number) (getD used (depth - 1 - number) 0 + by))
+    → Marked by (var number) depth used (set used (depth - 1 - number) (getD used (depth - 1 - number) 0 + by))
 unfolding uses
 mark-binder by used depth number lt le = record { marks = λ d h. go d h (eqb number (depth - 1 - d)) refl }
   where
@@ -64,17 +62,15 @@ mark-binder by used depth number lt le = record { marks = λ d h. go d h (eqb nu
         let q = eqb-false number (depth - 1 - d) e in
         rw e (getD-set-other used m d _ 0 (λ z. q (omega arith)) ∙ omega arith)
 
-pub mark-input : (by : ℕ) (used : List ℕ) (depth number : ℕ) → depth ≤ number → MarkedBy by (var number) depth used used
+pub mark-input : (by : ℕ) (used : List ℕ) (depth number : ℕ) → depth ≤ number → Marked by (var number) depth used used
 unfolding uses
 mark-input by used depth number le =
     record { marks = λ d h. rw (ne-eqb number (depth - 1 - d) (λ e. omega arith)) (omega arith) }
 
--- by one
-pub marked-once : {t : Term} {depth : ℕ} {old new : List ℕ} → MarkedBy 1 t depth old new → Marked t depth old new
-marked-once m = record { marks = λ d h. omega (arith, m .marks d h) }
-
-pub raisable-once : {used : List ℕ} {depth l : ℕ} → Space used depth l → 1 ≤ l → Raisable 1 used depth
-raisable-once s le = record { deep = omega (arith, s .deep); low = λ d h. omega (arith, s .low d h, le) }
+-- where a word can be gone through, a use can be marked
+pub space-raisable : {by : ℕ} {used : List ℕ} {depth l : ℕ} → Space by used depth l → 1 ≤ l → Raisable by used depth
+space-raisable {by} s le =
+    record { deep = omega (arith, s .deep); low = λ d h. omega (arith, s .low d h, le-mul-of-pos-right by le) }
 
 -- the marks as a part under b binders finds them: those of the binders in scope as they were, its own at zero
 pub record Opened (used opened : List ℕ) (depth b : ℕ) : Type 0 where
@@ -103,17 +99,17 @@ mark-enter old depth k t z e = record {
       ap (λ (u : ℕ). getD old d 0 + u) (sym (uses-node t n (λ y. z (sym e ∙ y)) ∙ ap (λ (i : ℕ). usesParts i 0 (node t .parts) n) e));
 }
 
-pub mark-leave : {old new : List ℕ} {depth k j : ℕ} {t : Term} → Marking old new depth k j t done → Marked t depth old new
+pub mark-leave : {old new : List ℕ} {depth k j : ℕ} {t : Term} → Marking old new depth k j t done → Marked 1 t depth old new
 unfolding usesParts
 mark-leave m = record { marks = λ d h. omega (arith, m .so-far d h) }
 
 module _ {mid opened new : List ℕ} {depth b : ℕ} {part : Term} (o : Opened mid opened depth b)
-    (a : Marked part (depth + b) opened new) where
+    (a : Marked 1 part (depth + b) opened new) where
   -- a part adds its uses to the marks of the binders in scope
   pub part-marks : (d : ℕ) → d < depth → getD new d 0 ≡ getD mid d 0 + uses part (depth - 1 - d + b)
   part-marks d h =
       let i : depth + b - 1 - d ≡ depth - 1 - d + b = omega arith in
-      a .marks d (omega arith) ∙ rw (i, o .below d h)
+      a .marks d (omega arith) ∙ rw (i, o .below d h) (omega arith)
 
   -- and the mark of its own binder is its uses of that
   pub own-mark : b ≡ 1 → getD new depth 0 ≡ uses part 0
@@ -146,27 +142,23 @@ pub grown-none : (old : List ℕ) (depth at : ℕ) → Grown old old depth at
 grown-none old depth at = record { len = refl; by = λ d h. omega arith }
 
 pub grown-next : {old mid opened new : List ℕ} {depth b at : ℕ} {part : Term} → Opened mid opened depth b
-    → Marked part (depth + b) opened new
+    → Marked 1 part (depth + b) opened new
     → length new ≡ length opened → Grown old mid depth at → (l : ℕ) → l ≡ size part → Grown old new depth (at + l)
 grown-next {depth = depth} {b = b} {part = part} o a le g l e = record {
   len = le ∙ o .len ∙ g .len;
   by = λ d h. omega (arith, g .by d h, part-marks o a d h, uses-size part (depth - 1 - d + b), e);
 }
 
--- fewer words can be gone through
-pub space-less : {used : List ℕ} {depth l : ℕ} → Space used depth l → (m : ℕ) → m ≤ l → Space used depth m
-space-less s m le = record { deep = omega (arith, s .deep); small = s .small; low = λ d h. omega (arith, s .low d h) }
-
 -- the words from `at` on can be gone through under b binders more
 pub space-next : {old mid opened : List ℕ} {depth b at : ℕ} (l more : ℕ) → Opened mid opened depth b → b ≤ 1 → Grown old mid depth at
-    → Space old depth l → 1 ≤ at → at ≤ l → more ≡ l - at → Space opened (depth + b) more
+    → Space 1 old depth l → 1 ≤ at → at ≤ l → more ≡ l - at → Space 1 opened (depth + b) more
 space-next {old} {mid} {opened} {depth} {b} {at} l more o bl g s low high e = record {
   deep = omega (arith, s .deep, o .len, g .len);
   small = omega (arith, s .small, o .len, g .len);
   low = λ d h. go d h (eqb d depth) refl;
 }
   where
-    go : (d : ℕ) → d < depth + b → (c : Bool) → eqb d depth ≡ c → getD opened d 0 + more ≤ 2 ^ 32
+    go : (d : ℕ) → d < depth + b → (c : Bool) → eqb d depth ≡ c → getD opened d 0 + 1 * more ≤ 2 ^ 40
     go d h true q =
         let i : d ≡ depth = eqb-true d depth q in
         let z : getD opened d 0 ≡ 0 = rw i (o .own (omega arith)) in

@@ -49,13 +49,13 @@ module _ {calls words : List ℕ} (s : Starts calls words) (old : List ℕ) (dep
   kind-is h = sym (front-of h .kind) ∙ sym ke
 
   -- a variable
-  pub value-variable : {new : List ℕ} (number : ℕ) → k ≡ 0 → number ≡ numberOf (getD words 0 0) → Marked (var number) depth old new
+  pub value-variable : {new : List ℕ} (number : ℕ) → k ≡ 0 → number ≡ numberOf (getD words 0 0) → Marked 1 (var number) depth old new
       → Tests isNormalValue calls words depth old new (record { end = 1; ok = true })
   unfolding isNormalValue class
   value-variable {new} number z ne m = record {
     told = λ t rest h. variable-at h (sym ke ∙ z) (λ x. Told isNormalValue x depth old new (record { end = 1; ok = true })) λ v e. record {
       ok-is = refl;
-      passed = λ y. record { end-is = sym (size-var v); marked = subst (λ (i : ℕ). Marked (var i) depth old new) (ne ∙ e) m };
+      passed = λ y. record { end-is = sym (size-var v); marked = subst (λ (i : ℕ). Marked 1 (var i) depth old new) (ne ∙ e) m };
     };
   }
 
@@ -178,8 +178,8 @@ values-bind-none k j b be e l =
 
 module _ {calls words old : List ℕ} {depth k : ℕ} {mid : List ℕ} {n at j : ℕ}
     (g : Testing isNormalValue (λ i. isNormalValue) calls words old depth k mid n at j) (lt : j < n) where
-  pub values-space : Space old depth (length words) → Space mid depth (length (from words at))
-  values-space s = subst (λ (d : ℕ). Space mid d (length (from words at))) (add-zero depth)
+  pub values-space : Space 1 old depth (length words) → Space 1 mid depth (length (from words at))
+  values-space s = subst (λ (d : ℕ). Space 1 mid d (length (from words at))) (add-zero depth)
       (test-space isNormalValue (λ i. isNormalValue) calls words old depth k g lt (open-none mid depth) (omega arith) s)
 
   module _ {new : List ℕ} {r : Part} (a : Tests isNormalValue calls (from words at) depth mid new r) (ok : not (r .ok) ≡ false)

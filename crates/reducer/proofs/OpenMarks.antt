@@ -13,21 +13,7 @@ use Rattle.parts.proofs.PartsAt.{parts-of, part-here}
 use Rattle.reducer.specs.ValueTest.{Tests}
 use Rattle.reducer.specs.declared.value.Value.{Value}
 use Rattle.reducer.specs.Unused.{openMark, Opens}
-
--- a term whose node is of kind 4 is a let
-kind-4 : (P : Term → Type 0) (t : Term) → node t .kind ≡ 4 → ((e b : Term) → P (bind e b)) → P t
-unfolding node
-kind-4 P (var n) h k = absurd (omega arith)
-kind-4 P (call n ts) h k = absurd (omega arith)
-kind-4 P (lam A b) h k = absurd (omega arith)
-kind-4 P (app f a) h k = absurd (omega arith)
-kind-4 P (bind e b) h k = k e b
-kind-4 P (pair A a b) h k = absurd (omega arith)
-kind-4 P (fst a) h k = absurd (omega arith)
-kind-4 P (snd a) h k = absurd (omega arith)
-kind-4 P (inl A a) h k = absurd (omega arith)
-kind-4 P (inr A a) h k = absurd (omega arith)
-kind-4 P (case s l r) h k = absurd (omega arith)
+use Rattle.reducer.proofs.ByKind.{kind-4}
 
 other-mark : (p : ℕ) (t : Term) → (node t .kind ≡ 4 → ⊥) → 65536 ≡ openMark p t
 unfolding node openMark

@@ -6,7 +6,7 @@ use native.Mathlib.Decide.{ℕ-discrete, decLt}
 use mathlib.Core.Path.{_≡_, refl, sym, _∙_, ap, ap₂, subst}
 use mathlib.Core.Bool.{Bool, true, false, cond, not, _&&_}
 use mathlib.Core.List.{List, [], append-nil}
-use mathlib.Core.Option.{Option, some, none, Option·some-injective}
+use mathlib.Core.Option.{Option, some, none}
 use lib.Dec.{eqb}
 use lib.ListN.{length, drop, getElem?}
 use lib.Seq.{drop-drop}
@@ -15,12 +15,10 @@ use Rattle.syntax.specs.Maybe.{given}
 use Rattle.syntax.specs.Substitution.{rename}
 use Rattle.syntax.specs.Term.{Term, var, call, lam, app, bind, pair, fst, snd, inl, inr, case, node, asBind, partsOf}
 use Rattle.syntax.specs.Encoding.{encode, size}
-use Rattle.syntax.specs.Decoding.{decode}
 use Rattle.syntax.specs.Shaped.{count, Shaped}
 use Rattle.syntax.specs.Values.{isValue, isComputation, uses}
 use Rattle.syntax.specs.Positions.{Position, positions}
 use Rattle.syntax.proofs.Nodes.{tail-part}
-use Rattle.syntax.proofs.Decoding.{decode-words}
 use Rattle.syntax.proofs.Sites.{site, drop-site, PositionAt, position-at, index-below}
 use Rattle.syntax.proofs.Inherited.{shaped-site}
 use Rattle.reduction.specs.declared.Phase.the-variants.{Dropping}
@@ -34,18 +32,9 @@ use Rattle.reduction.proofs.Clear.{clear-down, clear-all, first-at}
 use Rattle.reduction.proofs.SearchAnswer.{none-nothing}
 use Rattle.parts.specs.Fronts.{Holds, from}
 use Rattle.parts.specs.Binding.{inner}
-use Rattle.parts.proofs.Sized.{same-size}
-use Rattle.parts.proofs.PartsAt.{held-words}
+use Rattle.parts.proofs.Sized.{same-term}
 use Rattle.reducer.specs.Unused.{openMark, finalMark, Passed, Scans, FindsUnused}
 use Rattle.reducer.specs.declared.unused.Scan.{Scan}
-
--- two terms at the same index are the same
-pub same-at : {calls : List ℕ} (words : List ℕ) (i : ℕ) {t u : Term} {rest more : List ℕ} → Holds calls (from words i) t rest
-    → Holds calls (from words i) u more → t ≡ u
-same-at {calls} words i {t} {u} h g = Option·some-injective t u
-    (sym (decode-words calls t (h .shaped))
-    ∙ ap (decode calls) (sym (held-words words i h (size t) refl) ∙ held-words words i g (size t) (same-size h g))
-    ∙ decode-words calls u (g .shaped))
 
 -- the words from an index on, of the words from an index on
 from-from : (words : List ℕ) (n i : ℕ) → from (from words n) i ≡ from words (n + i)
@@ -203,7 +192,7 @@ module _ {calls words old new : List ℕ} {r : Scan} (a : Scans calls words 0 0 
         here : (p : PositionAt t (r .first)) → Judged (0 + r .first) (p .position .subterm) → firstRedex allPure Dropping t ≡ Redex Drop (r .first)
         here p (stays f m) = absurd (no-further λ u rest l h.
             subst (λ (z : Term). 65536 ≤ finalMark (0 + r .first) z)
-            (sym (same-at words (r .first) h (subterm-at (r .first) (p .position) (p .is)))) m)
+            (sym (same-term h (subterm-at (r .first) (p .position) (p .is)))) m)
         here p (drops c f q m) =
             ap foundOf (first-at allPure Dropping t (r .first) (p .position) c (clear-first (r .first) (omega arith) (omega (arith, lt))) (p .is) f)
             ∙ ap (λ (k : Rule). Redex k (r .first)) q

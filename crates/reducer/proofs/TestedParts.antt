@@ -1,5 +1,5 @@
 -- Testing part by part: the whole passes exactly if the parts still to come do, and as long as each part passes its uses are marked.
-use Prim.Native.Nat.{ℕ, suc, _+_, _-_, _≤_, _<_}
+use Prim.Native.Nat.{ℕ, suc, _+_, _≤_, _<_}
 use native.Mathlib.Numerals.{add-one}
 use mathlib.Core.Path.{_≡_, sym, _∙_, ap}
 use mathlib.Core.Bool.{Bool, true, false, _&&_, true≢false}
@@ -68,7 +68,7 @@ module _ (test : Term → Bool) (each : ℕ → Term → Bool) (calls words : Li
 
     module _ {opened : List ℕ} {b : ℕ} (o : Opened mid opened depth b) (bl : b ≤ 1) where
       -- its words can be gone through
-      pub test-space : Space old depth (length words) → Space opened (depth + b) (length (from words at))
+      pub test-space : Space 1 old depth (length words) → Space 1 opened (depth + b) (length (from words at))
       test-space s = space-next (length words) (length (from words at)) o bl (g .grown) s (g .going .low) (g .going .high)
           (from-length words at)
 

@@ -23,6 +23,7 @@ use Rattle.parts.specs.Ends.{Sized}
 use Rattle.reducer.specs.ValueTest.{Tests}
 use Rattle.reducer.specs.Operands.{allValues}
 use Rattle.reducer.specs.declared.value.Value.{Value}
+use Rattle.reducer.proofs.ByKind.{kind-2}
 
 -- true is not false
 pub apart : {X : Type 0} {b : Bool} → b ≡ true → b ≡ false → X
@@ -43,18 +44,8 @@ value-parts (inr A a) h k = sym (and-true (isValue a))
 value-parts (case s l r) h k = apart h refl
 
 function-value : (t : Term) → node t .kind ≡ 2 → isValue t ≡ true
-unfolding isValue node
-function-value (var n) h = refl
-function-value (call f ts) h = absurd (omega arith)
-function-value (lam A b) h = refl
-function-value (app f a) h = absurd (omega arith)
-function-value (bind e b) h = absurd (omega arith)
-function-value (pair A a b) h = absurd (omega arith)
-function-value (fst a) h = absurd (omega arith)
-function-value (snd a) h = absurd (omega arith)
-function-value (inl A a) h = absurd (omega arith)
-function-value (inr A a) h = absurd (omega arith)
-function-value (case s l r) h = absurd (omega arith)
+unfolding isValue
+function-value t h = kind-2 (λ u. isValue u ≡ true) t h λ A b. refl
 
 other-kind : (t : Term) → valueKind (node t .kind) ≡ false → isValue t ≡ false
 unfolding isValue valueKind node

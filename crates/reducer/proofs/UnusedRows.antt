@@ -23,6 +23,7 @@ use Rattle.parts.proofs.Rows.{one-starts}
 use Rattle.reducer.specs.Marks.{Raisable}
 use Rattle.reducer.specs.Unused.{Passed, Open, LeastMark, Scans}
 use Rattle.reducer.specs.declared.unused.Scan.{Scan}
+use Rattle.reducer.proofs.Marking.{space-raisable}
 use Rattle.reducer.proofs.Passing.{passed-none}
 use Rattle.reducer.proofs.Cutting.{uses-none, no-terms}
 
@@ -233,5 +234,4 @@ module _ (calls words : List ℕ) (base depth : ℕ) (old : List ℕ) where
 
       -- a use can be marked
       pub scan-raisable : Open old depth (length words) → Raisable 65536 cur under
-      scan-raisable o =
-          record { deep = omega (arith, g .near, o .deep, g .len, scan-inside); low = λ d l. omega (arith, g .low d l, scan-inside) }
+      scan-raisable o = space-raisable (scan-room o) (omega (arith, from-length words at, scan-inside))

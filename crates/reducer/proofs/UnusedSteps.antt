@@ -19,13 +19,14 @@ use Rattle.parts.specs.Binding.{outer, inner, outerCount}
 use Rattle.parts.proofs.Joined.{uses-joined, count-joined, joined-assoc, none-left}
 use Rattle.parts.proofs.Binding.{uses-binding}
 use Rattle.parts.proofs.Traversal.{from-length}
+use Rattle.parts.proofs.Sized.{same-term}
 use Rattle.parts.proofs.Variables.{kind-0}
 use Rattle.parts.proofs.Rows.{Cut, Marching, Visit, march-term, march-on, visit}
-use Rattle.reducer.specs.Marks.{MarkedBy}
+use Rattle.reducer.specs.Marks.{Marked}
 use Rattle.reducer.specs.Unused.{openMark, finalMark, Passed, Opens, Least, Scans}
 use Rattle.reducer.specs.declared.unused.Scan.{Scan}
 use Rattle.reducer.proofs.Marking.{uses-size}
-use Rattle.reducer.proofs.Passing.{same-at, passed-back, passed-next, passed-behind, passed-row, flat-mark}
+use Rattle.reducer.proofs.Passing.{passed-back, passed-next, passed-behind, passed-row, flat-mark}
 use Rattle.reducer.proofs.Cutting.{uses-none, flat-at, First, cut-first}
 use Rattle.reducer.proofs.UnusedRows.{Bound, Facts, Scanning, scan-ahead, scan-inside, scan-starts}
 
@@ -130,7 +131,7 @@ module _ {calls words : List ℕ} {base depth : ℕ} {old cur : List ℕ} {owed 
   module _ (k : ℕ) (ke : k ≡ kindOf (getD words at 0)) where
     -- a variable
     pub scan-variable : (number : ℕ) (new : List ℕ) → k ≡ 0 → number ≡ numberOf (getD words at 0)
-        → MarkedBy 65536 (var number) under cur new → length new ≡ length cur → State new (owed - 1) later under (at + 1) fresh first
+        → Marked 65536 (var number) under cur new → length new ≡ length cur → State new (owed - 1) later under (at + 1) fresh first
     unfolding partCount outerCount uses outer inner joined
     scan-variable number new z ne m le = record {
       len = le ∙ g .len;
@@ -267,7 +268,7 @@ module _ {calls words : List ℕ} {base depth : ℕ} {old cur : List ℕ} {owed 
               around = c .facts .around;
               passes = λ x lim b. passed-next
                   (c .facts .passes x lim (record { found = b .found; spine = b .spine; opened = λ l. absurd (omega (arith, l, e, lt)) }))
-                  λ u more hu. subst (λ (s : Term). x ≤ finalMark (base + at) s) (same-at words at h hu)
+                  λ u more hu. subst (λ (s : Term). x ≤ finalMark (base + at) s) (same-term h hu)
                   (omega (arith, b .opened (omega (arith, ne, outer-few)), own));
               bounds = λ x lim p.
                   let b = c .facts .bounds x lim (passed-back at (omega arith) p) in

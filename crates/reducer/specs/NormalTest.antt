@@ -18,7 +18,7 @@ isNormalValue t = isAValue (class allPure t)
 -- a term that passed: it ends where the answer says, and its uses are marked
 pub record Passed (t : Term) (depth : ℕ) (old new : List ℕ) (r : Part) : Type 0 where
   pub end-is : r .end ≡ size t
-  pub marked : Marked t depth old new
+  pub marked : Marked 1 t depth old new
 
 pub record Told (test : Term → Bool) (t : Term) (depth : ℕ) (old new : List ℕ) (r : Part) : Type 0 where
   pub ok-is : r .ok ≡ test t

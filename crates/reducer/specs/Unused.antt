@@ -1,6 +1,6 @@
 -- The search of phase 3 by marks of binders: the mark of a let that binds a computation begins as the let's place, any
 -- other as 65536, and each use adds 65536. So a mark is in the end below 65536 exactly for a let that can be dropped, and then its place.
-use Prim.Native.Nat.{ℕ, _+_, _*_, _^_, _≤_, _<_}
+use Prim.Native.Nat.{ℕ, _+_, _*_, _≤_, _<_}
 use mathlib.Core.Path.{_≡_}
 use mathlib.Core.Bool.{cond}
 use mathlib.Core.List.{List}
@@ -15,7 +15,7 @@ use Rattle.reduction.specs.declared.Phase.the-variants.{Dropping}
 use Rattle.reduction.specs.declared.Found.{Found}
 use Rattle.reduction.specs.Rules.{allPure}
 use Rattle.reduction.specs.Redex.{firstRedex}
-use Rattle.reducer.specs.Marks.{MarkedBy}
+use Rattle.reducer.specs.Marks.{Marked, Space}
 use Rattle.reducer.specs.declared.unused.Scan.{Scan}
 
 -- the mark of a node's binder before any use
@@ -40,11 +40,9 @@ finalMark p t = openMark p t + 65536 * usesAll (inner t) 0
 pub record Passed (calls words : List ℕ) (base x n : ℕ) : Type 0 where
   pub marks : (i : ℕ) (t : Term) (rest : List ℕ) → i < n → Holds calls (from words i) t rest → x ≤ finalMark (base + i) t
 
--- so many words more can be gone through: there is a mark for each binder in them, and no mark overflows
-pub record Open (used : List ℕ) (depth more : ℕ) : Type 0 where
-  pub deep : depth + more ≤ length used
-  pub small : length used ≤ 65536
-  pub low : (d : ℕ) → d < depth → getD used d 0 + 65536 * more ≤ 2 ^ 40
+-- so many words more can be gone through
+abbrev pub Open : List ℕ → ℕ → ℕ → Type 0
+Open used depth more = Space 65536 used depth more
 
 -- the mark of the binder of whatever term is at the front
 pub record Opens (calls words : List ℕ) (place r : ℕ) : Type 0 where
@@ -69,7 +67,7 @@ pub record Scans (calls words : List ℕ) (base depth : ℕ) (old new : List ℕ
   pub within : r .end ≤ length words
   pub before : (x : ℕ) → x ≤ r .first → x ≤ 65536 → Passed calls words base x (r .end)
   pub greatest : (x : ℕ) → x ≤ 65536 → Passed calls words base x (r .end) → x ≤ r .first
-  pub told : (t : Term) (rest : List ℕ) → Holds calls words t rest → (r .end ≡ size t) × MarkedBy 65536 t depth old new
+  pub told : (t : Term) (rest : List ℕ) → Holds calls words t rest → (r .end ≡ size t) × Marked 65536 t depth old new
 
 -- the first redex of phase 3 in whatever term the words are
 pub record FindsUnused (calls words : List ℕ) (r : Found) : Type 0 where

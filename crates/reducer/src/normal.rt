@@ -96,7 +96,7 @@ fn keeps(k: u64, j: usize, uses: u64) -> bool
 
 // whether the part at the front is a value in normal form, and where it ends
 pub fn value_test(calls: &[u64], t: &[u64], used: &mut [u64], depth: usize) -> Part
-    requires { ⌜ Starts (now calls) (now t) × Space (now used) depth (length (now t)) ⌝ }
+    requires { ⌜ Starts (now calls) (now t) × Space 1 (now used) depth (length (now t)) ⌝ }
     ensures { λ r. ⌜ Tests isNormalValue (now (calls .entry)) (now (t .entry)) depth (now (used .entry)) (now (used .exit)) r ⌝ }
 {
     let w = t[0];
@@ -135,7 +135,7 @@ pub fn value_test(calls: &[u64], t: &[u64], used: &mut [u64], depth: usize) -> P
 
 // whether the part at the front is in normal form, and where it ends
 pub fn normal_test(calls: &[u64], t: &[u64], used: &mut [u64], depth: usize) -> Part
-    requires { ⌜ Starts (now calls) (now t) × Space (now used) depth (length (now t)) ⌝ }
+    requires { ⌜ Starts (now calls) (now t) × Space 1 (now used) depth (length (now t)) ⌝ }
     ensures { λ r. ⌜ Tests (inGrammar allPure) (now (calls .entry)) (now (t .entry)) depth (now (used .entry)) (now (used .exit)) r ⌝ }
 {
     let w = t[0];

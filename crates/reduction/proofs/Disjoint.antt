@@ -1,5 +1,5 @@
 -- No two rules of a phase fit the same node, so the order of a phase's rules does not matter.
-use mathlib.Core.Bool.{Bool, true, false}
+use mathlib.Core.Bool.{Bool}
 use mathlib.Core.List.{List, [], _∷_}
 use Prim.Native.Nat.{ℕ, _+_, _≤_}
 use native.Mathlib.Omega.{arith}
@@ -7,16 +7,13 @@ use Rattle.syntax.specs.Maybe.{isSome}
 use Rattle.syntax.specs.Term.{Term, var, call, lam, app, bind, pair, fst, snd, inl, inr, case, node, partsOf, asVar, asLam, asApp}
 use Rattle.syntax.specs.Term.{asBind, asPair, asFst, asSnd, asInl, asInr, asCase}
 use Rattle.syntax.specs.Values.{isValue, isComputation, counts}
+use Rattle.syntax.proofs.Options.{counts-one}
 use Rattle.reduction.specs.Rules.{letOfLet, letOfCase, apply, first, second, leftCase, rightCase, letValue, fire, rules}
 use Rattle.reduction.specs.declared.Phase.{Phase}
 use Rattle.reduction.specs.declared.Phase.the-variants.{Insertion, Reduction, Dropping}
 use Rattle.reduction.specs.declared.Rule.{Rule}
 use Rattle.reduction.specs.declared.Rule.the-variants.{LetInsertion, LetOfLet, LetOfCase, Apply, First, Second, LeftCase, RightCase}
 use Rattle.reduction.specs.declared.Rule.the-variants.{LetValue, Drop}
-
-at-most : (b : Bool) → counts b ≤ 1
-at-most true = omega arith
-at-most false = omega arith
 
 module _ (pure : Term → Bool) where
   -- how many of these rules fit a node
@@ -32,7 +29,7 @@ module _ (pure : Term → Bool) where
   reduction-alone (lam A b) = omega arith
   reduction-alone (app (var n′) v) = omega arith
   reduction-alone (app (call k′ ts′) v) = omega arith
-  reduction-alone (app (lam A′ b′) v) = omega (arith, at-most (isSome (fire pure Apply (app (lam A′ b′) v))))
+  reduction-alone (app (lam A′ b′) v) = omega (arith, counts-one (isSome (fire pure Apply (app (lam A′ b′) v))))
   reduction-alone (app (app f′ a′) v) = omega arith
   reduction-alone (app (bind x′ y′) v) = omega arith
   reduction-alone (app (pair A′ a′ b′) v) = omega arith
@@ -45,20 +42,20 @@ module _ (pure : Term → Bool) where
   reduction-alone (bind (call k′ ts′) c) = omega arith
   reduction-alone (bind (lam A′ b′) c) = omega arith
   reduction-alone (bind (app f′ a′) c) = omega arith
-  reduction-alone (bind (bind x′ y′) c) = omega (arith, at-most (isSome (fire pure LetOfLet (bind (bind x′ y′) c))))
-  reduction-alone (bind (pair A′ a′ b′) c) = omega (arith, at-most (isSome (fire pure LetValue (bind (pair A′ a′ b′) c))))
+  reduction-alone (bind (bind x′ y′) c) = omega (arith, counts-one (isSome (fire pure LetOfLet (bind (bind x′ y′) c))))
+  reduction-alone (bind (pair A′ a′ b′) c) = omega (arith, counts-one (isSome (fire pure LetValue (bind (pair A′ a′ b′) c))))
   reduction-alone (bind (fst a′) c) = omega arith
   reduction-alone (bind (snd a′) c) = omega arith
-  reduction-alone (bind (inl A′ a′) c) = omega (arith, at-most (isSome (fire pure LetValue (bind (inl A′ a′) c))))
-  reduction-alone (bind (inr A′ a′) c) = omega (arith, at-most (isSome (fire pure LetValue (bind (inr A′ a′) c))))
-  reduction-alone (bind (case s′ l′ r′) c) = omega (arith, at-most (isSome (fire pure LetOfCase (bind (case s′ l′ r′) c))))
+  reduction-alone (bind (inl A′ a′) c) = omega (arith, counts-one (isSome (fire pure LetValue (bind (inl A′ a′) c))))
+  reduction-alone (bind (inr A′ a′) c) = omega (arith, counts-one (isSome (fire pure LetValue (bind (inr A′ a′) c))))
+  reduction-alone (bind (case s′ l′ r′) c) = omega (arith, counts-one (isSome (fire pure LetOfCase (bind (case s′ l′ r′) c))))
   reduction-alone (pair A a b) = omega arith
   reduction-alone (fst (var n′)) = omega arith
   reduction-alone (fst (call k′ ts′)) = omega arith
   reduction-alone (fst (lam A′ b′)) = omega arith
   reduction-alone (fst (app f′ a′)) = omega arith
   reduction-alone (fst (bind x′ y′)) = omega arith
-  reduction-alone (fst (pair A′ a′ b′)) = omega (arith, at-most (isSome (fire pure First (fst (pair A′ a′ b′)))))
+  reduction-alone (fst (pair A′ a′ b′)) = omega (arith, counts-one (isSome (fire pure First (fst (pair A′ a′ b′)))))
   reduction-alone (fst (fst a′)) = omega arith
   reduction-alone (fst (snd a′)) = omega arith
   reduction-alone (fst (inl A′ a′)) = omega arith
@@ -69,7 +66,7 @@ module _ (pure : Term → Bool) where
   reduction-alone (snd (lam A′ b′)) = omega arith
   reduction-alone (snd (app f′ a′)) = omega arith
   reduction-alone (snd (bind x′ y′)) = omega arith
-  reduction-alone (snd (pair A′ a′ b′)) = omega (arith, at-most (isSome (fire pure Second (snd (pair A′ a′ b′)))))
+  reduction-alone (snd (pair A′ a′ b′)) = omega (arith, counts-one (isSome (fire pure Second (snd (pair A′ a′ b′)))))
   reduction-alone (snd (fst a′)) = omega arith
   reduction-alone (snd (snd a′)) = omega arith
   reduction-alone (snd (inl A′ a′)) = omega arith
@@ -85,13 +82,13 @@ module _ (pure : Term → Bool) where
   reduction-alone (case (pair A′ a′ b′) l r) = omega arith
   reduction-alone (case (fst a′) l r) = omega arith
   reduction-alone (case (snd a′) l r) = omega arith
-  reduction-alone (case (inl A′ a′) l r) = omega (arith, at-most (isSome (fire pure LeftCase (case (inl A′ a′) l r))))
-  reduction-alone (case (inr A′ a′) l r) = omega (arith, at-most (isSome (fire pure RightCase (case (inr A′ a′) l r))))
+  reduction-alone (case (inl A′ a′) l r) = omega (arith, counts-one (isSome (fire pure LeftCase (case (inl A′ a′) l r))))
+  reduction-alone (case (inr A′ a′) l r) = omega (arith, counts-one (isSome (fire pure RightCase (case (inr A′ a′) l r))))
   reduction-alone (case (case s′ l′ r′) l r) = omega arith
 
   -- the other phases have one rule
   pub alone : (phase : Phase) (t : Term) → fitting (rules phase) t ≤ 1
   unfolding fitting rules
-  alone Insertion t = omega (arith, at-most (isSome (fire pure LetInsertion t)))
+  alone Insertion t = omega (arith, counts-one (isSome (fire pure LetInsertion t)))
   alone Reduction t = reduction-alone t
-  alone Dropping t = omega (arith, at-most (isSome (fire pure Drop t)))
+  alone Dropping t = omega (arith, counts-one (isSome (fire pure Drop t)))

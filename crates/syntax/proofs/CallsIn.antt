@@ -1,6 +1,6 @@
 -- The calls in a part of a term are calls in the term, because the part's positions are positions of the term.
-use mathlib.Core.Path.{_≡_, refl, sym, ap, subst}
-use mathlib.Core.List.{List, [], _∷_, _++_, map}
+use mathlib.Core.Path.{sym, subst}
+use mathlib.Core.List.{List, [], _∷_, _++_, map, map-map}
 use mathlib.Core.Option.{Option, some, none}
 use Prim.Native.Nat.{ℕ}
 use Rattle.syntax.specs.Term.{Term, Terms, call, lam, app, bind, pair, fst, snd, inl, inr, case, arg, node, asCall}
@@ -18,20 +18,14 @@ called ps = present (map asCall (map (λ p. p .subterm) ps))
 abbrev pub callsInAll : Terms → List ℕ
 callsInAll ts = called (positionsAll ts)
 
-subterms-within : {X Y : Type 0} (C : X → Y) (ps : List (Position X)) → map (λ p. p .subterm) (map (within C) ps) ≡ map (λ p. p .subterm) ps
-subterms-within C [] = refl
-subterms-within C (p ∷ ps) = ap {B = List Term} (λ xs. p .subterm ∷ xs) (subterms-within C ps)
-
-subterms-bound : {X Y : Type 0} (C : X → Y) (ps : List (Position X)) → map (λ p. p .subterm) (map (bound C) ps) ≡ map (λ p. p .subterm) ps
-subterms-bound C [] = refl
-subterms-bound C (p ∷ ps) = ap {B = List Term} (λ xs. p .subterm ∷ xs) (subterms-bound C ps)
-
 module _ {k : ℕ} where
   in-within : {X Y : Type 0} (C : X → Y) (ps : List (Position X)) → k ∈ called ps → k ∈ called (map (within C) ps)
-  in-within C ps h = subst (λ (ts : List Term). k ∈ present (map asCall ts)) (sym (subterms-within C ps)) h
+  in-within C ps h = subst (λ (ts : List Term). k ∈ present (map asCall ts))
+      (sym (map-map (λ p. p .subterm) (within C) ps)) h
 
   in-bound : {X Y : Type 0} (C : X → Y) (ps : List (Position X)) → k ∈ called ps → k ∈ called (map (bound C) ps)
-  in-bound C ps h = subst (λ (ts : List Term). k ∈ present (map asCall ts)) (sym (subterms-bound C ps)) h
+  in-bound C ps h = subst (λ (ts : List Term). k ∈ present (map asCall ts))
+      (sym (map-map (λ p. p .subterm) (bound C) ps)) h
 
   more : (o : Option ℕ) (os : List (Option ℕ)) → k ∈ present os → k ∈ present (o ∷ os)
   more none os h = h

@@ -1,6 +1,6 @@
 -- Answers that may be missing: "P of the answer, if there is one" goes through sequences and tests. Facts on Booleans and uses.
-use mathlib.Core.Path.{_≡_, refl, subst}
-use mathlib.Core.Bool.{Bool, true, false, _&&_, not}
+use mathlib.Core.Path.{_≡_, refl, sym, _∙_, subst}
+use mathlib.Core.Bool.{Bool, true, false, _&&_, _||_, not, and-true}
 use mathlib.Core.Option.{Option, some, none, Option·map, Option·some-injective, Option·none-ne-some, Option·some-ne-none}
 use lib.Dec.{T, eqb, eqb-refl}
 use Prim.Native.Nat.{ℕ, _+_, _≤_}
@@ -47,6 +47,10 @@ pub given-none : {X : Type 0} (b : Bool) (x : X) → given b x ≡ none → T (n
 given-none true x e = absurd (Option·some-ne-none x e)
 given-none false x e = tt
 
+pub is-true : (b : Bool) → T b → b ≡ true
+is-true true h = refl
+is-true false h = absurd h
+
 pub and-left : (a b : Bool) → T (a && b) → T a
 and-left true b h = tt
 and-left false b h = h
@@ -59,6 +63,14 @@ pub both-true : (a b : Bool) → T a → T b → T (a && b)
 both-true true b x y = y
 both-true false b x y = absurd x
 
+-- a conjunction's last
+pub and-last : {a b : Bool} → a ≡ b → a ≡ (b && true)
+and-last {b = b} e = e ∙ sym (and-true b)
+
+pub or-true : (b : Bool) → T (b || true)
+or-true true = tt
+or-true false = tt
+
 pub not-not : (b : Bool) → T (not (not b)) → T b
 not-not true h = tt
 not-not false h = h
@@ -66,6 +78,10 @@ not-not false h = h
 pub not-both : (b : Bool) → T b → T (not b) → ⊥
 not-both true h k = k
 not-both false h k = h
+
+pub counts-one : (b : Bool) → counts b ≤ 1
+counts-one true = omega arith
+counts-one false = omega arith
 
 -- a variable uses itself
 pub counts-true : (b : Bool) → T b → 1 ≤ counts b

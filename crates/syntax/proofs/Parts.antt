@@ -29,7 +29,7 @@ one-longer : (k : ℕ) (o : Option ℕ) → Option·map suc (longer k o) ≡ lon
 one-longer k none = refl
 one-longer k (some n) = ap (λ (x : ℕ). some x) (omega arith)
 
-no-longer : (o : Option ℕ) → o ≡ longer 0 o
+pub no-longer : (o : Option ℕ) → o ≡ longer 0 o
 no-longer none = refl
 no-longer (some n) = ap (λ (x : ℕ). some x) (omega arith)
 

@@ -3,7 +3,7 @@
 use mathlib.Core.Path.{_≡_, refl, sym, _∙_, ap, subst}
 use mathlib.Core.List.{List, [], _∷_, _++_, map, append-assoc, append-nil}
 use mathlib.Core.Option.{some, Option·some-injective, Option·none-ne-some}
-use Prim.Native.Nat.{ℕ, zero, suc, _+_, _≤_, _<_}
+use Prim.Native.Nat.{ℕ, zero, suc, _+_, _<_}
 use native.Mathlib.Omega.{arith}
 use lib.ListN.{length, drop, getElem?, length-append, length-map}
 use lib.Seq.{drop-at}
@@ -11,6 +11,7 @@ use Rattle.syntax.specs.Term.{Term, Terms, var, call, lam, app, bind, pa
 use Rattle.syntax.specs.Encoding.{wordOf, encode, encodeAll, size}
 use Rattle.syntax.specs.Positions.{Position, root, within, bound, positions, positionsAll}
 use Rattle.syntax.proofs.Positions.{length-positions}
+use Rattle.syntax.proofs.Sizes.{size-positive}
 
 -- p stands at index i of the words ws of a whole: so many words come before its subterm
 record Place {X : Type 0} (words : X → List ℕ) (ws : List ℕ) (i : ℕ) (p : Position X) : Type 0 where
@@ -175,20 +176,6 @@ module _ {t : Term} {i : ℕ} {p : Position Term} (s : Site t i p) where
   unfolding size
   size-plugged u = let a = ap length (s .plugged u) in let b = length-append (s .before) (encode u ++ s .after) in
       let c = length-append (encode u) (s .after) in let d = s .index in omega arith
-
-pub size-positive : (t : Term) → 1 ≤ size t
-unfolding size encode
-size-positive (var n) = omega arith
-size-positive (call k ts) = omega arith
-size-positive (lam A b) = omega arith
-size-positive (app f a) = omega arith
-size-positive (bind e b) = omega arith
-size-positive (pair A a b) = omega arith
-size-positive (fst a) = omega arith
-size-positive (snd a) = omega arith
-size-positive (inl A a) = omega arith
-size-positive (inr A a) = omega arith
-size-positive (case s l r) = omega arith
 
 -- an index below the size has a position
 pub record PositionAt (t : Term) (i : ℕ) : Type 0 where

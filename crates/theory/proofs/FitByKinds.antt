@@ -4,7 +4,6 @@ use mathlib.Core.Path.{_≡_, refl, sym, _∙_, ap}
 use mathlib.Core.Bool.{Bool, true, false, _&&_, not}
 use mathlib.Core.List.{List, _++_, append-assoc}
 use mathlib.Core.Option.{Option, some, none, Option·map}
-use lib.Dec.{T}
 use lib.ListN.{getD}
 use Prim.Native.Nat.{ℕ}
 use native.Mathlib.Omega.{arith}
@@ -16,7 +15,7 @@ use Rattle.syntax.specs.Encoding.{wordOf, encode}
 use Rattle.syntax.specs.Shaped.{Shaped}
 use Rattle.syntax.specs.Values.{isValue, isComputation}
 use Rattle.syntax.proofs.Decoding.{kind-pack}
-use Rattle.syntax.proofs.Options.{both-true}
+use Rattle.syntax.proofs.Options.{is-true, both-true}
 use Rattle.reduction.specs.Rules.{letOfLet, letOfCase, apply, first, second, leftCase, rightCase, letValue, fire, rules}
 use Rattle.reduction.specs.declared.Phase.the-variants.{Reduction}
 use Rattle.reduction.specs.declared.Rule.{Rule}
@@ -25,10 +24,6 @@ use Rattle.reduction.specs.Redex.{Contraction, contract}
 use Rattle.reduction.specs.FitByKinds.{valueKind, letByKinds, ruleByKinds}
 use Rattle.reduction.proofs.Search.{Each}
 use Rattle.theory.proofs.Operands.{Ops}
-
-is-true : (b : Bool) → T b → b ≡ true
-is-true true h = refl
-is-true false h = absurd h
 
 -- a term whose operands are values is a value exactly if its kind is a value's
 pub value-kind : (t : Term) → Ops t → isValue t ≡ valueKind (node t .kind)

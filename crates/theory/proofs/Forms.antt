@@ -1,7 +1,7 @@
 -- After phase 2 a typed term is in the grammar, but for the lets that may be dropped; phase 3 keeps it there.
 -- The weaker grammar is the grammar for which nothing may be dropped: there every let has to stay.
 use mathlib.Core.Path.{_≡_, refl}
-use mathlib.Core.Bool.{Bool, _||_, true, false, _&&_}
+use mathlib.Core.Bool.{Bool, false, _&&_}
 use mathlib.Core.List.{List, _∷_}
 use mathlib.Core.Option.{Option, some, none, Option·some-ne-none}
 use lib.Dec.{T, leb}
@@ -20,7 +20,7 @@ use Rattle.reduction.specs.declared.Rule.{Rule}
 use Rattle.reduction.specs.NormalForm.{needed, NormalValue, NormalValues, Operation, Normal, variable, function, product as both, left}
 use Rattle.reduction.specs.NormalForm.{right, no-more, more, application, calling, first as taking₁, second as taking₂, value, operation}
 use Rattle.reduction.specs.NormalForm.{letting, branching}
-use Rattle.syntax.proofs.Options.{given-none, not-both, both-true}
+use Rattle.syntax.proofs.Options.{given-none, both-true, or-true, not-both}
 use Rattle.typing.proofs.Typing.{Of, of-kind, Typed, TypedAll, t-var, t-call, t-lam, t-app, t-bind, t-pair, t-fst, t-snd, t-inl, t-inr}
 use Rattle.typing.proofs.Typing.{t-case, t-done, t-arg}
 use Rattle.reduction.proofs.Search.{Each, EachAll, Misses, no-step}
@@ -32,11 +32,7 @@ never e = false
 
 pub stays : (e b : Term) → T (needed never e b)
 unfolding needed never
-stays e b = go (leb 1 (uses b 0))
-  where
-    go : (x : Bool) → T (x || true)
-    go true = tt
-    go false = tt
+stays e b = or-true (leb 1 (uses b 0))
 
 -- no rule of phase 2 fits a node
 pub record Irreducible (t : Term) : Type 0 where

@@ -19,7 +19,7 @@ use Rattle.reduction.specs.declared.Rule.the-variants.{Drop}
 use Rattle.reduction.specs.NormalForm.{isNormal, needed, NormalValue, NormalValues, Operation, Normal, variable, function, product as both}
 use Rattle.reduction.specs.NormalForm.{left, right, no-more, more, application, calling, first as taking₁, second as taking₂, value}
 use Rattle.reduction.specs.NormalForm.{operation, letting, branching}
-use Rattle.syntax.proofs.Options.{and-left, and-right}
+use Rattle.syntax.proofs.Options.{and-left, and-right, or-true}
 use Rattle.typing.proofs.InferTyped.{typing-of}
 use Rattle.reduction.proofs.Search.{Each, EachAll, Misses, no-step, nowhere}
 use Rattle.theory.proofs.Operands.{inserted}
@@ -68,14 +68,10 @@ module _ (pure : Term → Bool) where
       or-left true c h = tt
       or-left false c h = absurd h
 
-      or-right : (a : Bool) → T (a || true)
-      or-right true = tt
-      or-right false = tt
-
       go : (x y z : Bool) → (T (not z) → 1 ≤ uses b 0) → T x → dropped e b x y z ≡ none → T (leb 1 (uses b 0) || not y)
       go true true true k h m = absurd (Option·some-ne-none _ m)
       go true true false k h m = or-left (leb 1 (uses b 0)) false (le→leb 1 (uses b 0) (k tt))
-      go true false z k h m = or-right (leb 1 (uses b 0))
+      go true false z k h m = or-true (leb 1 (uses b 0))
       go false y z k h m = absurd h
 
   let-missed : (e b : Term) → T (needed pure e b) → Misses pure Dropping (bind e b)

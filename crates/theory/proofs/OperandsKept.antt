@@ -1,12 +1,12 @@
 -- Phase 2 keeps operands values: what its rules put for variables are values, and no rule of it fits a value's own node.
-use mathlib.Core.Path.{_≡_, refl}
-use mathlib.Core.Bool.{Bool, true, false}
+use mathlib.Core.Path.{_≡_}
+use mathlib.Core.Bool.{true}
 use lib.Dec.{T}
 use Prim.Native.Nat.{ℕ, zero, suc}
 use Rattle.syntax.specs.Term.{Term, Terms, var, call, lam, app, bind, pair, fst, snd, inl, inr, case, done, arg}
 use Rattle.syntax.specs.Substitution.{Kit, under, traverse, traverseAll, renaming, rename, weaken, substitution, only, _⟦_⟧}
 use Rattle.syntax.specs.Values.{isValue}
-use Rattle.syntax.proofs.Options.{and-left, and-right, both-true}
+use Rattle.syntax.proofs.Options.{is-true, and-left, and-right, both-true}
 use Rattle.syntax.proofs.Values.{value-kept, value-renamed}
 use Rattle.reduction.proofs.Roots.{Reduce, r-let, r-case, r-apply, r-fst, r-snd, r-left, r-right, r-value, Step, StepAll, s-root, s-call}
 use Rattle.reduction.proofs.Roots.{s-lam, s-app₁, s-app₂, s-bind₁, s-bind₂, s-pair₁, s-pair₂, s-fst, s-snd, s-inl, s-inr, s-case₁, s-case₂}
@@ -23,10 +23,6 @@ module _ {X : Type 0} (K : Kit X) (Good : X → Type 0) (new : Good (K .variable
 
   good : (f : ℕ → X) → ((n : ℕ) → Good (f n)) → (n : ℕ) → isValue (K .term (f n)) ≡ true
   good f g n = is-true (isValue (K .term (f n))) (value (f n) (g n))
-    where
-      is-true : (b : Bool) → T b → b ≡ true
-      is-true true h = refl
-      is-true false h = absurd h
 
   kept : (t : Term) (f : ℕ → X) → ((n : ℕ) → Good (f n)) → T (isValue t) → T (isValue (traverse K t f))
   kept t f g h = value-kept K t f (good f g) h

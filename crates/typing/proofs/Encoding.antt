@@ -1,9 +1,8 @@
 -- Words that pass check 6 and decode are the words of the term they stand for.
 use mathlib.Core.Path.{_≡_, refl, sym, _∙_, ap, ap₂}
-use mathlib.Core.Bool.{Bool, true, false, _&&_}
 use mathlib.Core.List.{List, [], _∷_, _++_, append-assoc, append-nil}
 use mathlib.Core.Option.{Option, some, none, Option·some-injective, Option·none-ne-some}
-use Prim.Native.Nat.{ℕ, zero, suc, _+_}
+use Prim.Native.Nat.{ℕ, zero, suc}
 use native.Mathlib.Omega.{arith}
 use lib.Dec.{T, ltb, eqb, eqb→eq}
 use lib.ListN.{length, getElem?}
@@ -14,21 +13,13 @@ use Rattle.syntax.specs.Term.{Term, Terms, var, call, lam, app, bind, pair, fst
 use Rattle.syntax.specs.Encoding.{encode, encodeAll}
 use Rattle.syntax.specs.Decoding.{leaf, unary, binary, ternary, splitForest, callBuilder, builders, graft, decodeForest, single}
 use Rattle.syntax.specs.Decoding.{decode}
+use Rattle.syntax.proofs.Options.{and-left, and-right}
 use Rattle.typing.specs.TableChecks.{every}
 use Rattle.typing.specs.TermChecks.{wellFormedFields, wellFormedWord, wellFormedWords}
 
 -- a word is its fields
 pub pack-fields : (w : ℕ) → pack (kindOf w) (numberOf w) (typeOf w) ≡ w
 pack-fields w = omega arith
-
--- halves of a test
-fst-of : (a b : Bool) → T (a && b) → T a
-fst-of true b h = tt
-fst-of false b h = h
-
-snd-of : (a b : Bool) → T (a && b) → T b
-snd-of true b h = h
-snd-of false b h = absurd h
 
 zero-field : (n : ℕ) → T (eqb n 0) → n ≡ 0
 zero-field n h = eqb→eq n 0 h
@@ -100,31 +91,31 @@ module _ (tables : Tables) where
   unfolding builders encode node callBuilder
   undone zero n A h ts us e = leaf-undone (λ n A. var n) n A _ ts us e (ap {B = List ℕ} (λ (x : ℕ). pack 0 n x ∷ []) (sym (zero-field A h)))
   undone (suc zero) n A h ts us e = call-undone n _ ts us (splitForest (arity (tables .calls) n) ts) (splits _ ts) e
-      (ap (λ (x : ℕ). pack 1 n x) (sym (zero-field A (snd-of (ltb n (length (tables .calls))) (eqb A 0) h))))
+      (ap (λ (x : ℕ). pack 1 n x) (sym (zero-field A (and-right (ltb n (length (tables .calls))) (eqb A 0) h))))
   undone (suc (suc zero)) n A h ts us e = unary-undone (λ n A. lam A) n A _ ts us e
-      (λ a. ap {B = List ℕ} (λ (x : ℕ). pack 2 x A ∷ encode a) (sym (zero-field n (fst-of (eqb n 0) (ltb A (length (tables .types))) h))))
+      (λ a. ap {B = List ℕ} (λ (x : ℕ). pack 2 x A ∷ encode a) (sym (zero-field n (and-left (eqb n 0) (ltb A (length (tables .types))) h))))
   undone (suc (suc (suc zero))) n A h ts us e = binary-undone (λ n A. app) n A _ ts us e
-      (λ a b. ap₂ {C = List ℕ} (λ (x y : ℕ). pack 3 x y ∷ (encode a ++ encode b)) (sym (zero-field n (fst-of (eqb n 0) (eqb A 0) h)))
-      (sym (zero-field A (snd-of (eqb n 0) (eqb A 0) h))))
+      (λ a b. ap₂ {C = List ℕ} (λ (x y : ℕ). pack 3 x y ∷ (encode a ++ encode b)) (sym (zero-field n (and-left (eqb n 0) (eqb A 0) h)))
+      (sym (zero-field A (and-right (eqb n 0) (eqb A 0) h))))
   undone (suc (suc (suc (suc zero)))) n A h ts us e = binary-undone (λ n A. bind) n A _ ts us e
-      (λ a b. ap₂ {C = List ℕ} (λ (x y : ℕ). pack 4 x y ∷ (encode a ++ encode b)) (sym (zero-field n (fst-of (eqb n 0) (eqb A 0) h)))
-      (sym (zero-field A (snd-of (eqb n 0) (eqb A 0) h))))
+      (λ a b. ap₂ {C = List ℕ} (λ (x y : ℕ). pack 4 x y ∷ (encode a ++ encode b)) (sym (zero-field n (and-left (eqb n 0) (eqb A 0) h)))
+      (sym (zero-field A (and-right (eqb n 0) (eqb A 0) h))))
   undone (suc (suc (suc (suc (suc zero))))) n A h ts us e = binary-undone (λ n A. pair A) n A _ ts us e
       (λ a b. ap {B = List ℕ} (λ (x : ℕ). pack 5 x A ∷ (encode a ++ encode b))
-      (sym (zero-field n (fst-of (eqb n 0) (ltb A (length (tables .types))) h))))
+      (sym (zero-field n (and-left (eqb n 0) (ltb A (length (tables .types))) h))))
   undone (suc (suc (suc (suc (suc (suc zero)))))) n A h ts us e = unary-undone (λ n A. fst) n A _ ts us e
-      (λ a. ap₂ {C = List ℕ} (λ (x y : ℕ). pack 6 x y ∷ encode a) (sym (zero-field n (fst-of (eqb n 0) (eqb A 0) h)))
-      (sym (zero-field A (snd-of (eqb n 0) (eqb A 0) h))))
+      (λ a. ap₂ {C = List ℕ} (λ (x y : ℕ). pack 6 x y ∷ encode a) (sym (zero-field n (and-left (eqb n 0) (eqb A 0) h)))
+      (sym (zero-field A (and-right (eqb n 0) (eqb A 0) h))))
   undone (suc (suc (suc (suc (suc (suc (suc zero))))))) n A h ts us e = unary-undone (λ n A. snd) n A _ ts us e
-      (λ a. ap₂ {C = List ℕ} (λ (x y : ℕ). pack 7 x y ∷ encode a) (sym (zero-field n (fst-of (eqb n 0) (eqb A 0) h)))
-      (sym (zero-field A (snd-of (eqb n 0) (eqb A 0) h))))
+      (λ a. ap₂ {C = List ℕ} (λ (x y : ℕ). pack 7 x y ∷ encode a) (sym (zero-field n (and-left (eqb n 0) (eqb A 0) h)))
+      (sym (zero-field A (and-right (eqb n 0) (eqb A 0) h))))
   undone (suc (suc (suc (suc (suc (suc (suc (suc zero)))))))) n A h ts us e = unary-undone (λ n A. inl A) n A _ ts us e
-      (λ a. ap {B = List ℕ} (λ (x : ℕ). pack 8 x A ∷ encode a) (sym (zero-field n (fst-of (eqb n 0) (ltb A (length (tables .types))) h))))
+      (λ a. ap {B = List ℕ} (λ (x : ℕ). pack 8 x A ∷ encode a) (sym (zero-field n (and-left (eqb n 0) (ltb A (length (tables .types))) h))))
   undone (suc (suc (suc (suc (suc (suc (suc (suc (suc zero))))))))) n A h ts us e = unary-undone (λ n A. inr A) n A _ ts us e
-      (λ a. ap {B = List ℕ} (λ (x : ℕ). pack 9 x A ∷ encode a) (sym (zero-field n (fst-of (eqb n 0) (ltb A (length (tables .types))) h))))
+      (λ a. ap {B = List ℕ} (λ (x : ℕ). pack 9 x A ∷ encode a) (sym (zero-field n (and-left (eqb n 0) (ltb A (length (tables .types))) h))))
   undone (suc (suc (suc (suc (suc (suc (suc (suc (suc (suc zero)))))))))) n A h ts us e = ternary-undone (λ n A. case) n A _ ts us e
       (λ a b c. ap₂ {C = List ℕ} (λ (x y : ℕ). pack 10 x y ∷ (encode a ++ (encode b ++ encode c)))
-      (sym (zero-field n (fst-of (eqb n 0) (eqb A 0) h))) (sym (zero-field A (snd-of (eqb n 0) (eqb A 0) h))))
+      (sym (zero-field n (and-left (eqb n 0) (eqb A 0) h))) (sym (zero-field A (and-right (eqb n 0) (eqb A 0) h))))
   undone (suc (suc (suc (suc (suc (suc (suc (suc (suc (suc (suc k))))))))))) n A h ts us e = absurd (Option·none-ne-some us e)
 
   -- the words that decode to a forest are its words
@@ -133,13 +124,13 @@ module _ (tables : Tables) where
   unfolding decodeForest graft encode
   encode-decodeForest [] h us e = ap encodeAll (sym (Option·some-injective done us e))
   encode-decodeForest (w ∷ ws) h us e = go (decodeForest (tables .calls) ws) refl e
-      (encode-decodeForest ws (snd-of (wellFormedWord tables w) (every (wellFormedWord tables) ws) h))
+      (encode-decodeForest ws (and-right (wellFormedWord tables w) (every (wellFormedWord tables) ws) h))
     where
       go : (o : Option Terms) → decodeForest (tables .calls) ws ≡ o → (o >>= graft (tables .calls) w) ≡ some us
           → ((ts : Terms) → decodeForest (tables .calls) ws ≡ some ts → encodeAll ts ≡ ws) → encodeAll us ≡ w ∷ ws
       go none d e′ ih = absurd (Option·none-ne-some us e′)
       go (some ts) d e′ ih = undone (kindOf w) (numberOf w) (typeOf w)
-          (fst-of (wellFormedWord tables w) (every (wellFormedWord tables) ws) h) ts us e′
+          (and-left (wellFormedWord tables w) (every (wellFormedWord tables) ws) h) ts us e′
           ∙ ap₂ {C = List ℕ} (λ x xs. x ∷ xs) (pack-fields w) (ih ts d)
 
   -- the words of an accepted term are the words of the term

@@ -9,6 +9,7 @@ use lib.Dec.{ltb}
 use Rattle.syntax.specs.Kinds.{bindersAt}
 use Rattle.syntax.specs.Term.{Term, Terms, var, call, lam, app, bind, pair, fst, snd, inl, inr, case, done, arg, node, asVar}
 use Rattle.syntax.specs.Positions.{Position, within, bound, positions, positionsAll}
+use Rattle.syntax.proofs.Options.{and-last}
 use Rattle.typing.specs.TableChecks.{every}
 use Rattle.typing.specs.TermChecks.{below, scopedAt}
 
@@ -60,29 +61,25 @@ arguments m j (arg t ts) =
     every-append (test m) (map (within (λ x. arg x ts)) (positions t)) (map (within (λ x. arg t x)) (positionsAll ts))
     ∙ ap₂ {C = Bool} (λ a b. a && b) (plain m (λ x. arg x ts) t) (among m (λ x. arg t x) ts ∙ arguments m (suc j) ts)
 
-last : (a b : Bool) → a ≡ b → a ≡ (b && true)
-last a true e = e
-last a false e = e
-
 both : {X : Type 0} (f : X → Bool) (xs ys : List X) {a b : Bool} → every f xs ≡ a → every f ys ≡ b
     → every f (xs ++ ys) ≡ (a && (b && true))
-both f xs ys {b = b} p q = every-append f xs ys ∙ ap₂ {C = Bool} (λ x y. x && y) p (last (every f ys) b q)
+both f xs ys {b = b} p q = every-append f xs ys ∙ ap₂ {C = Bool} (λ x y. x && y) p (and-last q)
 
 pub scoped-node : (m : ℕ) (t : Term) → scopedAt m t ≡ (below m (asVar t) && scopedParts m (node t .kind) 0 (node t .parts))
 unfolding positions scopedParts bindersAt node asVar scopedAt
 scoped-node m (var n) = ap (λ (x : ℕ). ltb n x && true) (zero-add m)
 scoped-node m (call k ts) = among m (call k) ts ∙ arguments m 0 ts
-scoped-node m (lam A b) = last _ _ (under m (lam A) b)
+scoped-node m (lam A b) = and-last (under m (lam A) b)
 scoped-node m (app f a) = both (test m) (map (within (λ x. app x a)) (positions f)) (map (within (λ x. app f x)) (positions a))
     (plain m (λ x. app x a) f) (plain m (λ x. app f x) a)
 scoped-node m (bind e b) = both (test m) (map (within (λ x. bind x b)) (positions e)) (map (bound (λ x. bind e x)) (positions b))
     (plain m (λ x. bind x b) e) (under m (λ x. bind e x) b)
 scoped-node m (pair A a b) = both (test m) (map (within (λ x. pair A x b)) (positions a)) (map (within (λ x. pair A a x)) (positions b))
     (plain m (λ x. pair A x b) a) (plain m (λ x. pair A a x) b)
-scoped-node m (fst a) = last _ _ (plain m fst a)
-scoped-node m (snd a) = last _ _ (plain m snd a)
-scoped-node m (inl A a) = last _ _ (plain m (inl A) a)
-scoped-node m (inr A a) = last _ _ (plain m (inr A) a)
+scoped-node m (fst a) = and-last (plain m fst a)
+scoped-node m (snd a) = and-last (plain m snd a)
+scoped-node m (inl A a) = and-last (plain m (inl A) a)
+scoped-node m (inr A a) = and-last (plain m (inr A) a)
 scoped-node m (case s l r) =
     every-append (test m) (map (within (λ x. case x l r)) (positions s)) _
     ∙ ap₂ {C = Bool} (λ x y. x && y) (plain m (λ x. case x l r) s)

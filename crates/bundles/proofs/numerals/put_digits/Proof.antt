@@ -1,6 +1,6 @@
 -- The last digit is the remainder, and those before it are the digits of the quotient.
 use borrow.Author.Needs.{needs}
-use Prim.Native.Nat.{ℕ, _-_, _<_}
+use Prim.Native.Nat.{ℕ, _<_}
 use native.Mathlib.Omega.{arith}
 use native.Mathlib.Nat.{mod-lt}
 use mathlib.Core.Path.{_≡_, refl}
@@ -27,21 +27,24 @@ in-table c =
     let pre = c .before .before .before .before .pre in
     omega (arith, mod-lt (c .before .loop .left) (pre .0), pre .1)
 
+-- the digit is before the end of those to write, so inside the text
+in-text : tie.Need-slice-write-text Inv-loop μ-loop
+in-text c =
+    let put = c .before .loop .inv .1 in
+    omega (arith, c .before .before .before .before .pre .2, put .len, put .reach, c .loop-test .taken)
+
 pub put-digits-spec : {M : Type 1} → statement M
 put-digits-spec =
     tie.close
     (tie.spec
     Inv-loop
     μ-loop
-    (λ c. search needs)
     (λ c. (kinds-agree _ digit refl, digits-none _ _ _ _ _))
     (λ c. search needs)
     (λ c. search needs)
     in-table
-    (λ c.
-    let pre = c .before .before .before .before .pre in
-    let put = c .before .loop .inv .1 in
-    omega (arith, pre .2, put .len, put .reach, c .loop-test .taken))
+    (λ c. search needs)
+    in-text
     (λ c. search needs)
     (λ c. search needs)
     (λ c.

@@ -9,7 +9,7 @@ use Rattle.reduction.specs.Rules.{allPure}
 use Rattle.reduction.specs.Grammar.{inGrammar}
 use Rattle.parts.proofs.Traversal.{not-empty, from-length, part-starts}
 use Rattle.reducer.specs.NormalTest.{isNormalValue}
-use Rattle.reducer.proofs.Marking.{open-set, raisable-once, marked-once}
+use Rattle.reducer.proofs.Marking.{open-set, space-raisable}
 use Rattle.reducer.proofs.ByParts.{partPasses}
 use Rattle.reducer.proofs.TestedParts.{Testing, test-leave, test-fails, test-space, test-reached, test-next}
 use Rattle.reducer.proofs.NormalTests.{said-no, said-yes, did-pass, value-variable, value-none, value-normal, function-enter}
@@ -312,7 +312,7 @@ pub +normal-test+value-test-spec : {M : Type 1} → statement M
     (λ c κs. search needs)
     (λ c κs.
     let pre = c .before .before .before .before .before .before .before .before .pre in
-    raisable-once (pre .1 .1) (not-empty (pre .1 .0)))
+    space-raisable (pre .1 .1) (not-empty (pre .1 .0)))
     (λ c. search needs)
     (λ c.
     let pre = c .before .before .before .before .before .before .before .before .before .before .before .pre in
@@ -320,7 +320,7 @@ pub +normal-test+value-test-spec : {M : Type 1} → statement M
     let if1 = c .before .before .before .before .before .if1 in
     let number = c .before .before .before .number in
     let mark = c .before .before .mark in
-    value-variable (pre .1 .0) _ _ _ (kind .ensures) _ (if1 .taken) (number .ensures) (marked-once (mark .ensures)))
+    value-variable (pre .1 .0) _ _ _ (kind .ensures) _ (if1 .taken) (number .ensures) (mark .ensures))
     (λ c.
     let pre = c .before .before .before .before .before .before .before .pre in
     omega (arith, pre .1 .1 .deep, pre .1 .1 .small))

@@ -2,51 +2,70 @@
 use borrow.Author.Needs.{needs}
 use Prim.Native.Nat.{ℕ, _-_, _≤_, _<_}
 use native.Mathlib.Omega.{arith}
-use mathlib.Core.Path.{_≡_, refl, ap}
-use mathlib.Core.Bool.{true, false, not}
-use mathlib.Core.List.{[], _∷_}
+use mathlib.Core.Path.{_≡_, refl, sym, _∙_, ap}
+use mathlib.Core.Bool.{true, false, cond, not}
+use mathlib.Core.List.{List}
 use lib.Dec.{eqb, leb}
 use lib.ListN.{length, getD}
 use borrow.Author.Tests.{eq-eqb, eqb-true, le-leb, leb-true, not-true}
 use Rattle.syntax.specs.Kinds.{partsOfKind}
 use Rattle.reduction.specs.FitByKinds.{valueKind}
-use Rattle.parts.proofs.PartCounts.{of-kind, kinds-imply}
+use Rattle.parts.proofs.PartCounts.{of-kind, kinds-agree, kinds-imply}
 use Rattle.parts.proofs.Traversal.{from-length}
 use Rattle.parts.proofs.Rows.{Marching, march-inside, march-first}
 use Rattle.reducer.proofs.Testing.{Testing, test-begin, test-end, test-fails, test-function, function-words, test-open}
 use Rattle.reducer.proofs.value.value_test.Statement.{statement}
 use Rattle.reducer.proofs.value.value_test.Tie as tie
 
-abbrev table : ℕ → ℕ
-table k = getD (0 ∷ 5 ∷ 4 ∷ 5 ∷ 5 ∷ 2 ∷ 5 ∷ 5 ∷ 1 ∷ 1 ∷ 5 ∷ 5 ∷ 5 ∷ 5 ∷ 5 ∷ 5 ∷ []) k 0
+-- how many parts a value's node of this kind has; 4 if it is a function; 5 if the kind is no value's
+abbrev entry : ℕ → ℕ
+entry k = cond (eqb k 2) 4 (cond (valueKind k) (partsOfKind 0 k) 5)
+
+-- a table of them
+abbrev Tabled : List ℕ → Type 0
+Tabled counts = (k : ℕ) → k < 16 → getD counts k 0 ≡ entry k
+
+-- a value's node that is no function, with so many parts
+record ValueNode (k n : ℕ) : Type 0 where
+  of-value : valueKind k ≡ true
+  parts-are : n ≡ partsOfKind 0 k
+  no-call : k ≡ 1 → ⊥
+  no-function : k ≡ 2 → ⊥
 
 -- what an entry says of its kind
-module _ (k : ℕ) (l : k < 16) where
-  bounded : table k ≤ 5
-  bounded = leb-true _ _ (kinds-imply (λ j. true) (λ j. leb (table j) 5) refl k l refl)
-
-  opened : table k ≤ 3 → (valueKind k ≡ true) × (table k ≡ partsOfKind 0 k)
+module _ (k n : ℕ) (l : k < 16) (is : n ≡ entry k) where
+  bounded : n ≤ 5
   unfolding valueKind
-  opened h = (
-    kinds-imply (λ j. leb (table j) 3) valueKind refl k l (le-leb _ _ h),
-    eqb-true _ _ (kinds-imply (λ j. leb (table j) 3) (λ j. eqb (table j) (partsOfKind 0 j)) refl k l (le-leb _ _ h)),
-  )
+  bounded = omega (arith, is, leb-true (entry k) 5 (kinds-imply (λ j. true) (λ j. leb (entry j) 5) refl k l refl))
 
-  other-than : (j : ℕ) → 4 ≤ table j → table k ≤ 3 → k ≡ j → ⊥
-  other-than j e h q = omega (arith, ap table q, e, h)
-
-  function : table k ≡ 4 → k ≡ 2
-  function h = eqb-true _ _ (kinds-imply (λ j. eqb (table j) 4) (λ j. eqb j 2) refl k l (eq-eqb _ _ h))
-
-  no-value : 5 ≤ table k → valueKind k ≡ false
+  opened : n ≤ 3 → ValueNode k n
   unfolding valueKind
-  no-value h = not-true _ (kinds-imply (λ j. leb 5 (table j)) (λ j. not (valueKind j)) refl k l (le-leb _ _ h))
+  opened few =
+      let low : leb (entry k) 3 ≡ true = le-leb (entry k) 3 (omega (arith, is, few)) in
+      record {
+        of-value = kinds-imply (λ j. leb (entry j) 3) valueKind refl k l low;
+        parts-are = is ∙ eqb-true _ _ (kinds-imply (λ j. leb (entry j) 3) (λ j. eqb (entry j) (partsOfKind 0 j)) refl k l low);
+        no-call = λ e. omega (arith, is, ap entry e, few);
+        no-function = λ e. omega (arith, is, ap entry e, few);
+      }
+
+  function : n ≡ 4 → k ≡ 2
+  unfolding valueKind
+  function h = eqb-true _ _ (kinds-imply (λ j. eqb (entry j) 4) (λ j. eqb j 2) refl k l (eq-eqb _ _ (sym is ∙ h)))
+
+  no-value : 5 ≤ n → valueKind k ≡ false
+  unfolding valueKind
+  no-value h = not-true _ (kinds-imply (λ j. leb 5 (entry j)) (λ j. not (valueKind j)) refl k l (le-leb 5 (entry k) (omega (arith, is, h))))
 
 abbrev Inv-loop : tie.InvT-loop
-Inv-loop calls t counts owed₀ at₀ owed at = Marching calls t Testing 1 at owed
+Inv-loop calls t counts owed₀ at₀ owed at = Tabled counts × Marching calls t Testing 1 at owed
 
 abbrev μ-loop : tie.MeasureT-loop
 μ-loop calls t counts owed₀ at₀ owed at = length t - at
+
+begins : tie.Need-loop-holds Inv-loop μ-loop
+unfolding valueKind
+begins c = (kinds-agree _ entry refl, test-begin (c .before .before .pre .0))
 
 in-table : tie.Need-array-read-n Inv-loop μ-loop
 in-table c =
@@ -58,7 +77,7 @@ add-owed : tie.Need-add-owed Inv-loop μ-loop
 add-owed c =
     let loop = c .before .before .before .before .loop in
     let pre = c .before .before .before .before .before .before .before .pre in
-    omega (arith, march-inside _ _ (loop .inv), c .if1 .taken, pre .1)
+    omega (arith, march-inside _ _ (loop .inv .1), c .if1 .taken, pre .1)
 
 again : tie.Need-loop-again Inv-loop μ-loop
 again c =
@@ -66,10 +85,9 @@ again c =
     let loop-test = c .before .before .before .loop-test in
     let kind = c .before .kind in
     let l = in-table (c .before) in
-    let few : table (kind .result) ≤ 3 = omega (arith, c .if1 .taken) in
-    let o = opened _ l few in
-    test-open (loop .inv) (loop-test .taken) (kind .ensures) _ (o .0) (other-than _ l 2 (omega arith) few)
-    (of-kind _ _ _ _ (kind .ensures) (other-than _ l 1 (omega arith) few) (o .1) .0)
+    let o = opened _ _ l (loop .inv .0 _ l) (omega (arith, c .if1 .taken)) in
+    let many = of-kind _ _ _ _ (kind .ensures) (o .no-call) (o .parts-are) .0 in
+    (loop .inv .0, test-open (loop .inv .1) (loop-test .taken) (kind .ensures) _ (o .of-value) (o .no-function) many)
 
 -- a function
 part-size-requires : tie.Need-part-size-requires Inv-loop μ-loop
@@ -78,14 +96,14 @@ part-size-requires c κs =
     let loop-test = c .before .before .before .before .before .loop-test in
     let args = c .before .before .before .before .before .before .before .before .before .args in
     let pre = c .before .before .before .before .before .before .before .before .before .pre in
-    (march-first _ _ (loop .inv) (loop-test .taken), omega (arith, from-length (args .t .now) (loop .at), pre .1))
+    (march-first _ _ (loop .inv .1) (loop-test .taken), omega (arith, from-length (args .t .now) (loop .at), pre .1))
 
 add-at-2 : tie.Need-add-at-2 Inv-loop μ-loop
 add-at-2 c =
     let loop = c .before .before .before .before .before .before .before .loop in
     let args = c .before .before .before .before .before .before .before .before .before .before .args in
     let pre = c .before .before .before .before .before .before .before .before .before .before .pre in
-    omega (arith, c .part-size .ensures .within, from-length (args .t .now) (loop .at), march-inside _ _ (loop .inv), pre .1)
+    omega (arith, c .part-size .ensures .within, from-length (args .t .now) (loop .at), march-inside _ _ (loop .inv .1), pre .1)
 
 less-2 : tie.Need-loop-less-2 Inv-loop μ-loop
 less-2 c =
@@ -94,8 +112,8 @@ less-2 c =
     let kind = c .before .before .before .before .kind in
     omega (
       arith,
-      function-words (loop .inv) (loop-test .taken) (kind .ensures) _ (c .part-size .ensures),
-      march-inside _ _ (loop .inv),
+      function-words (loop .inv .1) (loop-test .taken) (kind .ensures) _ (c .part-size .ensures),
+      march-inside _ _ (loop .inv .1),
       loop-test .taken,
     )
 
@@ -105,8 +123,9 @@ again-2 c =
     let loop-test = c .before .before .before .before .before .before .loop-test in
     let kind = c .before .before .before .before .kind in
     let if2 = c .before .before .if2 in
-    test-function (loop .inv) (loop-test .taken) (kind .ensures) _ (function _ (in-table (c .before .before .before .before)) (if2 .taken))
-    (c .part-size .ensures)
+    let l = in-table (c .before .before .before .before) in
+    let is = function _ _ l (loop .inv .0 _ l) (if2 .taken) in
+    (loop .inv .0, test-function (loop .inv .1) (loop-test .taken) (kind .ensures) _ is (c .part-size .ensures))
 
 -- a computation's node
 returns : tie.Need-returns Inv-loop μ-loop
@@ -115,8 +134,8 @@ returns c =
     let loop-test = c .before .before .before .before .loop-test in
     let kind = c .before .before .kind in
     let l = in-table (c .before .before) in
-    let many : 5 ≤ table (kind .result) = omega (arith, c .before .if1 .left, c .if2 .left) in
-    test-fails (loop .inv) (loop-test .taken) (kind .ensures) _ (no-value _ l many) refl
+    let none = no-value _ _ l (loop .inv .0 _ l) (omega (arith, c .before .if1 .left, c .if2 .left)) in
+    test-fails (loop .inv .1) (loop-test .taken) (kind .ensures) _ none refl
 
 pub value-test-spec : {M : Type 1} → statement M
 value-test-spec =
@@ -124,39 +143,39 @@ value-test-spec =
     (tie.spec
     Inv-loop
     μ-loop
-    (λ c.
-    let pre = c .before .before .pre in
-    test-begin (pre .0))
+    begins
     (λ c.
     let pre = c .before .before .before .before .pre in
-    omega (arith, march-inside _ _ (c .before .loop .inv), c .loop-test .taken, pre .1))
+    omega (arith, march-inside _ _ (c .before .loop .inv .1), c .loop-test .taken, pre .1))
     (λ c.
     let loop = c .before .before .loop in
-    omega (arith, march-inside _ _ (loop .inv), c .before .loop-test .taken))
+    omega (arith, march-inside _ _ (loop .inv .1), c .before .loop-test .taken))
     (λ c κs. search needs)
     in-table
-    (λ c. omega (arith, bounded _ (in-table c)))
+    (λ c.
+    let tabled = c .before .before .before .loop .inv .0 in
+    omega (arith, bounded _ _ (in-table c) (tabled _ (in-table c))))
     (λ c. c .before .before .before .loop-test .taken)
     add-owed
     (λ c.
     let loop = c .before .before .before .before .loop in
     let pre = c .before .before .before .before .before .before .before .pre in
-    omega (arith, march-inside _ _ (loop .inv), pre .1))
+    omega (arith, march-inside _ _ (loop .inv .1), pre .1))
     (λ c.
     let loop = c .before .before .before .before .loop in
-    omega (arith, march-inside _ _ (loop .inv), c .before .before .before .loop-test .taken))
+    omega (arith, march-inside _ _ (loop .inv .1), c .before .before .before .loop-test .taken))
     again
     (λ c.
     let loop = c .before .before .before .before .before .loop in
     let pre = c .before .before .before .before .before .before .before .before .pre in
-    omega (arith, march-inside _ _ (loop .inv), pre .1))
-    (λ c. omega (arith, march-inside _ _ (c .before .before .before .before .before .loop .inv)))
-    (λ c. omega (arith, march-inside _ _ (c .before .before .before .before .before .loop .inv)))
-    (λ c. omega (arith, march-inside _ _ (c .before .before .before .before .before .loop .inv)))
+    omega (arith, march-inside _ _ (loop .inv .1), pre .1))
+    (λ c. omega (arith, march-inside _ _ (c .before .before .before .before .before .loop .inv .1)))
+    (λ c. omega (arith, march-inside _ _ (c .before .before .before .before .before .loop .inv .1)))
+    (λ c. omega (arith, march-inside _ _ (c .before .before .before .before .before .loop .inv .1)))
     part-size-requires
     add-at-2
     (λ c. c .before .before .before .before .before .before .loop-test .taken)
     less-2
     again-2
     returns
-    (λ c. test-end (c .before .loop .inv) _ (omega (arith, c .loop-test .left)) refl refl))
+    (λ c. test-end (c .before .loop .inv .1) _ (omega (arith, c .loop-test .left)) refl refl))
