@@ -1,9 +1,3 @@
-pub mod Pasting
-pub mod Gapping
-pub mod Rewriting
-pub mod InPlace
-pub mod Finding
-pub mod Turning
 pub mod Standing
 pub mod StepLoop
 pub mod PhaseLoop

@@ -18,14 +18,14 @@ use Rattle.reduction.proofs.Clear.{clear-zero}
 use Rattle.reduction.proofs.Remaining.{reduce-begins}
 use Rattle.reduction.proofs.CountsBounded.{zeros}
 use Rattle.theory.proofs.Fields.{fitting}
-use Rattle.normalizer.specs.Currents.{Gapped, Current}
-use Rattle.normalizer.specs.Gaps.{Seeks}
-use Rattle.normalizer.specs.Turns.{Turned, spent, full, Turns}
-use Rattle.normalizer.specs.declared.turn.Turn.{Turn}
-use Rattle.normalizer.specs.declared.turn.Turn.the-variants.{Stop, Refused}
+use Rattle.stepper.specs.Currents.{Gapped, Current}
+use Rattle.stepper.specs.Gaps.{Seeks}
+use Rattle.stepper.specs.Turns.{Turned, spent, full, Turns}
+use Rattle.stepper.specs.declared.turn.Turn.{Turn}
+use Rattle.stepper.specs.declared.turn.Turn.the-variants.{Stop, Refused}
 use Rattle.normalizer.specs.Reductions.{Reducible, Comes, refusal, ended, Reduces}
 use Rattle.normalizer.specs.declared.reduce.Reduced.{Reduced}
-use Rattle.normalizer.proofs.Gapping.{gapped-size}
+use Rattle.stepper.proofs.Gapping.{gapped-size}
 use Rattle.normalizer.proofs.Standing.{Standing, Ended, standing-refused, standing-inserted, standing-reduced, standing-ended}
 use Rattle.normalizer.proofs.StepLoop.{Stands, Carries, Bounded, Inner}
 

@@ -15,12 +15,12 @@ use Rattle.reduction.specs.Reduction.{Counts, Progress, stopped, reached, reduc
 use Rattle.outcomes.specs.Buffers.{overwrite}
 use Rattle.outcomes.specs.Normalize.{reducedTo}
 use Rattle.outcomes.specs.declared.Answer.{Answer}
-use Rattle.normalizer.specs.Currents.{Gapped, Current}
+use Rattle.stepper.specs.Currents.{Gapped, Current}
 use Rattle.normalizer.specs.Reductions.{Reducible, Comes, refusal, ended, Reduces}
 use Rattle.normalizer.specs.Runs.{Fills, Settleable, Settles}
 use Rattle.normalizer.specs.declared.reduce.Reduced.{Reduced}
-use Rattle.normalizer.proofs.Gapping.{gapped-size}
-use Rattle.normalizer.proofs.Pasting.{drop-pasted}
+use Rattle.stepper.proofs.Gapping.{gapped-size}
+use Rattle.stepper.proofs.Pasting.{drop-pasted}
 
 module _ {calls words output first second : List ℕ} (x : Settleable calls words output first second) {first′ : List ℕ} {begin : ℕ}
     (be : begin ≡ length first - length words) (fe : first′ ≡ paste first begin words (length words)) where

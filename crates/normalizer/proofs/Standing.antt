@@ -27,12 +27,12 @@ use Rattle.theory.proofs.TypesKept.{infer-step}
 use Rattle.theory.proofs.Operands.{inserted, not-inserted}
 use Rattle.theory.proofs.NextInsertion.{next-insertion}
 use Rattle.theory.proofs.NextReduction.{next-reduction, operands-next}
-use Rattle.normalizer.specs.Begun.{Begun}
-use Rattle.normalizer.specs.Currents.{Gapped, Current}
-use Rattle.normalizer.specs.Gaps.{Seekable, Seeks}
-use Rattle.normalizer.specs.Turns.{At, Ready, nextFrom, Turned, stops, spent, full, goes, Turns}
-use Rattle.normalizer.specs.declared.turn.Turn.the-variants.{Stop, Refused, Step as Stepped}
-use Rattle.normalizer.proofs.Gapping.{gapped-size, gapped-seekable, gapped-sought}
+use Rattle.stepper.specs.Begun.{Begun}
+use Rattle.stepper.specs.Currents.{Gapped, Current}
+use Rattle.stepper.specs.Gaps.{Seekable, Seeks}
+use Rattle.stepper.specs.Turns.{At, Ready, nextFrom, Turned, stops, spent, full, goes, Turns}
+use Rattle.stepper.specs.declared.turn.Turn.the-variants.{Stop, Refused, Step as Stepped}
+use Rattle.stepper.proofs.Gapping.{gapped-size, gapped-seekable, gapped-sought}
 
 -- after a step: what the phase takes as known still holds where the search goes on, and no redex stands before that place
 begun-next : (phase : Phase) (t : Term) (s : Step) → step allPure phase t ≡ some s → (i : ℕ) → Begun phase t i

@@ -10,10 +10,10 @@ use Rattle.reduction.specs.declared.Rule.{Rule}
 use Rattle.reduction.specs.declared.Phase.{Phase}
 use Rattle.reduction.proofs.CountsBounded.{raised}
 use Rattle.theory.proofs.Fields.{Fitting}
-use Rattle.normalizer.specs.Gaps.{Seekable}
-use Rattle.normalizer.specs.Turns.{Ready, Turns}
-use Rattle.normalizer.specs.declared.turn.Turn.{Turn}
-use Rattle.normalizer.specs.declared.turn.Turn.the-variants.{Stop, Step as Stepped}
+use Rattle.stepper.specs.Gaps.{Seekable}
+use Rattle.stepper.specs.Turns.{Ready, Turns}
+use Rattle.stepper.specs.declared.turn.Turn.{Turn}
+use Rattle.stepper.specs.declared.turn.Turn.the-variants.{Stop, Step as Stepped}
 use Rattle.normalizer.proofs.Standing.{Standing, standing-ready, standing-seekable, standing-steps}
 
 -- the counts and what is left of the budget stay within 32 bits

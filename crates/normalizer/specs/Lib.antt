@@ -1,8 +1,2 @@
-pub mod Gaps
-pub mod Currents
-pub mod Begun
-pub mod Finds
-pub mod Rewrites
-pub mod Turns
 pub mod Reductions
 pub mod Runs

@@ -1,9 +1,9 @@
 // The loop over phases and steps.
 ghost use Rattle.normalizer.specs.Reductions.{Reducible, Reduces};
 use crate::counts::raise;
-use crate::gap::seek;
-use crate::turn::Turn;
-use crate::turn::take_turn;
+use stepper::gap::seek;
+use stepper::turn::Turn;
+use stepper::turn::take_turn;
 use parts::PENDING;
 use reduction::Phase;
 
