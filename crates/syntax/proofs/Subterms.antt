@@ -72,7 +72,8 @@ mutual
 
   subterms-nodesAll : (ts : Terms) → map (λ p. p .subterm) (positionsAll ts) ≡ nodesAll ts
   subterms-nodesAll done = refl
-  subterms-nodesAll (arg t ts) = both (λ p. p .subterm) (map (within (λ x. arg x ts)) (positions t)) (map (within (λ x. arg t x)) (positionsAll ts)) _ _
+  subterms-nodesAll (arg t ts) =
+      both (λ p. p .subterm) (map (within (λ x. arg x ts)) (positions t)) (map (within (λ x. arg t x)) (positionsAll ts)) _ _
       (part (λ x. arg x ts) (positions t) _ (subterms-nodes t)) (part (λ x. arg t x) (positionsAll ts) _ (subterms-nodesAll ts))
 
 -- their words are those of the term

@@ -93,7 +93,8 @@ module _ (tables : Tables) where
   undone (suc zero) n A h ts us e = call-undone n _ ts us (splitForest (arity (tables .calls) n) ts) (splits _ ts) e
       (ap (λ (x : ℕ). pack 1 n x) (sym (zero-field A (and-right (ltb n (length (tables .calls))) (eqb A 0) h))))
   undone (suc (suc zero)) n A h ts us e = unary-undone (λ n A. lam A) n A _ ts us e
-      (λ a. ap {B = List ℕ} (λ (x : ℕ). pack 2 x A ∷ encode a) (sym (zero-field n (and-left (eqb n 0) (ltb A (length (tables .types))) h))))
+      (λ a. ap {B = List ℕ} (λ (x : ℕ). pack 2 x A ∷ encode a)
+      (sym (zero-field n (and-left (eqb n 0) (ltb A (length (tables .types))) h))))
   undone (suc (suc (suc zero))) n A h ts us e = binary-undone (λ n A. app) n A _ ts us e
       (λ a b. ap₂ {C = List ℕ} (λ (x y : ℕ). pack 3 x y ∷ (encode a ++ encode b)) (sym (zero-field n (and-left (eqb n 0) (eqb A 0) h)))
       (sym (zero-field A (and-right (eqb n 0) (eqb A 0) h))))
@@ -110,9 +111,11 @@ module _ (tables : Tables) where
       (λ a. ap₂ {C = List ℕ} (λ (x y : ℕ). pack 7 x y ∷ encode a) (sym (zero-field n (and-left (eqb n 0) (eqb A 0) h)))
       (sym (zero-field A (and-right (eqb n 0) (eqb A 0) h))))
   undone (suc (suc (suc (suc (suc (suc (suc (suc zero)))))))) n A h ts us e = unary-undone (λ n A. inl A) n A _ ts us e
-      (λ a. ap {B = List ℕ} (λ (x : ℕ). pack 8 x A ∷ encode a) (sym (zero-field n (and-left (eqb n 0) (ltb A (length (tables .types))) h))))
+      (λ a. ap {B = List ℕ} (λ (x : ℕ). pack 8 x A ∷ encode a)
+      (sym (zero-field n (and-left (eqb n 0) (ltb A (length (tables .types))) h))))
   undone (suc (suc (suc (suc (suc (suc (suc (suc (suc zero))))))))) n A h ts us e = unary-undone (λ n A. inr A) n A _ ts us e
-      (λ a. ap {B = List ℕ} (λ (x : ℕ). pack 9 x A ∷ encode a) (sym (zero-field n (and-left (eqb n 0) (ltb A (length (tables .types))) h))))
+      (λ a. ap {B = List ℕ} (λ (x : ℕ). pack 9 x A ∷ encode a)
+      (sym (zero-field n (and-left (eqb n 0) (ltb A (length (tables .types))) h))))
   undone (suc (suc (suc (suc (suc (suc (suc (suc (suc (suc zero)))))))))) n A h ts us e = ternary-undone (λ n A. case) n A _ ts us e
       (λ a b c. ap₂ {C = List ℕ} (λ (x y : ℕ). pack 10 x y ∷ (encode a ++ (encode b ++ encode c)))
       (sym (zero-field n (and-left (eqb n 0) (eqb A 0) h))) (sym (zero-field A (and-right (eqb n 0) (eqb A 0) h))))

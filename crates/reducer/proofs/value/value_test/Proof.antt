@@ -55,7 +55,9 @@ module _ (k n : ℕ) (l : k < 16) (is : n ≡ entry k) where
 
   no-value : 5 ≤ n → valueKind k ≡ false
   unfolding valueKind
-  no-value h = not-true _ (kinds-imply (λ j. leb 5 (entry j)) (λ j. not (valueKind j)) refl k l (le-leb 5 (entry k) (omega (arith, is, h))))
+  no-value h =
+      let high : leb 5 (entry k) ≡ true = le-leb 5 (entry k) (omega (arith, is, h)) in
+      not-true _ (kinds-imply (λ j. leb 5 (entry j)) (λ j. not (valueKind j)) refl k l high)
 
 abbrev Inv-loop : tie.InvT-loop
 Inv-loop calls t counts owed₀ at₀ owed at = Tabled counts × Marching calls t Testing 1 at owed
