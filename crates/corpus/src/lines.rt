@@ -6,9 +6,9 @@ use crate::words::digest;
 use crate::words::fill;
 use checker::check::check;
 use libc::STDOUT_FILENO;
+use normality::is_normal::is_normal;
 use normalizer::normalize::normalize;
 use outcomes::Answer;
-use reducer::is_normal::is_normal;
 use responder::MOST_WRITTEN;
 use responder::respond;
 

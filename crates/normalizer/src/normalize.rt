@@ -5,12 +5,12 @@ ghost use lib.ListN.{length as lengthOf};
 ghost use Rattle.syntax.specs.Tables.{over};
 ghost use Rattle.outcomes.specs.Contract.{Normalizes};
 ghost use Rattle.normalizer.specs.Runs.{Runs, Settleable, Settles};
-use stepper::moves::clear;
-use stepper::moves::copy;
 use crate::reduce::reduce;
 use checker::check::NORMALIZE_LIMIT;
 use checker::check::verdict;
 use outcomes::Answer;
+use stepper::moves::clear;
+use stepper::moves::copy;
 
 fn smaller(a: usize, b: usize) -> usize
     ensures { λ r. ⌜ r ≡ min a b ⌝ }

@@ -10,7 +10,3 @@ pub mod OpenMarks
 pub mod Cutting
 pub mod UnusedRows
 pub mod UnusedSteps
-pub mod ByParts
-pub mod TestedParts
-pub mod NormalTests
-pub mod IsNormal

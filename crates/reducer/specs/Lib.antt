@@ -4,5 +4,3 @@ pub mod Fits
 pub mod Searches
 pub mod Marks
 pub mod Unused
-pub mod Roles
-pub mod NormalTest

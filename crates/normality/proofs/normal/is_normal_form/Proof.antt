@@ -1,8 +1,8 @@
 -- At the front no binder is in scope, so every mark is free.
-use Rattle.reducer.proofs.IsNormal.{space-none, decides}
+use Rattle.normality.proofs.IsNormal.{space-none, decides}
 use borrow.Author.Needs.{needs}
-use Rattle.reducer.proofs.normal.is_normal_form.Statement.{statement}
-use Rattle.reducer.proofs.normal.is_normal_form.Tie as tie
+use Rattle.normality.proofs.normal.is_normal_form.Statement.{statement}
+use Rattle.normality.proofs.normal.is_normal_form.Tie as tie
 
 pub is-normal-form-spec : {M : Type 1} → statement M
 is-normal-form-spec = tie.close (tie.spec (λ c. search needs) (λ c κs.

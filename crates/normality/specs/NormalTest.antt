@@ -8,8 +8,8 @@ use Rattle.syntax.specs.Encoding.{size}
 use Rattle.reduction.specs.Rules.{allPure}
 use Rattle.reduction.specs.Grammar.{class, isAValue, inGrammar}
 use Rattle.parts.specs.Fronts.{Holds}
 use Rattle.reducer.specs.Marks.{Marked}
-use Rattle.reducer.specs.declared.normal.Part.{Part}
+use Rattle.normality.specs.declared.normal.Part.{Part}
 
 -- a value in normal form
 unfoldable pub isNormalValue : Term → Bool

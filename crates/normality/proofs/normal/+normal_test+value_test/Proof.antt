@@ -8,33 +8,33 @@ use lib.ListN.{length, length-set}
 use Rattle.reduction.specs.Rules.{allPure}
 use Rattle.reduction.specs.Grammar.{inGrammar}
 use Rattle.parts.proofs.Traversal.{not-empty, from-length, part-starts}
-use Rattle.reducer.specs.NormalTest.{isNormalValue}
+use Rattle.normality.specs.NormalTest.{isNormalValue}
 use Rattle.reducer.proofs.Marking.{open-set, space-raisable}
-use Rattle.reducer.proofs.ByParts.{partPasses}
-use Rattle.reducer.proofs.TestedParts.{Testing, test-leave, test-fails, test-space, test-reached, test-next}
-use Rattle.reducer.proofs.NormalTests.{said-no, said-yes, did-pass, value-variable, value-none, value-normal, function-enter}
-use Rattle.reducer.proofs.NormalTests.{values-enter, normal-enter, role-fails, form-fails, use-fails, all-pass}
-use Rattle.reducer.proofs.NormalTests.{function-binds, values-bind-none, values-space, values-reached, values-next}
+use Rattle.normality.proofs.ByParts.{partPasses}
+use Rattle.normality.proofs.TestedParts.{Testing, test-leave, test-fails, test-space, test-reached, test-next}
+use Rattle.normality.proofs.NormalTests.{said-no, said-yes, did-pass, value-variable, value-none, value-normal, function-enter}
+use Rattle.normality.proofs.NormalTests.{values-enter, normal-enter, role-fails, form-fails, use-fails, all-pass}
+use Rattle.normality.proofs.NormalTests.{function-binds, values-bind-none, values-space, values-reached, values-next}
 use Prim.Native.Nat.{ℕ, _<_}
 use borrow.Fn.Kinds.{In}
 use borrow.Fn.PlainCycle.{Measures, is, falls, and}
-use Rattle.reducer.proofs.normal.normal_test.Reads as normal-test
-use Rattle.reducer.proofs.normal.normal_test.Kinds as normal-test-kinds
-use Rattle.reducer.proofs.normal.+normal_test+value_test.Lts-normal_test as normal-test-lts
-use Rattle.reducer.proofs.normal.value_test.Reads as value-test
-use Rattle.reducer.proofs.normal.value_test.Kinds as value-test-kinds
-use Rattle.reducer.proofs.normal.+normal_test+value_test.Lts-value_test as value-test-lts
+use Rattle.normality.proofs.normal.normal_test.Reads as normal-test
+use Rattle.normality.proofs.normal.normal_test.Kinds as normal-test-kinds
+use Rattle.normality.proofs.normal.+normal_test+value_test.Lts-normal_test as normal-test-lts
+use Rattle.normality.proofs.normal.value_test.Reads as value-test
+use Rattle.normality.proofs.normal.value_test.Kinds as value-test-kinds
+use Rattle.normality.proofs.normal.+normal_test+value_test.Lts-value_test as value-test-lts
 use Rattle.parts.proofs.fields.kind.Reads as kind-reads
 use Rattle.parts.proofs.fields.number.Reads as number-reads
 use Rattle.parts.proofs.shape.binders.Reads as binders-reads
 use Rattle.parts.proofs.shape.part_count.Reads as part-count-reads
 use Rattle.reducer.proofs.marks.mark.Reads as mark-reads
-use Rattle.reducer.proofs.normal.admits.Reads as admits-reads
-use Rattle.reducer.proofs.normal.keeps.Reads as keeps-reads
-use Rattle.reducer.proofs.normal.role_of.Reads as role-of-reads
+use Rattle.normality.proofs.normal.admits.Reads as admits-reads
+use Rattle.normality.proofs.normal.keeps.Reads as keeps-reads
+use Rattle.normality.proofs.normal.role_of.Reads as role-of-reads
 use Rattle.reducer.proofs.value.value_kind.Reads as value-kind-reads
-use Rattle.reducer.proofs.normal.+normal_test+value_test.{statement}
-use Rattle.reducer.proofs.normal.+normal_test+value_test.Tie.{close}
+use Rattle.normality.proofs.normal.+normal_test+value_test.{statement}
+use Rattle.normality.proofs.normal.+normal_test+value_test.Tie.{close}
 
 abbrev μ-normal-test : Measures 3 normal-test-kinds.ps ℕ
 μ-normal-test κs a = 2 * length (a .1 .0 .now) + 1

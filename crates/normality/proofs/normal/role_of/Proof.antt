@@ -2,10 +2,10 @@
 use mathlib.Core.Path.{sym, _∙_, ap}
 use mathlib.Core.Bool.{Bool, cond}
 use borrow.Author.Tests.{eq-eqb, ne-eqb}
-use Rattle.reducer.specs.Roles.{firstRole, laterRole, roleOf}
+use Rattle.normality.specs.Roles.{firstRole, laterRole, roleOf}
 use borrow.Author.Needs.{needs}
-use Rattle.reducer.proofs.normal.role_of.Statement.{statement}
-use Rattle.reducer.proofs.normal.role_of.Tie as tie
+use Rattle.normality.proofs.normal.role_of.Statement.{statement}
+use Rattle.normality.proofs.normal.role_of.Tie as tie
 
 pub role-of-spec : {M : Type 1} → statement M
 unfolding roleOf

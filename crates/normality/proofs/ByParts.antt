@@ -14,11 +14,11 @@ use Rattle.reduction.specs.NormalForm.{needed}
 use Rattle.reduction.specs.FitByKinds.{valueKind}
 use Rattle.reduction.specs.Grammar.{Class, aValue, anOperation, aBlock, isAValue, isAnOperation, isInGrammar, provided, class, areValues}
 use Rattle.reduction.specs.Grammar.{inGrammar}
-use Rattle.reducer.specs.Roles.{roleOf, suits, operationKind, keepsVariable}
-use Rattle.reducer.specs.declared.normal.Role.{Role}
-use Rattle.reducer.specs.declared.normal.Role.the-variants.{Variable, Value, Operation}
-use Rattle.reducer.specs.NormalTest.{isNormalValue}
+use Rattle.normality.specs.Roles.{roleOf, suits, operationKind, keepsVariable}
+use Rattle.normality.specs.declared.normal.Role.{Role}
+use Rattle.normality.specs.declared.normal.Role.the-variants.{Variable, Value, Operation}
+use Rattle.normality.specs.NormalTest.{isNormalValue}
 use Rattle.reducer.proofs.ByKind.{kind-2}
 
 -- whether every part passes the test of its place
 unfoldable pub allPass : (ℕ → Term → Bool) → ℕ → Terms → Bool

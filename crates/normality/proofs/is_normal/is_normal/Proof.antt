@@ -1,9 +1,9 @@
 -- Refused by the checks, or accepted and then decided by the grammar.
 use Rattle.syntax.specs.Tables.{Tables, over}
-use Rattle.reducer.proofs.IsNormal.{refused-tested, accepted-starts, accepted-short, accepted-tested}
+use Rattle.normality.proofs.IsNormal.{refused-tested, accepted-starts, accepted-short, accepted-tested}
 use borrow.Author.Needs.{needs}
-use Rattle.reducer.proofs.is_normal.is_normal.Statement.{statement}
-use Rattle.reducer.proofs.is_normal.is_normal.Tie as tie
+use Rattle.normality.proofs.is_normal.is_normal.Statement.{statement}
+use Rattle.normality.proofs.is_normal.is_normal.Tie as tie
 
 abbrev tables : tie.After-shared-slice-known4 → Tables
 tables s = let a = s .before .before .before .before .args in over (a .types .now) (a .calls .now) (a .inputs .now)

@@ -5,16 +5,16 @@ ghost use lib.ListN.{length};
 ghost use Rattle.reduction.specs.Rules.{allPure};
 ghost use Rattle.reduction.specs.Grammar.{inGrammar};
 ghost use Rattle.parts.specs.Fronts.{Starts};
 ghost use Rattle.reducer.specs.Marks.{Space};
-ghost use Rattle.reducer.specs.Roles.{firstRole, laterRole, roleOf, suits, operationKind, keepsVariable};
-ghost use Rattle.reducer.specs.NormalTest.{isNormalValue, Tests, Decides};
-use crate::marks::mark;
-use crate::value::value_kind;
+ghost use Rattle.normality.specs.Roles.{firstRole, laterRole, roleOf, suits, operationKind, keepsVariable};
+ghost use Rattle.normality.specs.NormalTest.{isNormalValue, Tests, Decides};
 use checker::check::OTHER_LIMIT;
 use parts::fields::kind;
 use parts::fields::number;
 use parts::shape::binders;
 use parts::shape::part_count;
+use reducer::marks::mark;
+use reducer::value::value_kind;
 
 // where a part ends, and whether it passed its test; the end is 0 if not
 pub struct Part {

@@ -23,14 +23,14 @@ use Rattle.reduction.specs.Grammar.{inGrammar, class}
 use Rattle.parts.specs.Fronts.{Holds, Starts, from}
 use Rattle.parts.proofs.Traversal.{front-of}
 use Rattle.parts.proofs.Variables.{variable-at}
 use Rattle.reducer.specs.Marks.{Marked, Space}
-use Rattle.reducer.specs.Roles.{roleOf, suits, keepsVariable}
-use Rattle.reducer.specs.NormalTest.{isNormalValue, Passed, Told, Tests, no}
-use Rattle.reducer.specs.declared.normal.Part.{Part}
-use Rattle.reducer.specs.declared.normal.Role.{Role}
+use Rattle.normality.specs.Roles.{roleOf, suits, keepsVariable}
+use Rattle.normality.specs.NormalTest.{isNormalValue, Passed, Told, Tests, no}
+use Rattle.normality.specs.declared.normal.Part.{Part}
+use Rattle.normality.specs.declared.normal.Role.{Role}
 use Rattle.reducer.proofs.Marking.{Opened, open-none, own-mark, body-binds}
-use Rattle.reducer.proofs.ByParts.{allPass, partPasses, value-kind, grammar-parts, value-parts, function-parts}
-use Rattle.reducer.proofs.TestedParts.{refused, Testing, test-enter, test-fails, test-space, test-reached, test-next}
+use Rattle.normality.proofs.ByParts.{allPass, partPasses, value-kind, grammar-parts, value-parts, function-parts}
+use Rattle.normality.proofs.TestedParts.{refused, Testing, test-enter, test-fails, test-space, test-reached, test-next}
 
 -- what a test of a slice said of a term at its front
 module _ {test : Term → Bool} {calls words : List ℕ} {depth : ℕ} {old new : List ℕ} {r : Part}

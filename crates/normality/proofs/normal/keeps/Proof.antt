@@ -1,8 +1,8 @@
 -- Only a let's body has to use its variable.
 use borrow.Author.Tests.{eq-eqb, ne-eqb}
-use Rattle.reducer.specs.Roles.{keepsVariable}
-use Rattle.reducer.proofs.normal.keeps.Statement.{statement}
-use Rattle.reducer.proofs.normal.keeps.Tie as tie
+use Rattle.normality.specs.Roles.{keepsVariable}
+use Rattle.normality.proofs.normal.keeps.Statement.{statement}
+use Rattle.normality.proofs.normal.keeps.Tie as tie
 
 pub keeps-spec : {M : Type 1} → statement M
 unfolding keepsVariable

@@ -2,9 +2,9 @@
 use mathlib.Core.Path.{sym, ap}
 use mathlib.Core.Logic.{⊎-elim, inl, inr}
 use borrow.Author.Tests.{ne-eqb}
-use Rattle.reducer.specs.Roles.{laterRole}
-use Rattle.reducer.proofs.normal.later_role.Statement.{statement}
-use Rattle.reducer.proofs.normal.later_role.Tie as tie
+use Rattle.normality.specs.Roles.{laterRole}
+use Rattle.normality.proofs.normal.later_role.Statement.{statement}
+use Rattle.normality.proofs.normal.later_role.Tie as tie
 
 pub later-role-spec : {M : Type 1} → statement M
 later-role-spec = tie.close

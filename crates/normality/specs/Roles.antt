@@ -3,8 +3,8 @@ use Prim.Native.Nat.{ℕ}
 use mathlib.Core.Bool.{Bool, true, cond, _||_}
 use lib.Dec.{eqb, leb}
 use Rattle.reduction.specs.FitByKinds.{valueKind}
-use Rattle.reducer.specs.declared.normal.Role.{Role}
-use Rattle.reducer.specs.declared.normal.Role.the-variants.{Variable, Value, Operation, Normal}
+use Rattle.normality.specs.declared.normal.Role.{Role}
+use Rattle.normality.specs.declared.normal.Role.the-variants.{Variable, Value, Operation, Normal}
 
 -- the first part: a call's argument is a value, a let's bound part an operation; an application's head, the operand of first and second
 -- and a case's subject are variables

@@ -11,11 +11,11 @@ use Rattle.syntax.specs.Term.{Term, Terms, node}
 use Rattle.syntax.specs.Parts.{partCount}
 use Rattle.parts.specs.Fronts.{Holds, Starts, from}
 use Rattle.parts.proofs.Traversal.{front-of, from-length, Going, enter, Does, upcoming, next, reached, onward, leave}
 use Rattle.reducer.specs.Marks.{Space}
-use Rattle.reducer.specs.NormalTest.{Passed, Told, Tests, no}
-use Rattle.reducer.specs.declared.normal.Part.{Part}
+use Rattle.normality.specs.NormalTest.{Passed, Told, Tests, no}
+use Rattle.normality.specs.declared.normal.Part.{Part}
 use Rattle.reducer.proofs.Marking.{Opened, Marking, mark-enter, mark-next, mark-leave, Grown, grown-none, grown-next, space-next}
-use Rattle.reducer.proofs.ByParts.{allPass}
+use Rattle.normality.proofs.ByParts.{allPass}
 
 -- a term that did not pass
 pub refused : {test : Term → Bool} {t : Term} {depth : ℕ} {old new : List ℕ} → test t ≡ false → Told test t depth old new no

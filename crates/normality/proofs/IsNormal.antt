@@ -21,9 +21,9 @@ use Rattle.outcomes.specs.declared.Tested.{Tested}
 use Rattle.theory.proofs.GrammarNormal.{grammar-is-normal}
 use Rattle.parts.specs.Fronts.{Starts}
 use Rattle.checker.proofs.Verdicts.{Accepts, accepted-of, refused-of, accepted-holds}
 use Rattle.reducer.specs.Marks.{Space}
-use Rattle.reducer.specs.NormalTest.{Tests, Decides}
-use Rattle.reducer.specs.declared.normal.Part.{Part}
+use Rattle.normality.specs.NormalTest.{Tests, Decides}
+use Rattle.normality.specs.declared.normal.Part.{Part}
 
 -- no binder is in scope yet: marks for as many as there can be words
 pub space-none : (l : ℕ) → l ≤ 8192 → Space 1 (replicate 8192 0) 0 l

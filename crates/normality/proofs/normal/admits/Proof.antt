@@ -1,10 +1,10 @@
 -- The arms of the match are those of the definition.
 use mathlib.Core.Path.{sym, _∙_, ap}
-use Rattle.reducer.specs.Roles.{suits}
-use Rattle.reducer.specs.declared.normal.Role.{Role}
+use Rattle.normality.specs.Roles.{suits}
+use Rattle.normality.specs.declared.normal.Role.{Role}
 use borrow.Author.Needs.{needs}
-use Rattle.reducer.proofs.normal.admits.Statement.{statement}
-use Rattle.reducer.proofs.normal.admits.Tie as tie
+use Rattle.normality.proofs.normal.admits.Statement.{statement}
+use Rattle.normality.proofs.normal.admits.Tie as tie
 
 pub admits-spec : {M : Type 1} → statement M
 unfolding suits

@@ -6,9 +6,9 @@ use mathlib.Core.Bool.{Bool, true, false}
 use mathlib.Core.Logic.{_⊎_, inl, inr}
 use lib.Dec.{eqb}
 use borrow.Author.Tests.{ne-eqb, eqb-true, eqb-false}
-use Rattle.reducer.specs.Roles.{operationKind}
-use Rattle.reducer.proofs.normal.operation_kind.Statement.{statement}
-use Rattle.reducer.proofs.normal.operation_kind.Tie as tie
+use Rattle.normality.specs.Roles.{operationKind}
+use Rattle.normality.proofs.normal.operation_kind.Statement.{statement}
+use Rattle.normality.proofs.normal.operation_kind.Tie as tie
 
 is-key : (k : ℕ) → (k ≡ 1) ⊎ (k ≡ 3) → true ≡ operationKind k
 unfolding operationKind

@@ -1,9 +1,9 @@
 -- The arms of the match are those of the definition.
 use mathlib.Core.Path.{sym, ap}
 use borrow.Author.Tests.{ne-eqb}
-use Rattle.reducer.specs.Roles.{firstRole}
-use Rattle.reducer.proofs.normal.first_role.Statement.{statement}
-use Rattle.reducer.proofs.normal.first_role.Tie as tie
+use Rattle.normality.specs.Roles.{firstRole}
+use Rattle.normality.proofs.normal.first_role.Statement.{statement}
+use Rattle.normality.proofs.normal.first_role.Tie as tie
 
 pub first-role-spec : {M : Type 1} → statement M
 first-role-spec = tie.close
