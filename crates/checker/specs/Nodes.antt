@@ -1,15 +1,15 @@
 -- Typing of one node from the types of its parts, as the code does it; law: `infer-node`.
 use Prim.Native.Nat.{ℕ}
 use mathlib.Core.Bool.{cond, _&&_}
-use mathlib.Core.List.{List}
+use mathlib.Core.List.{List, [], _∷_}
 use mathlib.Core.Option.{Option, some, none}
 use lib.Dec.{leb, eqb}
-use lib.ListN.{getD, take}
+use lib.ListN.{getD, getElem?, take}
 use Rattle.syntax.specs.Maybe.{_>>=_, given}
-use Rattle.syntax.specs.Words.{leftOf, rightOf}
+use Rattle.syntax.specs.Words.{leftOf, rightOf, kindOf, numberOf, typeOf}
 use Rattle.syntax.specs.Tables.{Tables, arrow, product, sum, components, signature, arity}
 use Rattle.syntax.specs.Kinds.{usesType}
-use Rattle.typing.specs.Infer.{equal}
+use Rattle.typing.specs.Infer.{Context, equal}
 use Rattle.checker.specs.declared.infer.Components.{Components}
 use Rattle.checker.specs.declared.infer.Components.the-variants.{Of, Missing}
 
@@ -58,3 +58,8 @@ nodeType tables k n A F =
     cond (eqb k 1) (callType tables n F)
     (cond (eqb k 4) (some (getD F 1 0))
     (components tables (formOf k) (subjectOf k A (getD F 0 0)) >>= λ (X, Y). judge k A F X Y))
+
+-- the type of a node that has no parts: a variable's in a context, or a call's
+unfoldable pub leafType : Tables → Context → ℕ → Option ℕ
+leafType tables Γ w =
+    cond (eqb (kindOf w) 0) (getElem? Γ (numberOf w)) (nodeType tables (kindOf w) (numberOf w) (typeOf w) (0 ∷ 0 ∷ 0 ∷ []))

@@ -69,7 +69,8 @@ pub fn term_verdict(types: &[u64], calls: &[u64], inputs: &[u64], term: &[u64]) 
     if scoped(calls, inputs.len(), term, &mut stack) == 0 {
         return Checked { refusal: 8, ty: 0 };
     }
-    let r = infer(types, calls, inputs, &mut stack, 0, term);
+    let mut nodes: [u64; PENDING] = [0; PENDING];
+    let r = infer(types, calls, inputs, &mut stack, &mut nodes, term);
     match r {
         Inferred::Typed(a, _) => Checked { refusal: 0, ty: a },
         Inferred::Untyped => Checked { refusal: 9, ty: 0 },

@@ -10,7 +10,7 @@ ghost use Rattle.syntax.specs.Tables.{over, components as componentsAt};
 ghost use Rattle.parts.specs.Fronts.{Starts};
 ghost use Rattle.typing.specs.Infer.{equal};
 ghost use Rattle.checker.specs.Answers.{scope, inferredOf, Infers};
-ghost use Rattle.checker.specs.Nodes.{componentsOf, binderType, formOf, judge as judgeOf, callType, nodeType};
+ghost use Rattle.checker.specs.Nodes.{componentsOf, binderType, formOf, judge as judgeOf, callType, nodeType, leafType};
 
 pub enum Components {
     Of(u64, u64),
@@ -193,49 +193,110 @@ fn node_type(types: &[u64], calls: &[u64], w: u64, a: u64, b: u64, c: u64, words
     }
 }
 
-// 9: the type of the first term, with its number of words; the types of its binders go on the stack from the depth on
+// the type of a node that has no parts
+fn leaf(
+    types: &[u64],
+    calls: &[u64],
+    inputs: &[u64],
+    stack: &[u64],
+    depth: usize,
+    w: u64,
+) -> Inferred
+    requires { ⌜ depth ≤ length (now stack) ⌝ }
+    ensures { λ r. ⌜
+        r ≡ inferredOf
+        (leafType (over (now (types .entry)) (now (calls .entry)) []) (scope (now (inputs .entry)) (now (stack .entry)) depth) w) 1
+        ⌝ }
+{
+    if parts::fields::kind(w) == 0 {
+        return variable(inputs, stack, depth, parts::fields::number(w));
+    }
+    node_type(types, calls, w, 0, 0, 0, 1)
+}
+
+// 9: the type of the first term, with its number of words. A node is opened where it begins, and has its type when its last part has.
+// `nodes` has for each open node the types of its parts so far and then its head: four times its place in the words, and the number of the
+// part that is being typed. `stack` has the types of the binders in scope. Of `top` and `depth` words each is in use.
 pub fn infer(
     types: &[u64],
     calls: &[u64],
     inputs: &[u64],
     stack: &mut [u64],
-    depth: usize,
+    nodes: &mut [u64],
     term: &[u64],
 ) -> Inferred
-    requires room { ⌜ depth + length (now term) ≤ length (now stack) ⌝ }
+    requires small { ⌜ length (now term) ≤ 65536 ⌝ }
+    requires room { ⌜ (length (now term) + 2 ≤ length (now stack)) × (length (now term) + 2 ≤ length (now nodes)) ⌝ }
     requires starts { ⌜ Starts (now calls) (now term) ⌝ }
-    ensures kept { λ _. ⌜ scope (now (inputs .entry)) (now (stack .exit)) depth ≡ scope (now (inputs .entry)) (now (stack .entry)) depth ⌝ }
-    ensures typed { λ r. ⌜
-        Infers (over (now (types .entry)) (now (calls .entry)) (now (inputs .entry)))
-        (scope (now (inputs .entry)) (now (stack .entry)) depth) (now (term .entry)) r
+    ensures { λ r. ⌜
+        Infers (over (now (types .entry)) (now (calls .entry)) (now (inputs .entry))) (now (inputs .entry)) (now (term .entry)) r
         ⌝ }
 {
-    let w = term[0];
-    let k = parts::fields::kind(w);
-    if k == 0 {
-        return variable(inputs, stack, depth, parts::fields::number(w));
-    }
-    let count = parts::shape::part_count(calls, w);
-    if 3 < count {
-        return Inferred::Untyped;
-    }
-    let mut found: [u64; 3] = [0; 3];
-    let mut at: usize = 1;
-    let mut j: usize = 0;
-    while j < count {
-        stack[depth] = binder(types, w, j, found[0]);
-        let inner = depth + parts::shape::binders(k, j);
-        let r = infer(types, calls, inputs, stack, inner, &term[at..]);
-        match r {
-            Inferred::Untyped => {
-                return Inferred::Untyped;
+    let mut at: usize = 0;
+    let mut top: usize = 0;
+    let mut depth: usize = 0;
+    let mut typed: bool = false;
+    let mut a: u64 = 0;
+    loop {
+        if typed {
+            if top == 0 {
+                return Inferred::Typed(a, at);
             }
-            Inferred::Typed(a, l) => {
-                found[j] = a;
-                at = at + l;
+            let last = top - 1;
+            let head = nodes[last];
+            let place = (head / 4) as usize;
+            let j = (head % 4) as usize;
+            let w = term[place];
+            let base = last - j;
+            let outside = depth - parts::shape::binders(parts::fields::kind(w), j);
+            nodes[last] = a;
+            let first = nodes[base];
+            if j + 1 < parts::shape::owed_count(calls, w) {
+                nodes[top] = head + 1;
+                top += 1;
+                stack[outside] = binder(types, w, j + 1, first);
+                depth = outside + parts::shape::binders(parts::fields::kind(w), j + 1);
+                typed = false;
+                continue;
             }
+            let second = pick(1 <= j, nodes[base + 1], 0);
+            let third = pick(2 <= j, nodes[base + 2], 0);
+            let r = node_type(types, calls, w, first, second, third, 0);
+            match r {
+                Inferred::Untyped => {
+                    return Inferred::Untyped;
+                }
+                Inferred::Typed(b, _) => {
+                    a = b;
+                    top = base;
+                    depth = outside;
+                }
+            }
+            continue;
         }
-        j += 1;
+        let w = term[at];
+        let n = parts::shape::owed_count(calls, w);
+        if n == 0 {
+            let r = leaf(types, calls, inputs, stack, depth, w);
+            match r {
+                Inferred::Untyped => {
+                    return Inferred::Untyped;
+                }
+                Inferred::Typed(b, _) => {
+                    a = b;
+                    at += 1;
+                    typed = true;
+                }
+            }
+            continue;
+        }
+        if 3 < n {
+            return Inferred::Untyped;
+        }
+        nodes[top] = at as u64 * 4;
+        top += 1;
+        stack[depth] = binder(types, w, 0, 0);
+        depth = depth + parts::shape::binders(parts::fields::kind(w), 0);
+        at += 1;
     }
-    node_type(types, calls, w, found[0], found[1], found[2], at)
 }

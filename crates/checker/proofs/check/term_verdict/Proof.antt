@@ -8,7 +8,6 @@ use lib.ListN.{length-replicate}
 use Rattle.syntax.specs.Tables.{Tables, over}
 use Rattle.typing.specs.Refusals.{otherLimit}
 use Rattle.checker.specs.Places.{tableRefusal}
-use Rattle.checker.specs.Answers.{scope}
 use Rattle.checker.proofs.Every.{told-true, told-false}
 use Rattle.checker.proofs.Screens.{Ready, ready}
 use Rattle.checker.proofs.TermPlaces.{Decoded, InScope, starts, not-whole, is-whole}
@@ -48,7 +47,6 @@ in-scope c =
     are-in-scope (tables s) (words s) (pass s) (decoded d) _ (c .before .before .scoped .ensures) (c .if2 .left)
 
 pub term-verdict-spec : {M : Type 1} → statement M
-unfolding scope
 term-verdict-spec =
     tie.close
     (tie.spec
@@ -66,19 +64,21 @@ term-verdict-spec =
     let s = d .before .before in
     out-of-scope (tables s) (words s) (pass s) (decoded d) _ (c .before .before .scoped .ensures) (c .if2 .taken))
     (λ c. search needs)
+    (λ c. search needs)
     (λ c κs.
-    let i = c .before in
+    let i = c .before .before in
     let f = fit (whole i .before .before) in
-    (omega (arith, f .short), starts (in-scope i .decoded)))
+    let n = length-replicate {A = ℕ} 8194 0 in
+    (omega (arith, f .short), ((omega (arith, f .short), omega (arith, f .short, n)), starts (in-scope i .decoded))))
     (λ c. search needs)
     (λ c. search needs)
+    (λ c.
+    let r = c .before .before .before .before .before in
+    let i = r .before .before .before in
+    let s = whole i .before .before in
+    has-type (tables s) (words s) (pass s) (in-scope i) _ (r .infer .ensures) _ _ (c .before .r .given .1))
     (λ c.
     let r = c .before .before .before .before in
-    let i = r .before .before in
+    let i = r .before .before .before in
     let s = whole i .before .before in
-    has-type (tables s) (words s) (pass s) (in-scope i) _ (r .infer .ensures .1) _ _ (c .before .r .given .1))
-    (λ c.
-    let r = c .before .before .before in
-    let i = r .before .before in
-    let s = whole i .before .before in
-    has-no-type (tables s) (words s) (pass s) (in-scope i) _ (r .infer .ensures .1) (c .enum-told .given .1)))
+    has-no-type (tables s) (words s) (pass s) (in-scope i) _ (r .infer .ensures) (c .enum-told .given .1)))
