@@ -7,7 +7,6 @@ use native.Mathlib.Omega.{arith}
 use native.Mathlib.Numerals.{add-one}
 use lib.ListN.{length, getD, set, length-set}
 use lib.Seq.{getD-set-same}
-use Rattle.syntax.specs.Maybe.{_>>=_}
 use Rattle.syntax.specs.Words.{kindOf, numberOf, typeOf}
 use Rattle.syntax.specs.Kinds.{bindersAt}
 use Rattle.syntax.specs.Tables.{Tables, over}
@@ -20,13 +19,13 @@ use Rattle.parts.specs.Joined.{joined}
 use Rattle.parts.proofs.Joined.{none-left}
 use Rattle.parts.proofs.PartsAt.{PartsAt}
 use Rattle.typing.specs.Infer.{Context, infer}
-use Rattle.checker.specs.Nodes.{binderType, nodeType}
+use Rattle.checker.specs.Nodes.{binderType, nodeType, typesTo, Enters}
 use Rattle.checker.specs.Answers.{scope}
 use Rattle.checker.proofs.Lookups.{extend, scope-set}
 use Rattle.checker.proofs.PartTypes.{inside, inferParts}
 use Rattle.checker.proofs.OpenNodes.{Open, behind, withPart, climb, climb-none}
-use Rattle.checker.proofs.KeptNodes.{typesTo, typesBefore, types-set, types-kept, Kept, AllKept, kept-node, kept-binder}
-use Rattle.checker.proofs.Inferring.{pushed, Waits, Has}
+use Rattle.checker.proofs.KeptNodes.{types-set, types-kept, Kept, AllKept, kept-node, kept-binder}
+use Rattle.checker.proofs.Inferring.{pushed, entered, Waits, Has}
 
 module _ (types calls inputs words : List ℕ) where
   abbrev tables : Tables
@@ -36,11 +35,9 @@ module _ (types calls inputs words : List ℕ) where
     -- the next part is typed: p is the node's place, j the part that has type A
     abbrev Nexts : (last base p j outside : ℕ) → Type 0
     Nexts last base p j outside =
-        (b B : ℕ) → j + 1 < partCount calls (getD words p 0) → b ≡ bindersAt (kindOf (getD words p 0)) (j + 1)
-        → B ≡ binderType types (kindOf (getD words p 0)) (typeOf (getD words p 0)) (j + 1) (getD (set nodes last A) base 0)
-        → top < length nodes → outside < length stack
-        → Waits types calls inputs words (set stack outside B) (set (set nodes last A) top (getD nodes last 0 + 1)) at (top + 1) (outside + b)
-        t rest
+        (S : List ℕ) (r : ℕ) → Enters types (getD words p 0) (j + 1) (getD (set nodes last A) base 0) stack S outside r
+        → j + 1 < partCount calls (getD words p 0) → top < length nodes → outside < length stack
+        → Waits types calls inputs words S (set (set nodes last A) top (getD nodes last 0 + 1)) at (top + 1) r t rest
 
     -- there is none: the node's type
     abbrev typeWith : (last base p j : ℕ) → Option ℕ
@@ -54,10 +51,9 @@ module _ (types calls inputs words : List ℕ) where
         × (typeWith last base p j ≡ none → infer tables t inputs ≡ none)
 
     module _ (f : Open) (fs : List Open) (k : Kept calls inputs words stack nodes f top depth)
-        (ks : AllKept calls inputs words stack nodes fs (f .base) (f .depth)) (here : PartsAt calls words at (joined (f .later) (behind fs)) rest)
-        (sized : at + sizeAll (joined (f .later) (behind fs)) ≡ size t)
-        (same : infer tables t inputs
-        ≡ climb tables words fs (withPart tables words (getD words (f .place) 0) (f .context) (f .later) (f .part) (f .found) (some A))) where
+        (ks : AllKept calls inputs words stack nodes fs (f .base) (f .depth))
+        (here : PartsAt calls words at (joined (f .later) (behind fs)) rest) (sized : at + sizeAll (joined (f .later) (behind fs)) ≡ size t)
+        (same : infer tables t inputs ≡ climb tables words (f ∷ fs) (some A)) where
       abbrev w : ℕ
       w = getD words (f .place) 0
 
@@ -73,20 +69,21 @@ module _ (types calls inputs words : List ℕ) where
 
       nexts : Nexts last (f .base) (f .place) (f .part) (f .depth)
       unfolding count behind climb AllKept inferParts joined
-      nexts b B more be Be room deep = go (f .later) refl
+      nexts S r enters more room deep =
+          entered types calls inputs words w (f .part + 1) first stack S (f .depth) r enters (go (f .later) refl)
         where
-          ends : top ≡ last + 1
-          ends = k .ends
+          first : ℕ
+          first = getD (set nodes last A) (f .base) 0
 
-          be′ : b ≡ bindersAt (kindOf w) (suc (f .part))
-          be′ = be ∙ ap (bindersAt (kindOf w)) (add-one (f .part))
+          B : ℕ
+          B = binderType types (kindOf w) (typeOf w) (f .part + 1) first
 
           l : last < length nodes
           l = omega (arith, k .ends, room)
 
           go : (ts : Terms) → f .later ≡ ts
               → Waits types calls inputs words (set stack (f .depth) B) (set (set nodes last A) top (getD nodes last 0 + 1)) at (top + 1)
-              (f .depth + b) t rest
+              (f .depth + bindersAt (kindOf w) (f .part + 1)) t rest
           go done e = absurd (omega (arith, more, k .many, ap count e))
           go (arg v us) e = record {
             around = record {
@@ -101,7 +98,7 @@ module _ (types calls inputs words : List ℕ) where
             kept = (
               record {
                 ends = omega (arith, k .ends);
-                deep = ap (λ (n : ℕ). f .depth + n) be′;
+                deep = ap (λ (n : ℕ). f .depth + bindersAt (kindOf w) n) (add-one (f .part));
                 head = ap (λ (n : ℕ). getD (set (set nodes last A) top (getD nodes last 0 + 1)) n 0) at-top
                     ∙ getD-set-same (set nodes last A) top (getD nodes last 0 + 1) 0 (omega (arith, room, length-set nodes last A))
                     ∙ omega (arith, k .head);
@@ -122,22 +119,24 @@ module _ (types calls inputs words : List ℕ) where
             sized = ap (λ (ts : Terms). at + sizeAll (joined ts (behind fs))) (sym e) ∙ sized;
             same = same
                 ∙ ap (λ (ts : Terms). climb tables words fs (withPart tables words w (f .context) ts (f .part) (f .found) (some A))) e
-                ∙ ap (λ (Δ : Context). climb tables words fs (withPart tables words w (f .context) us (suc (f .part)) found (infer tables v Δ)))
-                context;
+                ∙ ap (λ (Δ : Context). climb tables words fs
+                (withPart tables words w (f .context) us (suc (f .part)) found (infer tables v Δ))) context;
           }
             where
               at-top : f .base + suc (f .part) ≡ top
               at-top = omega (arith, k .ends)
 
               context : inside tables (kindOf w) (typeOf w) (f .context) (suc (f .part)) found
-                  ≡ scope inputs (set stack (f .depth) B) (f .depth + b)
-              context = ap₂ {C = Context} (λ (F : ℕ) (Δ : Context). extend (bindersAt (kindOf w) (suc (f .part)))
-                  (binderType types (kindOf w) (typeOf w) (suc (f .part)) F) Δ) (ap (λ (F : List ℕ). getD F 0 0) (found-is l)) (k .in-scope)
-                  ∙ sym (pushed types calls inputs words stack (f .depth) w (suc (f .part)) (getD (set nodes last A) (f .base) 0) b B deep be′
-                  (Be ∙ ap (λ (j : ℕ). binderType types (kindOf w) (typeOf w) j (getD (set nodes last A) (f .base) 0)) (add-one (f .part))))
+                  ≡ scope inputs (set stack (f .depth) B) (f .depth + bindersAt (kindOf w) (f .part + 1))
+              context =
+                  ap (λ (n : ℕ). extend (bindersAt (kindOf w) n) (binderType types (kindOf w) (typeOf w) n (getD found 0 0)) (f .context))
+                  (sym (add-one (f .part)))
+                  ∙ ap₂ {C = Context} (λ (F : ℕ) (Δ : Context). extend (bindersAt (kindOf w) (f .part + 1))
+                  (binderType types (kindOf w) (typeOf w) (f .part + 1) F) Δ) (ap (λ (F : List ℕ). getD F 0 0) (found-is l)) (k .in-scope)
+                  ∙ sym (pushed types calls inputs words stack (f .depth) w (f .part + 1) first deep)
 
       ends : Ends last (f .base) (f .place) (f .part) (f .depth)
-      unfolding inferParts joined
+      unfolding inferParts joined climb
       ends no-more l = (
         λ B e. record {
           around = fs;
@@ -165,8 +164,7 @@ module _ (types calls inputs words : List ℕ) where
       all-kept : AllKept calls inputs words stack nodes others (self .base) (self .depth)
       here : PartsAt calls words at (joined (self .later) (behind others)) rest
       sized : at + sizeAll (joined (self .later) (behind others)) ≡ size t
-      same : infer tables t inputs
-          ≡ climb tables words others (withPart tables words (getD words (self .place) 0) (self .context) (self .later) (self .part) (self .found) (some A))
+      same : infer tables t inputs ≡ climb tables words (self ∷ others) (some A)
 
     innermost : Has types calls inputs words stack nodes at top depth A t rest → 1 ≤ top → Innermost
     unfolding AllKept behind climb
@@ -232,7 +230,8 @@ module _ (types calls inputs words : List ℕ) where
         give-last = moved Ends (ends f (i .others) (i .kept) (i .all-kept) (i .here) (i .sized) (i .same))
 
     -- none is: the type is the whole term's
-    pub give-whole : Has types calls inputs words stack nodes at top depth A t rest → top ≡ 0 → (infer tables t inputs ≡ some A) × (at ≡ size t)
+    pub give-whole : Has types calls inputs words stack nodes at top depth A t rest → top ≡ 0
+        → (infer tables t inputs ≡ some A) × (at ≡ size t)
     unfolding AllKept behind climb
     give-whole g z = go (g .around) (g .kept) (g .sized) (g .same)
       where

@@ -1,25 +1,22 @@
 -- Open nodes in the two buffers of the inference: each stands above those around it, so what is written above leaves them as they were.
-use mathlib.Core.Path.{_≡_, refl, sym, _∙_, ap, ap₂}
+use mathlib.Core.Path.{_≡_, refl, sym, _∙_, ap}
 use mathlib.Core.Bool.{Bool, true, false, cond}
 use mathlib.Core.List.{List, [], _∷_}
 use Prim.Native.Nat.{ℕ, zero, suc, _+_, _*_, _≤_, _<_}
 use native.Mathlib.Omega.{arith}
-use lib.Dec.{leb, ltb}
+use lib.Dec.{ltb}
 use lib.ListN.{length, getD, set}
 use lib.Seq.{getD-set-same, getD-set-other}
 use Rattle.syntax.specs.Words.{kindOf}
 use Rattle.syntax.specs.Kinds.{bindersAt, bindsOf, freeOf}
 use Rattle.syntax.specs.Parts.{partCount}
 use Rattle.syntax.specs.Shaped.{count}
+use Rattle.checker.specs.Nodes.{typesTo}
 use Rattle.checker.specs.Answers.{scope}
 use Rattle.checker.proofs.Lookups.{scope-set}
 use Rattle.checker.proofs.OpenNodes.{Open}
 
--- the types of a node's parts up to part j, which stand from an index on, with zeros up to three
-abbrev pub typesTo : List ℕ → ℕ → ℕ → List ℕ
-typesTo nodes i j = getD nodes i 0 ∷ cond (leb 1 j) (getD nodes (i + 1) 0) 0 ∷ cond (leb 2 j) (getD nodes (i + 2) 0) 0 ∷ []
-
--- and of those before part j
+-- the types of a node's parts before part j, which stand from an index on, with zeros up to three
 abbrev pub typesBefore : List ℕ → ℕ → ℕ → List ℕ
 typesBefore nodes i zero = 0 ∷ 0 ∷ 0 ∷ []
 typesBefore nodes i (suc j) = typesTo nodes i j

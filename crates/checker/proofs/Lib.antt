@@ -12,6 +12,7 @@ pub mod Answered
 pub mod OpenNodes
 pub mod KeptNodes
 pub mod Inferring
+pub mod Beginning
 pub mod Giving
 pub mod Turns
 pub mod Screens

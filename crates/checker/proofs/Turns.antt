@@ -1,11 +1,10 @@
 -- The turns of the inference, for whatever term the words begin with.
-use mathlib.Core.Path.{_≡_, refl, sym, _∙_, ap, ap₂, subst}
-use mathlib.Core.Bool.{Bool, true, false, cond}
-use mathlib.Core.List.{List, [], _∷_}
-use mathlib.Core.Option.{Option, some, none}
+use mathlib.Core.Path.{_≡_, refl, sym, ap, ap₂, subst}
+use mathlib.Core.Bool.{Bool, true, false}
+use mathlib.Core.List.{List, []}
+use mathlib.Core.Option.{Option, none}
 use Prim.Native.Nat.{ℕ, _+_, _-_, _*_, _/_, _%_, _≤_, _<_}
 use native.Mathlib.Omega.{arith}
-use lib.Dec.{leb}
 use lib.ListN.{length, getD, set}
 use Rattle.syntax.specs.Words.{kindOf, numberOf, typeOf}
 use Rattle.syntax.specs.Kinds.{bindersAt}
@@ -15,13 +14,14 @@ use Rattle.syntax.specs.Encoding.{size}
 use Rattle.syntax.specs.Parts.{partCount}
 use Rattle.parts.specs.Fronts.{Holds, Starts}
 use Rattle.typing.specs.Infer.{infer}
-use Rattle.checker.specs.Nodes.{binderType, nodeType, callType, leafType}
+use Rattle.checker.specs.Nodes.{nodeType, callType, leafType, typesTo, Enters}
 use Rattle.checker.specs.Answers.{scope, inferredOf, Infers}
 use Rattle.checker.specs.declared.infer.Inferred.{Inferred}
 use Rattle.checker.specs.declared.infer.Inferred.the-variants.{Typed, Untyped}
 use Rattle.checker.proofs.Answered.{untyped-if, typed-if}
-use Rattle.checker.proofs.KeptNodes.{typesTo, kept-depth}
-use Rattle.checker.proofs.Inferring.{Waits, Has, begins, waits-inside, waits-depth, begin-many, begin-fail, begin-has, begin-open}
+use Rattle.checker.proofs.KeptNodes.{kept-depth}
+use Rattle.checker.proofs.Inferring.{Waits, Has, begins}
+use Rattle.checker.proofs.Beginning.{waits-inside, waits-depth, begin-many, begin-fail, begin-has, begin-open}
 use Rattle.checker.proofs.Giving.{head-inside, give-next, give-last, give-whole}
 
 -- a head in its two parts
@@ -103,9 +103,9 @@ module _ (types calls inputs words : List ℕ) where
 
     -- a part with no parts, and what `leaf` answers
     module _ (z : partCount calls w ≡ 0) (r : Inferred)
-        (e : r ≡ inferredOf (leafType (over types calls []) (scope inputs stack depth) w) 1) where
+        (e : r ≡ inferredOf (leafType (over [] calls []) (scope inputs stack depth) w) 1) where
       answer : r ≡ inferredOf (leafType tables (scope inputs stack depth) w) 1
-      unfolding leafType nodeType callType
+      unfolding leafType callType
       answer = e
 
       pub turn-fail : r ≡ Untyped → Infers tables inputs words Untyped
@@ -118,13 +118,12 @@ module _ (types calls inputs words : List ℕ) where
         stand = λ t rest h. begin-has types calls inputs words (g .stand t rest h) z A (typed-if _ 1 A m r answer u);
       }
 
-    pub turn-open : (b B : ℕ) → 1 ≤ partCount calls w → partCount calls w ≤ 3 → b ≡ bindersAt (kindOf w) 0
-        → B ≡ binderType types (kindOf w) (typeOf w) 0 0 → top < length nodes → depth < length stack
-        → Waiting (set stack depth B) (set nodes top (at * 4)) (at + 1) (top + 1) (depth + b)
-    turn-open b B lo hi be Be room deep = record {
+    pub turn-open : (S : List ℕ) (r : ℕ) → Enters types w 0 0 stack S depth r → 1 ≤ partCount calls w → partCount calls w ≤ 3
+        → top < length nodes → depth < length stack → Waiting S (set nodes top (at * 4)) (at + 1) (top + 1) r
+    turn-open S r enters lo hi room deep = record {
       start = g .start;
       low = omega (arith, g .low);
-      stand = λ t rest h. begin-open types calls inputs words (g .stand t rest h) b B lo hi be Be room deep;
+      stand = λ t rest h. begin-open types calls inputs words (g .stand t rest h) S r enters lo hi room deep;
     }
 
   module _ {stack nodes : List ℕ} {at top depth A : ℕ} (g : Having stack nodes at top depth A) where
@@ -150,7 +149,8 @@ module _ (types calls inputs words : List ℕ) where
     turn-given l short stacked noted =
         let s = g .stand _ _ (g .start .holds) in
         let h = getD nodes (top - 1) 0 in
-        let i = head-inside types calls inputs words stack nodes at top depth A _ _ s l (top - 1) (h / 4) (h % 4) refl (halves h) (quarter h) in
+        let i =
+        head-inside types calls inputs words stack nodes at top depth A _ _ s l (top - 1) (h / 4) (h % 4) refl (halves h) (quarter h) in
         let d = kept-depth calls inputs words stack nodes (s .around) top depth (s .kept) in
         record {
           first = l;
@@ -164,43 +164,41 @@ module _ (types calls inputs words : List ℕ) where
           noted = omega (arith, s .here .inside, g .low, noted);
         }
 
-    module _ (some-open : 1 ≤ top) (last p j : ℕ) (le : last ≡ top - 1) (he : getD nodes last 0 ≡ p * 4 + j) (l : j ≤ 3) where
-      module _ (base outside : ℕ) (be : base ≡ last - j) (oe : outside ≡ depth - bindersAt (kindOf (getD words p 0)) j) where
-        pub turn-next : (b B : ℕ) → j + 1 < partCount calls (getD words p 0) → b ≡ bindersAt (kindOf (getD words p 0)) (j + 1)
-            → B ≡ binderType types (kindOf (getD words p 0)) (typeOf (getD words p 0)) (j + 1) (getD (set nodes last A) base 0)
-            → top < length nodes → outside < length stack
-            → Waiting (set stack outside B) (set (set nodes last A) top (getD nodes last 0 + 1)) at (top + 1) (outside + b)
-        turn-next b B more bs Be room deep = record {
+    module _ (some-open : 1 ≤ top) (last p j : ℕ) (le : last ≡ top - 1) (he : getD nodes last 0 ≡ p * 4 + j) (l : j ≤ 3)
+        (base outside : ℕ) (be : base ≡ last - j) (oe : outside ≡ depth - bindersAt (kindOf (getD words p 0)) j) where
+      abbrev v : ℕ
+      v = getD words p 0
+
+      pub turn-next : (S : List ℕ) (r : ℕ) → Enters types v (j + 1) (getD (set nodes last A) base 0) stack S outside r
+          → j + 1 < partCount calls v → top < length nodes → outside < length stack
+          → Waiting S (set (set nodes last A) top (getD nodes last 0 + 1)) at (top + 1) r
+      turn-next S r enters more room deep = record {
+        start = g .start;
+        low = g .low;
+        stand = λ t rest h.
+            give-next types calls inputs words stack nodes at top depth A t rest (g .stand t rest h) some-open last p j le he l base outside
+            be oe S r enters more room deep;
+      }
+
+      -- no part is left, and what `type_from` answers
+      module _ (no-more : partCount calls v ≤ j + 1) (room : last < length nodes) (r : Inferred)
+          (e : r ≡ inferredOf (nodeType (over types calls []) (kindOf v) (numberOf v) (typeOf v)
+          (typesTo (set nodes last A) base j)) 0) where
+        answered : r ≡ inferredOf (nodeType tables (kindOf v) (numberOf v) (typeOf v)
+            (typesTo (set nodes last A) base j)) 0
+        unfolding nodeType callType
+        answered = e
+
+        pub turn-untyped : r ≡ Untyped → Infers tables inputs words Untyped
+        turn-untyped u = untyped λ t rest h.
+            give-last types calls inputs words stack nodes at top depth A t rest (g .stand t rest h) some-open last p j le he l base outside
+            be oe no-more room .1 (untyped-if _ 0 r answered u)
+
+        pub turn-last : (B m : ℕ) → r ≡ Typed B m → Having stack (set nodes last A) at base outside B
+        turn-last B m u = record {
           start = g .start;
-          low = g .low;
+          low = omega (arith, g .low, be, le);
           stand = λ t rest h.
-              give-next types calls inputs words stack nodes at top depth A t rest (g .stand t rest h) some-open last p j le he l base outside be oe
-              b B more bs Be room deep;
+              give-last types calls inputs words stack nodes at top depth A t rest (g .stand t rest h) some-open last p j le he l base
+              outside be oe no-more room .0 B (typed-if _ 0 B m r answered u);
         }
-
-        -- no part is left, and what `node_type` answers
-        module _ (no-more : partCount calls (getD words p 0) ≤ j + 1) (room : last < length nodes) (y z : ℕ) (r : Inferred)
-            (ye : y ≡ cond (leb 1 j) (getD (set nodes last A) (base + 1) 0) 0) (ze : z ≡ cond (leb 2 j) (getD (set nodes last A) (base + 2) 0) 0)
-            (e : r ≡ inferredOf (nodeType (over types calls []) (kindOf (getD words p 0)) (numberOf (getD words p 0)) (typeOf (getD words p 0))
-            (getD (set nodes last A) base 0 ∷ y ∷ z ∷ [])) 0) where
-          abbrev of-types : List ℕ → Option ℕ
-          of-types = nodeType tables (kindOf (getD words p 0)) (numberOf (getD words p 0)) (typeOf (getD words p 0))
-
-          answered : r ≡ inferredOf (of-types (typesTo (set nodes last A) base j)) 0
-          unfolding nodeType callType
-          answered =
-              e ∙ ap₂ {C = Inferred} (λ (m n : ℕ). inferredOf (of-types (getD (set nodes last A) base 0 ∷ m ∷ n ∷ [])) 0) ye ze
-
-          pub turn-untyped : r ≡ Untyped → Infers tables inputs words Untyped
-          turn-untyped u = untyped λ t rest h.
-              give-last types calls inputs words stack nodes at top depth A t rest (g .stand t rest h) some-open last p j le he l base outside be
-              oe no-more room .1 (untyped-if _ 0 r answered u)
-
-          pub turn-last : (B m : ℕ) → r ≡ Typed B m → Having stack (set nodes last A) at base outside B
-          turn-last B m u = record {
-            start = g .start;
-            low = omega (arith, g .low, be, le);
-            stand = λ t rest h.
-                give-last types calls inputs words stack nodes at top depth A t rest (g .stand t rest h) some-open last p j le he l base outside
-                be oe no-more room .0 B (typed-if _ 0 B m r answered u);
-          }

@@ -2,7 +2,7 @@
 ghost use mathlib.Core.Path.{_≡_};
 ghost use mathlib.Core.Bool.{cond};
 ghost use mathlib.Core.List.{[], _∷_};
-ghost use Prim.Native.Nat.{_+_, _≤_};
+ghost use Prim.Native.Nat.{_+_, _≤_, _<_};
 ghost use lib.ListN.{length, getD, take, getElem?};
 ghost use Rattle.syntax.specs.Maybe.{given as givenOf};
 ghost use Rattle.syntax.specs.Words.{countOf, argumentFields, kindOf, numberOf, typeOf};
@@ -10,7 +10,8 @@ ghost use Rattle.syntax.specs.Tables.{over, components as componentsAt};
 ghost use Rattle.parts.specs.Fronts.{Starts};
 ghost use Rattle.typing.specs.Infer.{equal};
 ghost use Rattle.checker.specs.Answers.{scope, inferredOf, Infers};
-ghost use Rattle.checker.specs.Nodes.{componentsOf, binderType, formOf, judge as judgeOf, callType, nodeType, leafType};
+ghost use Rattle.checker.specs.Nodes.{componentsOf, binderType, formOf, judge as judgeOf, callType, nodeType};
+ghost use Rattle.checker.specs.Nodes.{leafType, typesTo, Enters};
 
 pub enum Components {
     Of(u64, u64),
@@ -193,25 +194,42 @@ fn node_type(types: &[u64], calls: &[u64], w: u64, a: u64, b: u64, c: u64, words
     }
 }
 
-// the type of a node that has no parts
-fn leaf(
-    types: &[u64],
-    calls: &[u64],
-    inputs: &[u64],
-    stack: &[u64],
-    depth: usize,
-    w: u64,
-) -> Inferred
+// puts the type of the variable that a node binds in its part j on the stack, and answers the depth of that part. It is written whether or
+// not the part stands under a binder: that is faster than asking.
+fn enter(types: &[u64], w: u64, j: usize, first: u64, stack: &mut [u64], depth: usize) -> usize
+    requires { ⌜ depth < length (now stack) ⌝ }
+    ensures { λ r. ⌜ Enters (now (types .entry)) w j first (now (stack .entry)) (now (stack .exit)) depth r ⌝ }
+{
+    stack[depth] = binder(types, w, j, first);
+    depth + parts::shape::binders(parts::fields::kind(w), j)
+}
+
+// the type of a node that has no parts: a variable, or a call with no arguments
+fn leaf(calls: &[u64], inputs: &[u64], stack: &[u64], depth: usize, w: u64) -> Inferred
     requires { ⌜ depth ≤ length (now stack) ⌝ }
     ensures { λ r. ⌜
-        r ≡ inferredOf
-        (leafType (over (now (types .entry)) (now (calls .entry)) []) (scope (now (inputs .entry)) (now (stack .entry)) depth) w) 1
+        r ≡ inferredOf (leafType (over [] (now (calls .entry)) []) (scope (now (inputs .entry)) (now (stack .entry)) depth) w) 1
         ⌝ }
 {
+    let n = parts::fields::number(w);
     if parts::fields::kind(w) == 0 {
-        return variable(inputs, stack, depth, parts::fields::number(w));
+        return variable(inputs, stack, depth, n);
     }
-    node_type(types, calls, w, 0, 0, 0, 1)
+    call_type(calls, n, 0, 0, 0, 1)
+}
+
+// a node's type from its parts' types, which stand from an index on, that of part j last
+fn type_from(types: &[u64], calls: &[u64], w: u64, nodes: &[u64], base: usize, j: usize) -> Inferred
+    requires { ⌜ base + 2 < length (now nodes) ⌝ }
+    ensures { λ r. ⌜
+        r ≡ inferredOf
+        (nodeType (over (now (types .entry)) (now (calls .entry)) []) (kindOf w) (numberOf w) (typeOf w)
+        (typesTo (now (nodes .entry)) base j)) 0
+        ⌝ }
+{
+    let second = pick(1 <= j, nodes[base + 1], 0);
+    let third = pick(2 <= j, nodes[base + 2], 0);
+    node_type(types, calls, w, nodes[base], second, third, 0)
 }
 
 // 9: the type of the first term, with its number of words. A node is opened where it begins, and has its type when its last part has.
@@ -250,18 +268,15 @@ pub fn infer(
             let base = last - j;
             let outside = depth - parts::shape::binders(parts::fields::kind(w), j);
             nodes[last] = a;
-            let first = nodes[base];
             if j + 1 < parts::shape::owed_count(calls, w) {
+                let first = nodes[base];
                 nodes[top] = head + 1;
                 top += 1;
-                stack[outside] = binder(types, w, j + 1, first);
-                depth = outside + parts::shape::binders(parts::fields::kind(w), j + 1);
+                depth = enter(types, w, j + 1, first, stack, outside);
                 typed = false;
                 continue;
             }
-            let second = pick(1 <= j, nodes[base + 1], 0);
-            let third = pick(2 <= j, nodes[base + 2], 0);
-            let r = node_type(types, calls, w, first, second, third, 0);
+            let r = type_from(types, calls, w, nodes, base, j);
             match r {
                 Inferred::Untyped => {
                     return Inferred::Untyped;
@@ -277,7 +292,7 @@ pub fn infer(
         let w = term[at];
         let n = parts::shape::owed_count(calls, w);
         if n == 0 {
-            let r = leaf(types, calls, inputs, stack, depth, w);
+            let r = leaf(calls, inputs, stack, depth, w);
             match r {
                 Inferred::Untyped => {
                     return Inferred::Untyped;
@@ -295,8 +310,7 @@ pub fn infer(
         }
         nodes[top] = at as u64 * 4;
         top += 1;
-        stack[depth] = binder(types, w, 0, 0);
-        depth = depth + parts::shape::binders(parts::fields::kind(w), 0);
+        depth = enter(types, w, 0, 0, stack, depth);
         at += 1;
     }
 }
