@@ -27,7 +27,7 @@ use Rattle.checker.proofs.PartTypes.{inside, inferParts}
 use Rattle.checker.proofs.InferNode.{infer-node, infer-leaf, infer-many}
 use Rattle.checker.proofs.OpenNodes.{behind, withPart, climb, climb-none}
 use Rattle.checker.proofs.KeptNodes.{AllKept, kept-node, kept-binder, kept-depth}
-use Rattle.checker.proofs.Inferring.{pushed, Waits, entered, Has}
+use Rattle.checker.proofs.Inferring.{pushed, Waits, entered, Ended}
 
 module _ (types calls inputs words : List ℕ) where
   abbrev tables : Tables
@@ -94,7 +94,7 @@ module _ (types calls inputs words : List ℕ) where
     begin-fail z e = g .same ∙ ap (climb tables words (g .around)) (begin-leaf z ∙ e) ∙ climb-none tables words (g .around)
 
     pub begin-has : partCount calls w ≡ 0 → (A : ℕ) → leafType tables Γ w ≡ some A
-        → Has types calls inputs words stack nodes (at + 1) top depth A t rest
+        → Ended types calls inputs words stack nodes (at + 1) top depth A t rest
     unfolding joined
     begin-has z A e = record {
       around = g .around;

@@ -25,7 +25,7 @@ use Rattle.checker.proofs.Lookups.{extend, scope-set}
 use Rattle.checker.proofs.PartTypes.{inside, inferParts}
 use Rattle.checker.proofs.OpenNodes.{Open, behind, withPart, climb, climb-none}
 use Rattle.checker.proofs.KeptNodes.{types-set, types-kept, Kept, AllKept, kept-node, kept-binder}
-use Rattle.checker.proofs.Inferring.{pushed, entered, Waits, Has}
+use Rattle.checker.proofs.Inferring.{pushed, entered, Waits, Ended}
 
 module _ (types calls inputs words : List ℕ) where
   abbrev tables : Tables
@@ -47,7 +47,7 @@ module _ (types calls inputs words : List ℕ) where
     abbrev Ends : (last base p j outside : ℕ) → Type 0
     Ends last base p j outside =
         partCount calls (getD words p 0) ≤ j + 1 → last < length nodes
-        → ((B : ℕ) → typeWith last base p j ≡ some B → Has types calls inputs words stack (set nodes last A) at base outside B t rest)
+        → ((B : ℕ) → typeWith last base p j ≡ some B → Ended types calls inputs words stack (set nodes last A) at base outside B t rest)
         × (typeWith last base p j ≡ none → infer tables t inputs ≡ none)
 
     module _ (f : Open) (fs : List Open) (k : Kept calls inputs words stack nodes f top depth)
@@ -166,7 +166,7 @@ module _ (types calls inputs words : List ℕ) where
       sized : at + sizeAll (joined (self .later) (behind others)) ≡ size t
       same : infer tables t inputs ≡ climb tables words (self ∷ others) (some A)
 
-    innermost : Has types calls inputs words stack nodes at top depth A t rest → 1 ≤ top → Innermost
+    innermost : Ended types calls inputs words stack nodes at top depth A t rest → 1 ≤ top → Innermost
     unfolding AllKept behind climb
     innermost g l = go (g .around) (g .kept) (g .here) (g .sized) (g .same)
       where
@@ -176,8 +176,8 @@ module _ (types calls inputs words : List ℕ) where
         go (f ∷ fs) (k, ks) h z e = record { self = f; others = fs; kept = k; all-kept = ks; here = h; sized = z; same = e }
 
     -- its head says where its word is and which part has the type
-    module _ (g : Has types calls inputs words stack nodes at top depth A t rest) (some-open : 1 ≤ top) (last p j : ℕ) (le : last ≡ top - 1)
-        (he : getD nodes last 0 ≡ p * 4 + j) (l : j ≤ 3) where
+    module _ (g : Ended types calls inputs words stack nodes at top depth A t rest) (some-open : 1 ≤ top) (last p j : ℕ)
+        (le : last ≡ top - 1) (he : getD nodes last 0 ≡ p * 4 + j) (l : j ≤ 3) where
       abbrev i : Innermost
       i = innermost g some-open
 
@@ -230,7 +230,7 @@ module _ (types calls inputs words : List ℕ) where
         give-last = moved Ends (ends f (i .others) (i .kept) (i .all-kept) (i .here) (i .sized) (i .same))
 
     -- none is: the type is the whole term's
-    pub give-whole : Has types calls inputs words stack nodes at top depth A t rest → top ≡ 0
+    pub give-whole : Ended types calls inputs words stack nodes at top depth A t rest → top ≡ 0
         → (infer tables t inputs ≡ some A) × (at ≡ size t)
     unfolding AllKept behind climb
     give-whole g z = go (g .around) (g .kept) (g .sized) (g .same)

@@ -52,7 +52,7 @@ module _ (types calls inputs words : List ℕ) where
       (subst (λ (n : ℕ). Waits (set stack depth (binderType types (kindOf w) (typeOf w) j F)) nodes at top n t rest) (sym (e .deep)) g)
 
   -- a part of type A ends before the next word
-  pub record Has (stack nodes : List ℕ) (at top depth A : ℕ) (t : Term) (rest : List ℕ) : Type 0 where
+  pub record Ended (stack nodes : List ℕ) (at top depth A : ℕ) (t : Term) (rest : List ℕ) : Type 0 where
     pub around : List Open
     pub kept : AllKept calls inputs words stack nodes around top depth
     pub here : PartsAt calls words at (behind around) rest

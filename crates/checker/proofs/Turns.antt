@@ -1,5 +1,5 @@
 -- The turns of the inference, for whatever term the words begin with.
-use mathlib.Core.Path.{_≡_, refl, sym, ap, ap₂, subst}
+use mathlib.Core.Path.{_≡_, refl, sym, _∙_, ap, ap₂, subst}
 use mathlib.Core.Bool.{Bool, true, false}
 use mathlib.Core.List.{List, []}
 use mathlib.Core.Option.{Option, none}
@@ -12,15 +12,18 @@ use Rattle.syntax.specs.Tables.{Tables, over}
 use Rattle.syntax.specs.Term.{Term}
 use Rattle.syntax.specs.Encoding.{size}
 use Rattle.syntax.specs.Parts.{partCount}
-use Rattle.parts.specs.Fronts.{Holds, Starts}
+use Rattle.parts.specs.Fronts.{Holds, Starts, from}
+use Rattle.parts.proofs.PartsAt.{first-from}
 use Rattle.typing.specs.Infer.{infer}
 use Rattle.checker.specs.Nodes.{nodeType, callType, leafType, typesTo, Enters}
-use Rattle.checker.specs.Answers.{scope, inferredOf, Infers}
+use Rattle.checker.specs.Answers.{scope, inferredOf, begunOf, Infers}
+use Rattle.checker.specs.declared.infer.Begun.{Begun}
+use Rattle.checker.specs.declared.infer.Begun.the-variants.{Has, Fails, Opens}
 use Rattle.checker.specs.declared.infer.Inferred.{Inferred}
 use Rattle.checker.specs.declared.infer.Inferred.the-variants.{Typed, Untyped}
-use Rattle.checker.proofs.Answered.{untyped-if, typed-if}
+use Rattle.checker.proofs.Answered.{untyped-if, typed-if, begun-has, begun-opens, begun-fails}
 use Rattle.checker.proofs.KeptNodes.{kept-depth}
-use Rattle.checker.proofs.Inferring.{Waits, Has, begins}
+use Rattle.checker.proofs.Inferring.{Waits, Ended, begins}
 use Rattle.checker.proofs.Beginning.{waits-inside, waits-depth, begin-many, begin-fail, begin-has, begin-open}
 use Rattle.checker.proofs.Giving.{head-inside, give-next, give-last, give-whole}
 
@@ -45,7 +48,7 @@ module _ (types calls inputs words : List ℕ) where
   pub record Having (stack nodes : List ℕ) (at top depth A : ℕ) : Type 0 where
     pub start : Starts calls words
     pub low : top + 1 ≤ at
-    pub stand : (t : Term) (rest : List ℕ) → Holds calls words t rest → Has types calls inputs words stack nodes at top depth A t rest
+    pub stand : (t : Term) (rest : List ℕ) → Holds calls words t rest → Ended types calls inputs words stack nodes at top depth A t rest
 
   -- the loop's invariant, by whether a type is at hand
   abbrev pub Turn : (stack nodes : List ℕ) (at top depth : ℕ) → Bool → ℕ → Type 0
@@ -76,7 +79,7 @@ module _ (types calls inputs words : List ℕ) where
     w = getD words at 0
 
     -- where the next word is, and room in the buffers
-    pub record Begun : Type 0 where
+    pub record Room : Type 0 where
       pub inside : at < length words
       pub deep : depth ≤ top
       pub low : top ≤ at
@@ -84,8 +87,8 @@ module _ (types calls inputs words : List ℕ) where
       pub stacked : depth < length stack
       pub noted : top < length nodes
 
-    pub turn-begun : length words ≤ 65536 → length words + 2 ≤ length stack → length words + 2 ≤ length nodes → Begun
-    turn-begun short stacked noted =
+    pub turn-room : length words ≤ 65536 → length words + 2 ≤ length stack → length words + 2 ≤ length nodes → Room
+    turn-room short stacked noted =
         let s = g .stand _ _ (g .start .holds) in
         let i = waits-inside types calls inputs words s in
         let d = waits-depth types calls inputs words s in
@@ -98,33 +101,36 @@ module _ (types calls inputs words : List ℕ) where
           noted = omega (arith, i, g .low, noted);
         }
 
-    pub turn-many : 3 < partCount calls w → Infers tables inputs words Untyped
-    turn-many l = untyped λ t rest h. begin-many types calls inputs words (g .stand t rest h) l
-
-    -- a part with no parts, and what `leaf` answers
-    module _ (z : partCount calls w ≡ 0) (r : Inferred)
-        (e : r ≡ inferredOf (leafType (over [] calls []) (scope inputs stack depth) w) 1) where
-      answer : r ≡ inferredOf (leafType tables (scope inputs stack depth) w) 1
+    -- what `begin` answers of the slice that starts with the part
+    module _ (r : Begun) (e : r ≡ begunOf (partCount calls (getD (from words at) 0 0))
+        (leafType (over [] calls []) (scope inputs stack depth) (getD (from words at) 0 0))) where
+      answer : r ≡ begunOf (partCount calls w) (leafType tables (scope inputs stack depth) w)
       unfolding leafType callType
-      answer = e
+      answer = e ∙ ap (λ (x : ℕ). begunOf (partCount calls x) (leafType tables (scope inputs stack depth) x)) (first-from words at)
 
-      pub turn-fail : r ≡ Untyped → Infers tables inputs words Untyped
-      turn-fail u = untyped λ t rest h. begin-fail types calls inputs words (g .stand t rest h) z (untyped-if _ 1 r answer u)
+      pub turn-fail : r ≡ Fails → Infers tables inputs words Untyped
+      turn-fail u = begun-fails _ _ r answer (Infers tables inputs words Untyped) u
+          (λ z n. untyped λ t rest h. begin-fail types calls inputs words (g .stand t rest h) z n)
+          (λ l. untyped λ t rest h. begin-many types calls inputs words (g .stand t rest h) l)
 
-      pub turn-leaf : (A m : ℕ) → r ≡ Typed A m → Having stack nodes (at + 1) top depth A
-      turn-leaf A m u = record {
-        start = g .start;
-        low = omega (arith, g .low);
-        stand = λ t rest h. begin-has types calls inputs words (g .stand t rest h) z A (typed-if _ 1 A m r answer u);
-      }
+      pub turn-leaf : (A : ℕ) → r ≡ Has A → Having stack nodes (at + 1) top depth A
+      turn-leaf A u =
+          let (z, n) = begun-has _ _ r answer A u in
+          record {
+            start = g .start;
+            low = omega (arith, g .low);
+            stand = λ t rest h. begin-has types calls inputs words (g .stand t rest h) z A n;
+          }
 
-    pub turn-open : (S : List ℕ) (r : ℕ) → Enters types w 0 0 stack S depth r → 1 ≤ partCount calls w → partCount calls w ≤ 3
-        → top < length nodes → depth < length stack → Waiting S (set nodes top (at * 4)) (at + 1) (top + 1) r
-    turn-open S r enters lo hi room deep = record {
-      start = g .start;
-      low = omega (arith, g .low);
-      stand = λ t rest h. begin-open types calls inputs words (g .stand t rest h) S r enters lo hi room deep;
-    }
+      pub turn-open : r ≡ Opens → (S : List ℕ) (d : ℕ) → Enters types w 0 0 stack S depth d → top < length nodes → depth < length stack
+          → Waiting S (set nodes top (at * 4)) (at + 1) (top + 1) d
+      turn-open u S d enters room deep =
+          let (l, m) = begun-opens _ _ r answer u in
+          record {
+            start = g .start;
+            low = omega (arith, g .low);
+            stand = λ t rest h. begin-open types calls inputs words (g .stand t rest h) S d enters l m room deep;
+          }
 
   module _ {stack nodes : List ℕ} {at top depth A : ℕ} (g : Having stack nodes at top depth A) where
     pub turn-whole : top ≡ 0 → Infers tables inputs words (Typed A at)

@@ -7,9 +7,10 @@ ghost use lib.ListN.{length, getD, take, getElem?};
 ghost use Rattle.syntax.specs.Maybe.{given as givenOf};
 ghost use Rattle.syntax.specs.Words.{countOf, argumentFields, kindOf, numberOf, typeOf};
 ghost use Rattle.syntax.specs.Tables.{over, components as componentsAt};
+ghost use Rattle.syntax.specs.Parts.{partCount};
 ghost use Rattle.parts.specs.Fronts.{Starts};
 ghost use Rattle.typing.specs.Infer.{equal};
-ghost use Rattle.checker.specs.Answers.{scope, inferredOf, Infers};
+ghost use Rattle.checker.specs.Answers.{scope, inferredOf, begunOf, Infers};
 ghost use Rattle.checker.specs.Nodes.{componentsOf, binderType, formOf, judge as judgeOf, callType, nodeType};
 ghost use Rattle.checker.specs.Nodes.{leafType, typesTo, Enters};
 
@@ -218,6 +219,40 @@ fn leaf(calls: &[u64], inputs: &[u64], stack: &[u64], depth: usize, w: u64) -> I
     call_type(calls, n, 0, 0, 0, 1)
 }
 
+// a part as it begins: its type if it has no parts itself, or a node to be opened
+pub enum Begun {
+    Has(u64),
+    Fails,
+    Opens,
+}
+
+// begins to type a part, which is a slice that starts in the middle of the term's words
+fn begin(calls: &[u64], inputs: &[u64], stack: &[u64], depth: usize, part: &[u64]) -> Begun
+    requires { ⌜ (depth ≤ length (now stack)) × (1 ≤ length (now part)) ⌝ }
+    ensures { λ r. ⌜
+        r ≡ begunOf (partCount (now (calls .entry)) (getD (now (part .entry)) 0 0))
+        (leafType (over [] (now (calls .entry)) []) (scope (now (inputs .entry)) (now (stack .entry)) depth) (getD (now (part .entry)) 0 0))
+        ⌝ }
+{
+    let w = part[0];
+    let n = parts::shape::owed_count(calls, w);
+    if n == 0 {
+        let r = leaf(calls, inputs, stack, depth, w);
+        match r {
+            Inferred::Typed(a, _) => {
+                return Begun::Has(a);
+            }
+            Inferred::Untyped => {
+                return Begun::Fails;
+            }
+        }
+    }
+    if 3 < n {
+        return Begun::Fails;
+    }
+    Begun::Opens
+}
+
 // a node's type from its parts' types, which stand from an index on, that of part j last
 fn type_from(types: &[u64], calls: &[u64], w: u64, nodes: &[u64], base: usize, j: usize) -> Inferred
     requires { ⌜ base + 2 < length (now nodes) ⌝ }
@@ -234,7 +269,8 @@ fn type_from(types: &[u64], calls: &[u64], w: u64, nodes: &[u64], base: usize, j
 
 // 9: the type of the first term, with its number of words. A node is opened where it begins, and has its type when its last part has.
 // `nodes` has for each open node the types of its parts so far and then its head: four times its place in the words, and the number of the
-// part that is being typed. `stack` has the types of the binders in scope. Of `top` and `depth` words each is in use.
+// part that is being typed. `stack` has the types of the binders in scope. Of `top` and `depth` words each is in use. Each way to the next
+// turn goes there by itself: where they met at the end of the loop, deep terms took a tenth longer.
 pub fn infer(
     types: &[u64],
     calls: &[u64],
@@ -289,28 +325,24 @@ pub fn infer(
             }
             continue;
         }
-        let w = term[at];
-        let n = parts::shape::owed_count(calls, w);
-        if n == 0 {
-            let r = leaf(calls, inputs, stack, depth, w);
-            match r {
-                Inferred::Untyped => {
-                    return Inferred::Untyped;
-                }
-                Inferred::Typed(b, _) => {
-                    a = b;
-                    at += 1;
-                    typed = true;
-                }
+        let begun = begin(calls, inputs, stack, depth, &term[at..]);
+        match begun {
+            Begun::Fails => {
+                return Inferred::Untyped;
             }
-            continue;
+            Begun::Has(b) => {
+                a = b;
+                at += 1;
+                typed = true;
+                continue;
+            }
+            Begun::Opens => {
+                nodes[top] = at as u64 * 4;
+                top += 1;
+                depth = enter(types, term[at], 0, 0, stack, depth);
+                at += 1;
+                continue;
+            }
         }
-        if 3 < n {
-            return Inferred::Untyped;
-        }
-        nodes[top] = at as u64 * 4;
-        top += 1;
-        depth = enter(types, w, 0, 0, stack, depth);
-        at += 1;
     }
 }

@@ -8,8 +8,9 @@ use mathlib.Core.List.{List}
 use lib.ListN.{length, length-set, getD, set}
 use Rattle.syntax.specs.Words.{kindOf}
 use Rattle.syntax.specs.Kinds.{bindersAt}
-use Rattle.checker.proofs.Turns.{Turn, Waiting, Having, Begun, Given, as-having, as-waiting, is-having, is-waiting, halves, quarter}
-use Rattle.checker.proofs.Turns.{turn-first, turn-begun, turn-many, turn-fail, turn-leaf, turn-open}
+use Rattle.parts.proofs.Traversal.{from-length}
+use Rattle.checker.proofs.Turns.{Turn, Waiting, Having, Room, Given, as-having, as-waiting, is-having, is-waiting, halves, quarter}
+use Rattle.checker.proofs.Turns.{turn-first, turn-room, turn-fail, turn-leaf, turn-open}
 use Rattle.checker.proofs.Turns.{turn-given, turn-whole, turn-next, turn-untyped, turn-last}
 use Rattle.checker.proofs.infer.infer.Statement.{statement}
 use Rattle.checker.proofs.infer.infer.Tie as tie
@@ -60,11 +61,11 @@ waiting c =
 
 begun : (c : tie.Else1 Inv-loop μ-loop)
     → (let s = c .before .before .before .before .before .before .before .before .args in
-    Begun (s .types .now) (s .calls .now) (s .inputs .now) (s .term .now) (waiting c))
+    Room (s .types .now) (s .calls .now) (s .inputs .now) (s .term .now) (waiting c))
 begun c =
     let l = c .before .loop in
     let pre = c .before .before .before .before .before .before .before .before .pre in
-    turn-begun _ _ _ _ (waiting c) (pre .0) (omega (arith, pre .1 .0 .0, l .inv .1)) (omega (arith, pre .1 .0 .1, l .inv .2))
+    turn-room _ _ _ _ (waiting c) (pre .0) (omega (arith, pre .1 .0 .0, l .inv .1)) (omega (arith, pre .1 .0 .1, l .inv .2))
 
 of-kind : (b k w j : ℕ) → k ≡ kindOf w → b ≡ bindersAt k j → b ≡ bindersAt (kindOf w) j
 of-kind b k w j e h = h ∙ ap (λ (n : ℕ). bindersAt n j) e
@@ -195,76 +196,73 @@ infer-spec =
     (c .before .before .before .type-from .ensures) _ _ (c .before .r .given .1) in
     (is-having _ _ _ _ _ _ _ _ _ _ _ (d .before .if1 .taken) h, l .inv .1, length-set (l .nodes) (l .top - 1) (l .a) ∙ l .inv .2))
     (λ c.
-    let g = begun c in
+    let g = begun (c .before) in
     omega (arith, g .inside, g .short))
     (λ c.
     let g = begun (c .before) in
     omega (arith, g .inside, g .short))
-    (λ c κs. search needs)
+    (λ c.
+    let g = begun (c .before) in
+    omega (arith, g .inside))
+    (λ c.
+    let g = begun (c .before) in
+    omega (arith, g .inside))
     (λ c κs.
-    let g = begun (c .before .before .before .before) in
-    omega (arith, g .stacked))
+    let d = c .before .before in
+    let g = begun d in
+    let w = d .before .before .before .before .before .before .before .before .args .term .now in
+    (omega (arith, g .stacked), omega (arith, g .inside, from-length w (d .before .loop .at))))
     (λ c. search needs)
-    (λ c. c .before .before .before .before .before .before .before .before .loop .inv .1)
-    (λ c. c .before .before .before .before .before .before .before .before .loop .inv .2)
+    (λ c. c .before .before .before .before .before .before .loop .inv .1)
+    (λ c. c .before .before .before .before .before .before .loop .inv .2)
     (λ c.
-    let t = c .before .before .before .before in
-    let o = t .before in
-    let d = o .before .before in
-    turn-fail _ _ _ _ (waiting d) (omega (arith, t .if4 .taken, o .owed-count2 .ensures .0)) _ (c .before .before .leaf .ensures)
-    (c .enum-told2 .given .1))
+    let b = c .before .before in
+    let d = b .before .before .before in
+    turn-fail _ _ _ _ (waiting d) _ (b .begin .ensures) (c .enum-told2 .given .1))
     (λ c. search needs)
     (λ c.
-    let g = begun (c .before .before .before .before .before .before .before .before) in
+    let g = begun (c .before .before .before .before .before .before) in
     omega (arith, g .inside, g .short))
     (λ c.
-    let d = c .before .before .before .before .before .before .before .before in
+    let d = c .before .before .before .before .before .before in
     let g = begun d in
     omega (arith, g .inside, ap weight (d .if1 .left)))
     (λ c.
-    let t = c .before .before .before .before .before in
-    let o = t .before in
-    let d = o .before .before in
-    let h =
-    turn-leaf _ _ _ _ (waiting d) (omega (arith, t .if4 .taken, o .owed-count2 .ensures .0)) _ (c .before .before .before .leaf .ensures)
-    _ _ (c .before .r2 .given .1) in
-    (h, d .before .loop .inv .1, d .before .loop .inv .2))
-    (λ c. c .before .before .before .before .before .loop .inv .1)
-    (λ c. c .before .before .before .before .before .loop .inv .2)
+    let b = c .before .before .before in
+    let d = b .before .before .before in
+    let l = d .before .loop in
+    (turn-leaf _ _ _ _ (waiting d) _ (b .begin .ensures) _ (c .before .begun .given .1), l .inv .1, l .inv .2))
+    (λ c. search needs)
     (λ c.
-    let t = c .before in
-    let o = t .before in
-    let d = o .before .before in
-    turn-many _ _ _ _ (waiting d) (omega (arith, c .if5 .taken, o .owed-count2 .ensures .0)))
-    (λ c.
-    let g = begun (c .before .before .before .before) in
+    let g = begun (c .before .before .before .before .before) in
     omega (arith, g .inside, g .low, g .short))
     (λ c.
-    let g = begun (c .before .before .before .before) in
+    let g = begun (c .before .before .before .before .before) in
     omega (arith, g .inside, g .low, g .short))
-    (λ c. begun (c .before .before .before .before) .noted)
+    (λ c. begun (c .before .before .before .before .before) .noted)
     (λ c.
-    let g = begun (c .before .before .before .before) in
+    let g = begun (c .before .before .before .before .before) in
     omega (arith, g .inside, g .low, g .short))
-    (λ c κs. begun (c .before .before .before .before .before) .stacked)
     (λ c.
-    let g = begun (c .before .before .before .before .before .before .before .before) in
+    let g = begun (c .before .before .before .before .before) in
+    omega (arith, g .inside, g .short))
+    (λ c. begun (c .before .before .before .before .before .before) .inside)
+    (λ c κs. begun (c .before .before .before .before .before .before .before) .stacked)
+    (λ c.
+    let g = begun (c .before .before .before .before .before .before .before .before .before .before) in
     omega (arith, g .inside, g .short))
     (λ c.
-    let d = c .before .before .before .before .before .before .before .before in
+    let d = c .before .before .before .before .before .before .before .before .before .before in
     let g = begun d in
     omega (arith, g .inside, ap weight (d .if1 .left)))
     (λ c.
-    let u = c .before .before .before .before in
-    let t = u .before in
-    let o = t .before in
-    let d = o .before .before in
+    let b = c .before .before .before .before .before .before .before in
+    let d = b .before .before .before in
     let l = d .before .loop in
     let g = begun d in
-    let n = o .owed-count2 .ensures .0 in
     let e = c .before .before .enter2 .ensures in
-    let h =
-    turn-open _ _ _ _ (waiting d) _ _ e (omega (arith, t .if4 .left, n)) (omega (arith, u .if5 .left, n)) (g .noted) (g .stacked) in (
+    let u = c .before .before .before .before .before .enum-told3 .given .1 in
+    let h = turn-open _ _ _ _ (waiting d) _ (b .begin .ensures) u _ _ e (g .noted) (g .stacked) in (
       is-waiting _ _ _ _ _ _ _ _ _ (l .a) _ (d .if1 .left) h,
       ap (λ (s : List ℕ). length s) (e .stacked) ∙ length-set (l .stack) _ _ ∙ l .inv .1,
       length-set (l .nodes) _ _ ∙ l .inv .2,
