@@ -8,7 +8,12 @@ pub mod PartTypes
 pub mod Clauses
 pub mod InferCall
 pub mod InferNode
+pub mod Answered
+pub mod OpenNodes
+pub mod KeptNodes
 pub mod Inferring
+pub mod Beginning
+pub mod Giving
 pub mod Turns
 pub mod Screens
 pub mod Decoded

@@ -1,5 +1,5 @@
 -- What stands at an index of a list, and in a scope.
-use mathlib.Core.Path.{_≡_, refl, sym, _∙_, ap}
+use mathlib.Core.Path.{_≡_, refl, _∙_, ap}
 use mathlib.Core.List.{List, [], _∷_}
 use mathlib.Core.Option.{some, none}
 use Prim.Native.Nat.{ℕ, zero, suc, _+_, _-_, _≤_, _<_}
@@ -68,15 +68,3 @@ scope-push inputs stack d (suc zero) B h l =
     ap (scope inputs (set stack d B)) (add-one d) ∙ ap (λ (x : ℕ). x ∷ scope inputs (set stack d B) d) (getD-set-same stack d B 0 h)
     ∙ ap {B = List ℕ} (λ g. B ∷ g) (scope-set inputs stack d d B (omega arith))
 scope-push inputs stack d (suc (suc b)) B h l = absurd (omega arith)
-
--- what a call leaves of a deeper scope it leaves of a shallower one
-pub scope-kept : (inputs s s′ : List ℕ) (d b : ℕ) → b ≤ 1 → scope inputs s′ (d + b) ≡ scope inputs s (d + b)
-    → scope inputs s′ d ≡ scope inputs s d
-unfolding scope
-scope-kept inputs s s′ d zero l e = ap (scope inputs s′) (sym (add-zero d)) ∙ e ∙ ap (scope inputs s) (add-zero d)
-scope-kept inputs s s′ d (suc zero) l e = ap tail-of (ap (scope inputs s′) (sym (add-one d)) ∙ e ∙ ap (scope inputs s) (add-one d))
-  where
-    tail-of : List ℕ → List ℕ
-    tail-of [] = []
-    tail-of (x ∷ xs) = xs
-scope-kept inputs s s′ d (suc (suc b)) l e = absurd (omega arith)

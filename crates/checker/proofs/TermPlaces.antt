@@ -27,7 +27,7 @@ use Rattle.checker.specs.declared.infer.Inferred.the-variants.{Typed, Un
 use Rattle.checker.proofs.Screens.{termChecks, elaborate-passes, ready}
 use Rattle.checker.proofs.Decoded.{kinds-of, holds-decoded}
 use Rattle.checker.proofs.Scoping.{scoped-if, unscoped-if}
-use Rattle.checker.proofs.Inferring.{untyped-if, typed-if}
+use Rattle.checker.proofs.Answered.{untyped-if, typed-if}
 
 -- place 7 passed: the term that the words stand for
 pub record Decoded (tables : Tables) (words : List ℕ) : Type 0 where
@@ -121,4 +121,4 @@ module _ (tables : Tables) (words : List ℕ) (pass : tableRefusal otherLimit ta
 
     pub has-type : (A n : ℕ) → r ≡ Typed A n → Answer (record { refusal = 0; ty = A })
     has-type A n z = answers _
-        (simp (i .decoded .is, i .in-scope, typed-if (infer tables term (tables .inputs)) (size term) A n r typed z .0))
+        (simp (i .decoded .is, i .in-scope, typed-if (infer tables term (tables .inputs)) (size term) A n r typed z))

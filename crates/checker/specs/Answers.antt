@@ -4,7 +4,7 @@ use mathlib.Core.Path.{_≡_}
 use mathlib.Core.Bool.{Bool, false, cond}
 use mathlib.Core.List.{List, _∷_}
 use mathlib.Core.Option.{Option, some, none}
-use lib.Dec.{eqb}
+use lib.Dec.{eqb, leb}
 use lib.ListN.{getD}
 use Rattle.syntax.specs.Maybe.{given}
 use Rattle.syntax.specs.Words.{kindOf, numberOf}
@@ -14,6 +14,8 @@ use Rattle.syntax.specs.Encoding.{size}
 use Rattle.parts.specs.Fronts.{Holds}
 use Rattle.typing.specs.Infer.{Context, infer}
 use Rattle.typing.specs.TermChecks.{scopedAt}
+use Rattle.checker.specs.declared.infer.Begun.{Begun}
+use Rattle.checker.specs.declared.infer.Begun.the-variants.{Has, Fails, Opens}
 use Rattle.checker.specs.declared.infer.Inferred.{Inferred}
 use Rattle.checker.specs.declared.infer.Inferred.the-variants.{Typed, Untyped}
 
@@ -31,6 +33,15 @@ scope inputs stack (suc depth) = getD stack depth 0 ∷ scope inputs stack depth
 abbrev pub inferredOf : Option ℕ → ℕ → Inferred
 inferredOf none n = Untyped
 inferredOf (some A) n = Typed A n
+
+-- a part with no parts, from the type that it has
+abbrev pub knownOf : Option ℕ → Begun
+knownOf none = Fails
+knownOf (some A) = Has A
+
+-- a part of n parts as it begins, from the type that it has if n is zero
+unfoldable pub begunOf : ℕ → Option ℕ → Begun
+begunOf n o = cond (eqb n 0) (knownOf o) (cond (leb n 3) Opens Fails)
 
 -- for whatever term the words begin with: its type in a context, with its number of words
 abbrev pub Infers : Tables → Context → List ℕ → Inferred → Type 0

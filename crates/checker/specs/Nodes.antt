@@ -1,15 +1,16 @@
 -- Typing of one node from the types of its parts, as the code does it; law: `infer-node`.
-use Prim.Native.Nat.{ℕ}
+use Prim.Native.Nat.{ℕ, _+_}
+use mathlib.Core.Path.{_≡_}
 use mathlib.Core.Bool.{cond, _&&_}
-use mathlib.Core.List.{List}
+use mathlib.Core.List.{List, [], _∷_}
 use mathlib.Core.Option.{Option, some, none}
 use lib.Dec.{leb, eqb}
-use lib.ListN.{getD, take}
+use lib.ListN.{getD, getElem?, set, take}
 use Rattle.syntax.specs.Maybe.{_>>=_, given}
-use Rattle.syntax.specs.Words.{leftOf, rightOf}
+use Rattle.syntax.specs.Words.{leftOf, rightOf, kindOf, numberOf, typeOf}
 use Rattle.syntax.specs.Tables.{Tables, arrow, product, sum, components, signature, arity}
-use Rattle.syntax.specs.Kinds.{usesType}
-use Rattle.typing.specs.Infer.{equal}
+use Rattle.syntax.specs.Kinds.{usesType, bindersAt}
+use Rattle.typing.specs.Infer.{Context, equal}
 use Rattle.checker.specs.declared.infer.Components.{Components}
 use Rattle.checker.specs.declared.infer.Components.the-variants.{Of, Missing}
 
@@ -58,3 +59,16 @@ nodeType tables k n A F =
     cond (eqb k 1) (callType tables n F)
     (cond (eqb k 4) (some (getD F 1 0))
     (components tables (formOf k) (subjectOf k A (getD F 0 0)) >>= λ (X, Y). judge k A F X Y))
+
+-- the type of a node of word w that has no parts: a variable's in a context, or a call's
+unfoldable pub leafType : Tables → Context → ℕ → Option ℕ
+leafType tables Γ w = cond (eqb (kindOf w) 0) (getElem? Γ (numberOf w)) (callType tables (numberOf w) (0 ∷ 0 ∷ 0 ∷ []))
+
+-- the types of a node's parts up to part j, which stand from an index on, with zeros up to three
+abbrev pub typesTo : List ℕ → ℕ → ℕ → List ℕ
+typesTo nodes i j = getD nodes i 0 ∷ cond (leb 1 j) (getD nodes (i + 1) 0) 0 ∷ cond (leb 2 j) (getD nodes (i + 2) 0) 0 ∷ []
+
+-- the type of what a node of word w binds in its part j is put on a stack; r is the part's depth
+pub record Enters (types : List ℕ) (w j F : ℕ) (before after : List ℕ) (depth r : ℕ) : Type 0 where
+  pub deep : r ≡ depth + bindersAt (kindOf w) j
+  pub stacked : after ≡ set before depth (binderType types (kindOf w) (typeOf w) j F)

@@ -1,10 +1,14 @@
 // The checks in their order, and the public call `check`.
 ghost use mathlib.Core.Path.{_≡_};
-ghost use Prim.Native.Nat.{_≤_};
+ghost use mathlib.Core.Bool.{true};
+ghost use Prim.Native.Nat.{_+_, _≤_};
+ghost use lib.ListN.{length};
+ghost use Rattle.syntax.specs.Parts.{partEnd};
 ghost use Rattle.syntax.specs.Tables.{over};
 ghost use Rattle.typing.specs.Refusals.{elaborate, otherLimit};
 ghost use Rattle.outcomes.specs.Check.{checkedOf, checkOutcome};
 ghost use Rattle.checker.specs.Places.{tableRefusal};
+ghost use Rattle.checker.specs.Answers.{wholeOf};
 use crate::infer::Inferred;
 use crate::infer::infer;
 use crate::scope::scoped;
@@ -23,6 +27,9 @@ pub const NORMALIZE_LIMIT: usize = 4096;
 
 // the most that any other call takes
 pub const OTHER_LIMIT: usize = 8192;
+
+// the space for a short term, with two words more
+pub const SHORT: usize = 512;
 
 // refusals 1 to 6: the number of the first place that fails, 0 if none does
 pub fn table_refusal(
@@ -55,7 +62,34 @@ pub fn table_refusal(
     0
 }
 
-// refusals 7 to 9 where 1 to 6 pass, or the term's type
+// refusals 8 and 9 where 1 to 7 pass, or the term's type
+fn typed_verdict(
+    types: &[u64],
+    calls: &[u64],
+    inputs: &[u64],
+    term: &[u64],
+    stack: &mut [u64],
+    nodes: &mut [u64],
+) -> Checked
+    requires passed { ⌜ tableRefusal otherLimit (over (now types) (now calls) (now inputs)) (now term) ≡ 0 ⌝ }
+    requires whole { ⌜ wholeOf (partEnd (now calls) (now term)) (length (now term)) ≡ true ⌝ }
+    requires room { ⌜ (length (now term) + 2 ≤ length (now stack)) × (length (now term) + 2 ≤ length (now nodes)) ⌝ }
+    ensures { λ r. ⌜
+        r ≡ checkedOf (elaborate otherLimit (over (now (types .entry)) (now (calls .entry)) (now (inputs .entry))) (now (term .entry)))
+        ⌝ }
+{
+    if scoped(calls, inputs.len(), term, stack) == 0 {
+        return Checked { refusal: 8, ty: 0 };
+    }
+    let r = infer(types, calls, inputs, stack, nodes, term);
+    match r {
+        Inferred::Typed(a, _) => Checked { refusal: 0, ty: a },
+        Inferred::Untyped => Checked { refusal: 9, ty: 0 },
+    }
+}
+
+// refusals 7 to 9 where 1 to 6 pass, or the term's type. A short term has short buffers: to clear those of the longest term takes longer
+// than to check it.
 pub fn term_verdict(types: &[u64], calls: &[u64], inputs: &[u64], term: &[u64]) -> Checked
     requires { ⌜ tableRefusal otherLimit (over (now types) (now calls) (now inputs)) (now term) ≡ 0 ⌝ }
     ensures { λ r. ⌜
@@ -65,15 +99,14 @@ pub fn term_verdict(types: &[u64], calls: &[u64], inputs: &[u64], term: &[u64]) 
     if !is_whole(calls, term) {
         return Checked { refusal: 7, ty: 0 };
     }
+    if term.len() + 2 <= SHORT {
+        let mut stack: [u64; SHORT] = [0; SHORT];
+        let mut nodes: [u64; SHORT] = [0; SHORT];
+        return typed_verdict(types, calls, inputs, term, &mut stack, &mut nodes);
+    }
     let mut stack: [u64; PENDING] = [0; PENDING];
-    if scoped(calls, inputs.len(), term, &mut stack) == 0 {
-        return Checked { refusal: 8, ty: 0 };
-    }
-    let r = infer(types, calls, inputs, &mut stack, 0, term);
-    match r {
-        Inferred::Typed(a, _) => Checked { refusal: 0, ty: a },
-        Inferred::Untyped => Checked { refusal: 9, ty: 0 },
-    }
+    let mut nodes: [u64; PENDING] = [0; PENDING];
+    typed_verdict(types, calls, inputs, term, &mut stack, &mut nodes)
 }
 
 // refusals 1 to 9 in their order for a term of up to so many words, or the term's type

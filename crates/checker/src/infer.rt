@@ -2,15 +2,17 @@
 ghost use mathlib.Core.Path.{_≡_};
 ghost use mathlib.Core.Bool.{cond};
 ghost use mathlib.Core.List.{[], _∷_};
-ghost use Prim.Native.Nat.{_+_, _≤_};
+ghost use Prim.Native.Nat.{_+_, _≤_, _<_};
 ghost use lib.ListN.{length, getD, take, getElem?};
 ghost use Rattle.syntax.specs.Maybe.{given as givenOf};
 ghost use Rattle.syntax.specs.Words.{countOf, argumentFields, kindOf, numberOf, typeOf};
 ghost use Rattle.syntax.specs.Tables.{over, components as componentsAt};
+ghost use Rattle.syntax.specs.Parts.{partCount};
 ghost use Rattle.parts.specs.Fronts.{Starts};
 ghost use Rattle.typing.specs.Infer.{equal};
-ghost use Rattle.checker.specs.Answers.{scope, inferredOf, Infers};
+ghost use Rattle.checker.specs.Answers.{scope, inferredOf, begunOf, Infers};
 ghost use Rattle.checker.specs.Nodes.{componentsOf, binderType, formOf, judge as judgeOf, callType, nodeType};
+ghost use Rattle.checker.specs.Nodes.{leafType, typesTo, Enters};
 
 pub enum Components {
     Of(u64, u64),
@@ -193,49 +195,154 @@ fn node_type(types: &[u64], calls: &[u64], w: u64, a: u64, b: u64, c: u64, words
     }
 }
 
-// 9: the type of the first term, with its number of words; the types of its binders go on the stack from the depth on
+// puts the type of the variable that a node binds in its part j on the stack, and answers the depth of that part. It is written whether or
+// not the part stands under a binder: that is faster than asking.
+fn enter(types: &[u64], w: u64, j: usize, first: u64, stack: &mut [u64], depth: usize) -> usize
+    requires { ⌜ depth < length (now stack) ⌝ }
+    ensures { λ r. ⌜ Enters (now (types .entry)) w j first (now (stack .entry)) (now (stack .exit)) depth r ⌝ }
+{
+    stack[depth] = binder(types, w, j, first);
+    depth + parts::shape::binders(parts::fields::kind(w), j)
+}
+
+// the type of a node that has no parts: a variable, or a call with no arguments
+fn leaf(calls: &[u64], inputs: &[u64], stack: &[u64], depth: usize, w: u64) -> Inferred
+    requires { ⌜ depth ≤ length (now stack) ⌝ }
+    ensures { λ r. ⌜
+        r ≡ inferredOf (leafType (over [] (now (calls .entry)) []) (scope (now (inputs .entry)) (now (stack .entry)) depth) w) 1
+        ⌝ }
+{
+    let n = parts::fields::number(w);
+    if parts::fields::kind(w) == 0 {
+        return variable(inputs, stack, depth, n);
+    }
+    call_type(calls, n, 0, 0, 0, 1)
+}
+
+// a part as it begins: its type if it has no parts itself, or a node to be opened
+pub enum Begun {
+    Has(u64),
+    Fails,
+    Opens,
+}
+
+// begins to type a part, which is a slice that starts in the middle of the term's words
+fn begin(calls: &[u64], inputs: &[u64], stack: &[u64], depth: usize, part: &[u64]) -> Begun
+    requires { ⌜ (depth ≤ length (now stack)) × (1 ≤ length (now part)) ⌝ }
+    ensures { λ r. ⌜
+        r ≡ begunOf (partCount (now (calls .entry)) (getD (now (part .entry)) 0 0))
+        (leafType (over [] (now (calls .entry)) []) (scope (now (inputs .entry)) (now (stack .entry)) depth) (getD (now (part .entry)) 0 0))
+        ⌝ }
+{
+    let w = part[0];
+    let n = parts::shape::owed_count(calls, w);
+    if n == 0 {
+        let r = leaf(calls, inputs, stack, depth, w);
+        match r {
+            Inferred::Typed(a, _) => {
+                return Begun::Has(a);
+            }
+            Inferred::Untyped => {
+                return Begun::Fails;
+            }
+        }
+    }
+    if 3 < n {
+        return Begun::Fails;
+    }
+    Begun::Opens
+}
+
+// a node's type from its parts' types, which stand from an index on, that of part j last
+fn type_from(types: &[u64], calls: &[u64], w: u64, nodes: &[u64], base: usize, j: usize) -> Inferred
+    requires { ⌜ base + 2 < length (now nodes) ⌝ }
+    ensures { λ r. ⌜
+        r ≡ inferredOf
+        (nodeType (over (now (types .entry)) (now (calls .entry)) []) (kindOf w) (numberOf w) (typeOf w)
+        (typesTo (now (nodes .entry)) base j)) 0
+        ⌝ }
+{
+    let second = pick(1 <= j, nodes[base + 1], 0);
+    let third = pick(2 <= j, nodes[base + 2], 0);
+    node_type(types, calls, w, nodes[base], second, third, 0)
+}
+
+// 9: the type of the first term, with its number of words. A node is opened where it begins, and has its type when its last part has.
+// `nodes` has for each open node the types of its parts so far and then its head: four times its place in the words, and the number of the
+// part that is being typed. `stack` has the types of the binders in scope. Of `top` and `depth` words each is in use. Each way to the next
+// turn goes there by itself: where they met at the end of the loop, deep terms took a tenth longer.
 pub fn infer(
     types: &[u64],
     calls: &[u64],
     inputs: &[u64],
     stack: &mut [u64],
-    depth: usize,
+    nodes: &mut [u64],
     term: &[u64],
 ) -> Inferred
-    requires room { ⌜ depth + length (now term) ≤ length (now stack) ⌝ }
+    requires small { ⌜ length (now term) ≤ 65536 ⌝ }
+    requires room { ⌜ (length (now term) + 2 ≤ length (now stack)) × (length (now term) + 2 ≤ length (now nodes)) ⌝ }
     requires starts { ⌜ Starts (now calls) (now term) ⌝ }
-    ensures kept { λ _. ⌜ scope (now (inputs .entry)) (now (stack .exit)) depth ≡ scope (now (inputs .entry)) (now (stack .entry)) depth ⌝ }
-    ensures typed { λ r. ⌜
-        Infers (over (now (types .entry)) (now (calls .entry)) (now (inputs .entry)))
-        (scope (now (inputs .entry)) (now (stack .entry)) depth) (now (term .entry)) r
+    ensures { λ r. ⌜
+        Infers (over (now (types .entry)) (now (calls .entry)) (now (inputs .entry))) (now (inputs .entry)) (now (term .entry)) r
         ⌝ }
 {
-    let w = term[0];
-    let k = parts::fields::kind(w);
-    if k == 0 {
-        return variable(inputs, stack, depth, parts::fields::number(w));
-    }
-    let count = parts::shape::part_count(calls, w);
-    if 3 < count {
-        return Inferred::Untyped;
-    }
-    let mut found: [u64; 3] = [0; 3];
-    let mut at: usize = 1;
-    let mut j: usize = 0;
-    while j < count {
-        stack[depth] = binder(types, w, j, found[0]);
-        let inner = depth + parts::shape::binders(k, j);
-        let r = infer(types, calls, inputs, stack, inner, &term[at..]);
-        match r {
-            Inferred::Untyped => {
+    let mut at: usize = 0;
+    let mut top: usize = 0;
+    let mut depth: usize = 0;
+    let mut typed: bool = false;
+    let mut a: u64 = 0;
+    loop {
+        if typed {
+            if top == 0 {
+                return Inferred::Typed(a, at);
+            }
+            let last = top - 1;
+            let head = nodes[last];
+            let place = (head / 4) as usize;
+            let j = (head % 4) as usize;
+            let w = term[place];
+            let base = last - j;
+            let outside = depth - parts::shape::binders(parts::fields::kind(w), j);
+            nodes[last] = a;
+            if j + 1 < parts::shape::owed_count(calls, w) {
+                let first = nodes[base];
+                nodes[top] = head + 1;
+                top += 1;
+                depth = enter(types, w, j + 1, first, stack, outside);
+                typed = false;
+                continue;
+            }
+            let r = type_from(types, calls, w, nodes, base, j);
+            match r {
+                Inferred::Untyped => {
+                    return Inferred::Untyped;
+                }
+                Inferred::Typed(b, _) => {
+                    a = b;
+                    top = base;
+                    depth = outside;
+                }
+            }
+            continue;
+        }
+        let begun = begin(calls, inputs, stack, depth, &term[at..]);
+        match begun {
+            Begun::Fails => {
                 return Inferred::Untyped;
             }
-            Inferred::Typed(a, l) => {
-                found[j] = a;
-                at = at + l;
+            Begun::Has(b) => {
+                a = b;
+                at += 1;
+                typed = true;
+                continue;
+            }
+            Begun::Opens => {
+                nodes[top] = at as u64 * 4;
+                top += 1;
+                depth = enter(types, term[at], 0, 0, stack, depth);
+                at += 1;
+                continue;
             }
         }
-        j += 1;
     }
-    node_type(types, calls, w, found[0], found[1], found[2], at)
 }
