@@ -5,8 +5,9 @@ pub mod Finding
 pub mod Fitting
 pub mod Scanning
 pub mod Marking
-pub mod Passing
 pub mod OpenMarks
+pub mod Passing
+pub mod Lets
 pub mod Cutting
 pub mod UnusedRows
 pub mod UnusedSteps

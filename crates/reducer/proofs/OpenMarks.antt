@@ -15,7 +15,8 @@ use Rattle.reducer.specs.declared.value.Value.{Value}
 use Rattle.reducer.specs.Unused.{openMark, Opens}
 use Rattle.reducer.proofs.ByKind.{kind-4}
 
-other-mark : (p : ℕ) (t : Term) → (node t .kind ≡ 4 → ⊥) → 65536 ≡ openMark p t
+-- only a let has a mark below
+pub other-mark : (p : ℕ) (t : Term) → (node t .kind ≡ 4 → ⊥) → 65536 ≡ openMark p t
 unfolding node openMark
 other-mark p (var n) h = refl
 other-mark p (call n ts) h = refl

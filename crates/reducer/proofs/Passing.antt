@@ -8,10 +8,11 @@ use mathlib.Core.Bool.{Bool, true, false, cond, not, _&&_}
 use mathlib.Core.List.{List, [], append-nil}
 use mathlib.Core.Option.{Option, some, none}
 use lib.Dec.{eqb}
-use lib.ListN.{length, drop, getElem?}
+use lib.ListN.{length, getD, drop, getElem?}
 use lib.Seq.{drop-drop}
 use borrow.Author.Tests.{eqb-true, eqb-false}
 use Rattle.syntax.specs.Maybe.{given}
+use Rattle.syntax.specs.Words.{kindOf}
 use Rattle.syntax.specs.Substitution.{rename}
 use Rattle.syntax.specs.Term.{Term, var, call, lam, app, bind, pair, fst, snd, inl, inr, case, node, asBind, partsOf}
 use Rattle.syntax.specs.Encoding.{encode, size}
@@ -33,8 +34,11 @@ use Rattle.reduction.proofs.SearchAnswer.{none-nothing}
 use Rattle.parts.specs.Fronts.{Holds, from}
 use Rattle.parts.specs.Binding.{inner}
 use Rattle.parts.proofs.Sized.{same-term}
+use Rattle.parts.proofs.PartsAt.{first-from}
+use Rattle.parts.proofs.Traversal.{front-of}
 use Rattle.reducer.specs.Unused.{openMark, finalMark, Passed, Scans, FindsUnused}
 use Rattle.reducer.specs.declared.unused.Scan.{Scan}
+use Rattle.reducer.proofs.OpenMarks.{other-mark}
 
 -- the words from an index on, of the words from an index on
 from-from : (words : List ℕ) (n i : ℕ) → from (from words n) i ≡ from words (n + i)
@@ -128,16 +132,35 @@ judge p (inl A a) = stays refl (omega arith)
 judge p (inr A a) = stays refl (omega arith)
 judge p (case s l r) = stays refl (omega arith)
 
+-- the subterm at an index begins at its word
+subterm-at : {calls words : List ℕ} (t : Term) (s : Shaped calls t) (w : words ≡ encode t) (j : ℕ) (p : Position Term)
+    (e : getElem? (positions t) j ≡ some p) → Holds calls (from words j) (p .subterm) (site t j p e .after)
+subterm-at {calls} {words} t s w j p e = record {
+  shaped = shaped-site calls t s j p e;
+  is = tail-part words j ∙ ap (λ (ws : List ℕ). drop j ws) w ∙ drop-site (site t j p e);
+}
+
+-- without a let there is nothing to drop
+pub finds-none : {calls words : List ℕ} → ((i : ℕ) → i < length words → kindOf (getD words i 0) ≡ 4 → ⊥) → length words ≤ 8192
+    → FindsUnused calls words Nothing
+unfolding size finalMark
+finds-none {calls} {words} free small = record {
+  told = λ t s w.
+      sym (none-nothing allPure Dropping t (clear-all allPure Dropping t
+      (record { misses = λ j p l e. go t s w j p e (judge j (p .subterm)) })));
+}
+  where
+    go : (t : Term) → Shaped calls t → words ≡ encode t → (j : ℕ) (p : Position Term) → getElem? (positions t) j ≡ some p
+        → Judged j (p .subterm) → contract allPure (rules Dropping) (p .subterm) ≡ none
+    go t s w j p e (stays f m) = f
+    go t s w j p e (drops c f q m) =
+        let below : j < length words = omega (arith, index-below t j p e, ap (λ (l : List ℕ). length l) w) in
+        let same : kindOf (getD words j 0) ≡ node (p .subterm) .kind =
+        ap kindOf (sym (first-from words j)) ∙ front-of (subterm-at t s w j p e) .kind in
+        absurd (omega (arith, m, other-mark j (p .subterm) (λ z. free j below (same ∙ z)), below, small))
+
 module _ {calls words old new : List ℕ} {r : Scan} (a : Scans calls words 0 0 old new r) (t : Term) (s : Shaped calls t)
     (w : words ≡ encode t) (small : size t ≤ 8192) where
-  -- the subterm at an index begins at its word
-  subterm-at : (j : ℕ) (p : Position Term) (e : getElem? (positions t) j ≡ some p)
-      → Holds calls (from words j) (p .subterm) (site t j p e .after)
-  subterm-at j p e = record {
-    shaped = shaped-site calls t s j p e;
-    is = tail-part words j ∙ ap (λ (ws : List ℕ). drop j ws) w ∙ drop-site (site t j p e);
-  }
-
   ends : r .end ≡ size t
   ends = a .told t [] (record { shaped = s; is = w ∙ sym (append-nil (encode t)) }) .0
 
@@ -151,7 +174,7 @@ module _ {calls words old new : List ℕ} {r : Scan} (a : Scans calls words 0 0 
         arith,
         m,
         l,
-        a .before n le lim .marks j (p .subterm) _ (omega (arith, ends, index-below t j p e)) (subterm-at j p e),
+        a .before n le lim .marks j (p .subterm) _ (omega (arith, ends, index-below t j p e)) (subterm-at t s w j p e),
       ))
 
   none-unused : 65536 ≤ r .first → Nothing ≡ firstRedex allPure Dropping t
@@ -192,7 +215,7 @@ module _ {calls words old new : List ℕ} {r : Scan} (a : Scans calls words 0 0 
         here : (p : PositionAt t (r .first)) → Judged (0 + r .first) (p .position .subterm) → firstRedex allPure Dropping t ≡ Redex Drop (r .first)
         here p (stays f m) = absurd (no-further λ u rest l h.
             subst (λ (z : Term). 65536 ≤ finalMark (0 + r .first) z)
-            (sym (same-term h (subterm-at (r .first) (p .position) (p .is)))) m)
+            (sym (same-term h (subterm-at t s w (r .first) (p .position) (p .is)))) m)
         here p (drops c f q m) =
             ap foundOf (first-at allPure Dropping t (r .first) (p .position) c (clear-first (r .first) (omega arith) (omega (arith, lt))) (p .is) f)
             ∙ ap (λ (k : Rule). Redex k (r .first)) q

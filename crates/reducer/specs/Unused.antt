@@ -2,9 +2,11 @@
 -- other as 65536, and each use adds 65536. So a mark is in the end below 65536 exactly for a let that can be dropped, and then its place.
 use Prim.Native.Nat.{ℕ, _+_, _*_, _≤_, _<_}
 use mathlib.Core.Path.{_≡_}
-use mathlib.Core.Bool.{cond}
-use mathlib.Core.List.{List}
+use mathlib.Core.Bool.{Bool, false, cond, _||_}
+use mathlib.Core.List.{List, [], _∷_}
+use lib.Dec.{eqb}
 use lib.ListN.{length, getD}
+use Rattle.syntax.specs.Words.{kindOf}
 use Rattle.syntax.specs.Term.{Term, var, call, lam, app, bind, pair, fst, snd, inl, inr, case}
 use Rattle.syntax.specs.Encoding.{encode, size}
 use Rattle.syntax.specs.Shaped.{Shaped}
@@ -17,6 +19,11 @@ use Rattle.reduction.specs.Rules.{allPure}
 use Rattle.reduction.specs.Redex.{firstRedex}
 use Rattle.reducer.specs.Marks.{Marked, Space}
 use Rattle.reducer.specs.declared.unused.Scan.{Scan}
+
+-- whether some word is a let's
+unfoldable pub hasLet : List ℕ → Bool
+hasLet [] = false
+hasLet (w ∷ ws) = eqb (kindOf w) 4 || hasLet ws
 
 -- the mark of a node's binder before any use
 unfoldable pub openMark : ℕ → Term → ℕ

@@ -1,8 +1,9 @@
 // The search of phase 3: the first let that binds a computation and whose variable is not used, by one pass that marks uses by depth.
-ghost use Prim.Native.Nat.{ℕ, _+_, _≤_};
+ghost use mathlib.Core.Path.{_≡_};
+ghost use Prim.Native.Nat.{_+_, _≤_};
 ghost use lib.ListN.{length};
 ghost use Rattle.parts.specs.Fronts.{Starts};
-ghost use Rattle.reducer.specs.Unused.{Open, Opens, Least, LeastMark, Scans, FindsUnused};
+ghost use Rattle.reducer.specs.Unused.{hasLet, Open, Opens, Least, LeastMark, Scans, FindsUnused};
 use crate::marks::mark;
 use crate::value::value_test;
 use parts::fields::kind;
@@ -112,11 +113,28 @@ fn scan_part(calls: &[u64], t: &[u64], used: &mut [u64], depth: usize, base: usi
     }
 }
 
-// the first let in the part at the front that can be dropped
+// whether some word is a let's
+fn has_let(t: &[u64]) -> bool
+    ensures { λ r. ⌜ r ≡ hasLet (now (t .entry)) ⌝ }
+{
+    let mut i: usize = 0;
+    while i < t.len() {
+        if kind(t[i]) == 4 {
+            return true;
+        }
+        i += 1;
+    }
+    false
+}
+
+// the first let in the part at the front that can be dropped; uses are marked only where there is a let
 pub fn first_unused(calls: &[u64], t: &[u64], used: &mut [u64]) -> Found
     requires { ⌜ Starts (now calls) (now t) × Open (now used) 0 (length (now t)) × (length (now t) ≤ 8192) ⌝ }
     ensures { λ r. ⌜ FindsUnused (now (calls .entry)) (now (t .entry)) r ⌝ }
 {
+    if !has_let(t) {
+        return Found::Nothing;
+    }
     let scan = scan_part(calls, t, used, 0, 0);
     let first = scan.first;
     if first < NO_PLACE {

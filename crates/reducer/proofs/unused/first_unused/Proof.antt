@@ -1,6 +1,9 @@
--- The least place in the whole term.
+-- Nothing where there is no let, and else the least place in the whole term.
+use mathlib.Core.Path.{sym, _∙_}
 use borrow.Author.Needs.{needs}
-use Rattle.reducer.proofs.Passing.{finds-redex, finds-nothing}
+use borrow.Author.Tests.{not-true}
+use Rattle.reducer.proofs.Lets.{no-let}
+use Rattle.reducer.proofs.Passing.{finds-none, finds-redex, finds-nothing}
 use Rattle.reducer.proofs.unused.first_unused.Statement.{statement}
 use Rattle.reducer.proofs.unused.first_unused.Tie as tie
 
@@ -9,13 +12,18 @@ first-unused-spec =
     tie.close
     (tie.spec
     (λ c κs. search needs)
+    (λ c.
+    let at-has-let = c .before in
+    let pre = at-has-let .before .before .before .before .pre in
+    finds-none (no-let _ (sym (at-has-let .has-let .ensures) ∙ not-true _ (c .if1 .taken))) (pre .2))
+    (λ c κs. search needs)
     (λ c. search needs)
     (λ c.
-    let at-scan = c .before .before .before in
-    let start = at-scan .before .before .before .before .before in
-    finds-redex (at-scan .scan-part .ensures) (start .pre .2) (c .if1 .taken))
+    let at-scan-part = c .before .before .before in
+    let pre = at-scan-part .before .before .before .before .before .before .before .pre in
+    finds-redex (at-scan-part .scan-part .ensures) (pre .2) (c .if2 .taken))
     (λ c. search needs)
     (λ c.
-    let at-scan = c .before .before .before in
-    let start = at-scan .before .before .before .before .before in
-    finds-nothing (at-scan .scan-part .ensures) (start .pre .2) (c .if1 .left)))
+    let at-scan-part = c .before .before .before in
+    let pre = at-scan-part .before .before .before .before .before .before .before .pre in
+    finds-nothing (at-scan-part .scan-part .ensures) (pre .2) (c .if2 .left)))
