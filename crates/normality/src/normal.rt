@@ -1,6 +1,6 @@
 // The test for a normal form (paper 01: the flat test) and the test for a normal value, each by way of the other.
 ghost use mathlib.Core.Path.{_≡_};
-ghost use Prim.Native.Nat.{ℕ, _≤_};
+ghost use Prim.Native.Nat.{_≤_};
 ghost use lib.ListN.{length};
 ghost use Rattle.reduction.specs.Rules.{allPure};
 ghost use Rattle.reduction.specs.Grammar.{inGrammar};

@@ -1,6 +1,6 @@
 // The depths of the parts still to come, in a buffer: the next part's stands last, behind those of the parts after it.
 ghost use mathlib.Core.Path.{_≡_};
-ghost use Prim.Native.Nat.{ℕ, _+_, _≤_};
+ghost use Prim.Native.Nat.{_+_, _≤_};
 ghost use lib.Dec.{eqb};
 ghost use lib.ListN.{length};
 ghost use Rattle.syntax.specs.Kinds.{bindsOf};

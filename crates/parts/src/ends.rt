@@ -1,6 +1,6 @@
 // Where a part ends.
 ghost use mathlib.Core.Path.{_≡_};
-ghost use Prim.Native.Nat.{ℕ, _≤_};
+ghost use Prim.Native.Nat.{_≤_};
 ghost use lib.ListN.{length};
 ghost use Rattle.syntax.specs.Parts.{extent, partEnd};
 ghost use Rattle.parts.specs.Ends.{endOf, Sized, SizedAll};

@@ -1,6 +1,6 @@
 // A part with its variables raised, written into a buffer.
 ghost use mathlib.Core.Path.{_≡_};
-ghost use Prim.Native.Nat.{ℕ, _+_, _≤_};
+ghost use Prim.Native.Nat.{_+_, _≤_};
 ghost use lib.ListN.{length};
 ghost use Rattle.parts.specs.Writes.{raisedWord, Room, Renames};
 use crate::depths::open_parts;
@@ -42,9 +42,15 @@ pub fn rename_into(
         let w = src[i];
         let last = owed - 1;
         let under = pending[last];
-        dst[at + i] = raised(w, under, by);
-        owed = open_parts(calls, w, under, pending, last);
-        i += 1;
+        if kind(w) == 0 {
+            dst[at + i] = raised(w, under, by);
+            owed = last;
+            i += 1;
+        } else {
+            dst[at + i] = w;
+            owed = open_parts(calls, w, under, pending, last);
+            i += 1;
+        }
     }
     i
 }

@@ -1,6 +1,6 @@
 // What a kind decides: the fields it uses, its parts, and which of them bind a variable.
 ghost use mathlib.Core.Path.{_≡_};
-ghost use Prim.Native.Nat.{ℕ, _≤_};
+ghost use Prim.Native.Nat.{_≤_};
 ghost use Rattle.syntax.specs.Kinds.{bindersAt};
 ghost use Rattle.syntax.specs.Tables.{arity as arityOf};
 ghost use Rattle.syntax.specs.Parts.{partCount};

@@ -1,6 +1,6 @@
 // A part with a value substituted for a variable, written into a buffer.
 ghost use mathlib.Core.Path.{_≡_};
-ghost use Prim.Native.Nat.{ℕ, _+_, _≤_};
+ghost use Prim.Native.Nat.{_+_, _≤_};
 ghost use lib.ListN.{length};
 ghost use Rattle.parts.specs.Fronts.{Whole};
 ghost use Rattle.parts.specs.Writes.{RoomFor, Substitutes, loweredWord, Raises};
@@ -84,8 +84,12 @@ pub fn substitute_into(
                     &mut pending[owed..],
                 );
             owed = last;
-        } else {
+        } else if kind(w) == 0 {
             dst[at + o] = lowered(w, under);
+            o += 1;
+            owed = last;
+        } else {
+            dst[at + o] = w;
             o += 1;
             owed = open_parts(calls, w, under, pending, last);
         }

@@ -67,10 +67,10 @@ unfolding uses
 mark-input by used depth number le =
     record { marks = λ d h. rw (ne-eqb number (depth - 1 - d) (λ e. omega arith)) (omega arith) }
 
--- where a word can be gone through, a use can be marked
-pub space-raisable : {by : ℕ} {used : List ℕ} {depth l : ℕ} → Space by used depth l → 1 ≤ l → Raisable by used depth
-space-raisable {by} s le =
-    record { deep = omega (arith, s .deep); low = λ d h. omega (arith, s .low d h, le-mul-of-pos-right by le) }
+-- where a word can be gone through, a use can be marked, by no more than a word may
+pub space-raisable : {by : ℕ} {used : List ℕ} {depth l : ℕ} → Space by used depth l → 1 ≤ l → (n : ℕ) → n ≤ by → Raisable n used depth
+space-raisable {by} s le n h =
+    record { deep = omega (arith, s .deep); low = λ d b. omega (arith, s .low d b, le-mul-of-pos-right by le, h) }
 
 -- the marks as a part under b binders finds them: those of the binders in scope as they were, its own at zero
 pub record Opened (used opened : List ℕ) (depth b : ℕ) : Type 0 where

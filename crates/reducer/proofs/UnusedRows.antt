@@ -233,5 +233,5 @@ module _ (calls words : List ℕ) (base depth : ℕ) (old : List ℕ) where
       }
 
       -- a use can be marked
-      pub scan-raisable : Open old depth (length words) → Raisable 65536 cur under
+      pub scan-raisable : Open old depth (length words) → (n : ℕ) → n ≤ 65536 → Raisable n cur under
       scan-raisable o = space-raisable (scan-room o) (omega (arith, from-length words at, scan-inside))

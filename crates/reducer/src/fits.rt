@@ -1,6 +1,6 @@
 // Whether a rule of phase 1 or 2 fits the node at the front.
 ghost use mathlib.Core.Path.{_≡_};
-ghost use Prim.Native.Nat.{ℕ, _≤_};
+ghost use Prim.Native.Nat.{_≤_};
 ghost use lib.ListN.{length, getD};
 ghost use Rattle.syntax.specs.Words.{kindOf};
 ghost use Rattle.syntax.specs.Maybe.{given};

@@ -1,5 +1,4 @@
 // Marks by depth: how often each binder in scope is used, the outermost first.
-ghost use Prim.Native.Nat.{ℕ};
 ghost use Rattle.syntax.specs.Term.{var};
 ghost use Rattle.reducer.specs.Marks.{Raisable, Marked};
 

@@ -1,6 +1,6 @@
 // Whether a part is a value, and where it ends.
 ghost use mathlib.Core.Path.{_≡_};
-ghost use Prim.Native.Nat.{ℕ, _≤_};
+ghost use Prim.Native.Nat.{_≤_};
 ghost use lib.ListN.{length};
 ghost use Rattle.parts.specs.Fronts.{Starts};
 ghost use Rattle.reduction.specs.FitByKinds.{valueKind};

@@ -1,5 +1,5 @@
 // A node moves under a new binder, and the new variable stands for one of its parts.
-ghost use Prim.Native.Nat.{ℕ, _≤_};
+ghost use Prim.Native.Nat.{_≤_};
 ghost use lib.ListN.{length};
 ghost use Rattle.rewriter.specs.Insertion.{PartRoom, InsertsPart, NodeRoom, InsertsNode};
 use parts::fields::kind;

@@ -1,6 +1,6 @@
 // How many words a redex has, how many it becomes, and how these are written.
 ghost use mathlib.Core.Path.{_≡_};
-ghost use Prim.Native.Nat.{ℕ, _+_, _-_, _*_, _≤_};
+ghost use Prim.Native.Nat.{_+_, _-_, _*_, _≤_};
 ghost use lib.ListN.{length};
 ghost use Rattle.parts.specs.Fronts.{Starts, from};
 ghost use Rattle.parts.specs.Ends.{Sized};

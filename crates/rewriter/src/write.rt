@@ -1,6 +1,5 @@
 // What a redex becomes, written into a buffer by its plan.
-ghost use mathlib.Core.Path.{_≡_};
-ghost use Prim.Native.Nat.{ℕ, _+_, _≤_};
+ghost use Prim.Native.Nat.{_+_, _≤_};
 ghost use lib.ListN.{length};
 ghost use Rattle.rewriter.specs.declared.plan.Plan.the-variants.{Substitute, MoveLet, MoveCase, Insert};
 ghost use Rattle.rewriter.specs.Writers.{LetRoom, WritesLet, Planned, PlannedAs, Writes};

@@ -312,7 +312,7 @@ pub +normal-test+value-test-spec : {M : Type 1} → statement M
     (λ c κs. search needs)
     (λ c κs.
     let pre = c .before .before .before .before .before .before .before .before .pre in
-    space-raisable (pre .1 .1) (not-empty (pre .1 .0)))
+    space-raisable (pre .1 .1) (not-empty (pre .1 .0)) _ (omega arith))
     (λ c. search needs)
     (λ c.
     let pre = c .before .before .before .before .before .before .before .before .before .before .before .pre in

@@ -1,13 +1,16 @@
 -- One turn of the loop writes one word, or the value.
 use borrow.Author.Needs.{needs}
+use borrow.Author.Tests.{ne-eqb}
 use borrow.Rule.Slice.PartMut.{same-len-mid}
 use Prim.Native.Nat.{_-_}
 use native.Mathlib.Omega.{arith}
-use mathlib.Core.Path.{_≡_, refl, _∙_}
+use mathlib.Core.Path.{_≡_, refl, sym, _∙_}
 use lib.ListN.{length, length-set}
 use Rattle.syntax.specs.Substitution.{substitution}
+use Rattle.parts.proofs.Opening.{opens-none}
 use Rattle.parts.proofs.Rows.{march-inside, march-within}
 use Rattle.parts.proofs.Tracing.{trace-opens, trace-room}
+use Rattle.parts.proofs.Variables.{first-fails}
 use Rattle.parts.proofs.Substituting.{valued, Substituting, substitute-begin, substitute-node, substitute-end}
 use Rattle.parts.proofs.Substituting.{value-room, substitute-value}
 use Rattle.parts.proofs.substitute.substitute_into.Statement.{statement}
@@ -27,44 +30,47 @@ substitute-into-spec =
     Inv-loop
     μ-loop
     (λ c.
-    let start = c .before .before .before .before .before in
-    omega (arith, start .pre .0 .spare))
+    let pre = c .before .before .before .before .before .pre in
+    omega (arith, pre .0 .spare))
     (λ c.
     let start = c .before .before .before .before .before in
     (substitute-begin (start .args .pending .now) (start .args .depth) (start .pre .0), refl))
     (λ c.
     let at-loop = c .before in
-    let start = at-loop .before .before .before .before .before .before in
-    omega (arith, march-inside _ _ (at-loop .loop .inv .0 .going), start .pre .1 .0))
+    let pre = at-loop .before .before .before .before .before .before .pre in
+    omega (arith, march-inside _ _ (at-loop .loop .inv .0 .going), pre .1 .0))
     (λ c.
     let at-loop-test = c .before in
-    let at-loop = at-loop-test .before in
-    omega (arith, march-inside _ _ (at-loop .loop .inv .0 .going), at-loop-test .loop-test .taken))
-    (λ c.
-    let at-loop-test = c .before in
-    at-loop-test .loop-test .taken)
+    omega (arith, march-inside _ _ (at-loop-test .before .loop .inv .0 .going), at-loop-test .loop-test .taken))
+    (λ c. c .before .loop-test .taken)
     (λ c.
     let at-loop = c .before .before in
-    let start = at-loop .before .before .before .before .before .before in
-    omega (arith, march-inside _ _ (at-loop .loop .inv .0 .going), start .pre .1 .0))
+    let pre = at-loop .before .before .before .before .before .before .pre in
+    omega (arith, march-inside _ _ (at-loop .loop .inv .0 .going), pre .1 .0))
     (λ c.
     let at-loop-test = c .before .before in
     let at-loop = at-loop-test .before in
     let start = at-loop .before .before .before .before .before .before in
     let f = valued (start .args .calls .now) (start .args .value .now) in
-    let o = trace-opens substitution f (at-loop .loop .inv .0) (at-loop-test .loop-test .taken) (omega arith) (start .pre .1 .0) in
-    omega (arith, o .0))
+    omega (
+      arith,
+      trace-opens substitution f (at-loop .loop .inv .0) (at-loop-test .loop-test .taken) (omega arith)
+          (start .pre .1 .0) .0,
+    ))
     (λ c.
     let at-loop = c .before .before .before in
-    let start = at-loop .before .before .before .before .before .before in
-    omega (arith, march-inside _ _ (at-loop .loop .inv .0 .going), start .pre .1 .0))
+    let pre = at-loop .before .before .before .before .before .before .pre in
+    omega (arith, march-inside _ _ (at-loop .loop .inv .0 .going), pre .1 .0))
     (λ c.
     let at-loop-test = c .before .before in
     let at-loop = at-loop-test .before in
     let start = at-loop .before .before .before .before .before .before in
     let f = valued (start .args .calls .now) (start .args .value .now) in
-    let o = trace-opens substitution f (at-loop .loop .inv .0) (at-loop-test .loop-test .taken) (omega arith) (start .pre .1 .0) in
-    omega (arith, o .2))
+    omega (
+      arith,
+      trace-opens substitution f (at-loop .loop .inv .0) (at-loop-test .loop-test .taken) (omega arith)
+          (start .pre .1 .0) .2,
+    ))
     (λ c.
     let at-loop-test = c .before .before .before .before in
     let at-loop = at-loop-test .before in
@@ -74,14 +80,14 @@ substitute-into-spec =
     omega (arith, room, at-loop .loop .inv .0 .len, start .good))
     (λ c.
     let at-loop = c .before .before .before .before .before in
-    let start = at-loop .before .before .before .before .before .before in
-    omega (arith, march-inside _ _ (at-loop .loop .inv .0 .going), start .pre .1 .0))
+    let pre = at-loop .before .before .before .before .before .before .pre in
+    omega (arith, march-inside _ _ (at-loop .loop .inv .0 .going), pre .1 .0))
     (λ c.
-    let at-loop = c .before .before .before .before .before in
-    omega (arith, march-within _ _ (at-loop .loop .inv .0 .going), at-loop .loop .inv .0 .spare))
+    let loop = c .before .before .before .before .before .loop in
+    omega (arith, march-within _ _ (loop .inv .0 .going), loop .inv .0 .spare))
     (λ c.
-    let at-loop = c .before .before .before .before .before in
-    omega (arith, march-within _ _ (at-loop .loop .inv .0 .going), at-loop .loop .inv .0 .spare))
+    let loop = c .before .before .before .before .before .loop in
+    omega (arith, march-within _ _ (loop .inv .0 .going), loop .inv .0 .spare))
     (λ c. search needs)
     (λ c κs.
     let at-if1 = c .before .before in
@@ -91,8 +97,8 @@ substitute-into-spec =
     let f = valued (start .args .calls .now) (start .args .value .now) in
     let o = trace-opens substitution f (at-loop .loop .inv .0) (at-loop-test .loop-test .taken) (omega arith) (start .pre .1 .0) in
     let g = at-loop .loop .inv .0 in
-    let lt = at-loop-test .loop-test .taken in
-    let room = value-room g lt _ _ refl refl (omega (arith, at-if1 .if1 .taken)) (omega (arith, o .2)) in
+    let room = value-room g (at-loop-test .loop-test .taken) _ _ refl refl (omega (arith, at-if1 .if1 .taken)) (omega (arith, o .2))
+    in
     ((start .pre .0 .whole, room, start .pre .1 .1, o .2), omega (arith, march-within _ _ (g .going), g .spare)))
     (λ c.
     let at-put-value = c .before .before .before .before in
@@ -102,14 +108,12 @@ substitute-into-spec =
     let start = at-loop .before .before .before .before .before .before in
     let f = valued (start .args .calls .now) (start .args .value .now) in
     let o = trace-opens substitution f (at-loop .loop .inv .0) (at-loop-test .loop-test .taken) (omega arith) (start .pre .1 .0) in
-    let g = at-loop .loop .inv .0 in
-    let lt = at-loop-test .loop-test .taken in
-    let room = value-room g lt _ _ refl refl (omega (arith, at-if1 .if1 .taken)) (omega (arith, o .2)) in
+    let room = value-room (at-loop .loop .inv .0) (at-loop-test .loop-test .taken) _ _ refl refl (omega (arith, at-if1 .if1 .taken))
+    (omega (arith, o .2)) in
     omega (arith, room, at-put-value .put-value .ensures .size-is, at-loop .loop .inv .0 .len, start .good))
     (λ c.
     let at-loop-test = c .before .before .before .before .before .before .before .before .before .before in
-    let at-loop = at-loop-test .before in
-    omega (arith, march-inside _ _ (at-loop .loop .inv .0 .going), at-loop-test .loop-test .taken))
+    omega (arith, march-inside _ _ (at-loop-test .before .loop .inv .0 .going), at-loop-test .loop-test .taken))
     (λ c.
     let at-put-value = c .before .before .before .before in
     let at-if1 = at-put-value .before .before .before in
@@ -122,68 +126,103 @@ substitute-into-spec =
     let ys = at-put-value .put-value .last .1 .1 .1 .1 .1 .0 in
     let many = at-put-value .put-value .kept .1 .1 .1 .1 .1 .0 in (
       substitute-value (at-loop .loop .inv .0) (at-loop-test .loop-test .taken) _ _ refl refl (omega (arith, at-if1 .if1 .taken))
-          (omega (arith, o .2)) ys _ k _ many
-          (at-put-value .put-value .kept .1 .1 .0) (at-put-value .put-value .ensures),
+          (omega (arith, o .2)) ys _ k _ many (at-put-value .put-value .kept .1 .1 .0) (at-put-value .put-value .ensures),
       same-len-mid (at-loop .loop .owed) k (at-loop .loop .pending) ys many ∙ at-loop .loop .inv .1,
     ))
     (λ c κs. search needs)
+    (λ c κs. search needs)
     (λ c.
-    let at-loop-test = c .before .before .before .before in
+    let at-loop-test = c .before .before .before .before .before .before in
     let at-loop = at-loop-test .before in
     let start = at-loop .before .before .before .before .before .before in
     let f = valued (start .args .calls .now) (start .args .value .now) in
     let room = trace-room substitution f (at-loop .loop .inv .0) (at-loop-test .loop-test .taken) _ _ refl refl in
     omega (arith, room, at-loop .loop .inv .0 .len, start .good))
     (λ c.
-    let at-loop-test = c .before .before .before .before in
+    let at-loop-test = c .before .before .before .before .before .before in
     let at-loop = at-loop-test .before in
     let start = at-loop .before .before .before .before .before .before in
     let f = valued (start .args .calls .now) (start .args .value .now) in
     let room = trace-room substitution f (at-loop .loop .inv .0) (at-loop-test .loop-test .taken) _ _ refl refl in
     omega (arith, room, at-loop .loop .inv .0 .len, start .good))
     (λ c.
-    let at-loop-test = c .before .before .before .before in
+    let at-loop-test = c .before .before .before .before .before .before in
+    let at-loop = at-loop-test .before in
+    let args = at-loop .before .before .before .before .before .before .args in
+    let f = valued (args .calls .now) (args .value .now) in
+    omega (arith, trace-room substitution f (at-loop .loop .inv .0) (at-loop-test .loop-test .taken) _ _ refl refl))
+    (λ c.
+    let at-loop-test = c .before .before .before .before .before .before in
     let at-loop = at-loop-test .before in
     let start = at-loop .before .before .before .before .before .before in
     let f = valued (start .args .calls .now) (start .args .value .now) in
     let room = trace-room substitution f (at-loop .loop .inv .0) (at-loop-test .loop-test .taken) _ _ refl refl in
-    omega (arith, room))
+    omega (arith, room, at-loop .loop .inv .0 .len, start .good))
     (λ c.
-    let at-loop-test = c .before .before .before .before in
+    let at-loop-test = c .before .before .before .before .before .before in
+    omega (arith, march-inside _ _ (at-loop-test .before .loop .inv .0 .going), at-loop-test .loop-test .taken))
+    (λ c.
+    let at-if2 = c .before in
+    let at-kind = at-if2 .before in
+    let at-if1 = at-kind .before in
+    let at-loop-test = at-if1 .before .before .before in
+    let loop = at-loop-test .before .loop in (
+      substitute-node (loop .inv .0) (at-loop-test .loop-test .taken) (λ e. at-if1 .if1 .left (omega (arith, e))) _ _ _ refl
+          (c .lowered .ensures) (opens-none _ _ _ _ _ (sym (at-kind .kind .ensures) ∙ at-if2 .if2 .taken)),
+      loop .inv .1,
+    ))
+    (λ c.
+    let at-loop-test = c .before .before .before .before .before in
+    let at-loop = at-loop-test .before in
+    let start = at-loop .before .before .before .before .before .before in
+    let f = valued (start .args .calls .now) (start .args .value .now) in
+    let room = trace-room substitution f (at-loop .loop .inv .0) (at-loop-test .loop-test .taken) _ _ refl refl in
+    omega (arith, room, at-loop .loop .inv .0 .len, start .good))
+    (λ c.
+    let at-loop-test = c .before .before .before .before .before in
+    let at-loop = at-loop-test .before in
+    let start = at-loop .before .before .before .before .before .before in
+    let f = valued (start .args .calls .now) (start .args .value .now) in
+    let room = trace-room substitution f (at-loop .loop .inv .0) (at-loop-test .loop-test .taken) _ _ refl refl in
+    omega (arith, room, at-loop .loop .inv .0 .len, start .good))
+    (λ c.
+    let at-loop-test = c .before .before .before .before .before in
+    let at-loop = at-loop-test .before in
+    let args = at-loop .before .before .before .before .before .before .args in
+    let f = valued (args .calls .now) (args .value .now) in
+    omega (arith, trace-room substitution f (at-loop .loop .inv .0) (at-loop-test .loop-test .taken) _ _ refl refl))
+    (λ c.
+    let at-loop-test = c .before .before .before .before .before in
     let at-loop = at-loop-test .before in
     let start = at-loop .before .before .before .before .before .before in
     let f = valued (start .args .calls .now) (start .args .value .now) in
     let room = trace-room substitution f (at-loop .loop .inv .0) (at-loop-test .loop-test .taken) _ _ refl refl in
     omega (arith, room, at-loop .loop .inv .0 .len, start .good))
     (λ c κs.
-    let at-loop-test = c .before .before .before .before .before in
+    let at-loop-test = c .before .before .before .before .before .before in
     let at-loop = at-loop-test .before in
     let start = at-loop .before .before .before .before .before .before in
     let f = valued (start .args .calls .now) (start .args .value .now) in
     let o = trace-opens substitution f (at-loop .loop .inv .0) (at-loop-test .loop-test .taken) (omega arith) (start .pre .1 .0) in
     (o .0, o .1, omega (arith, o .2)))
     (λ c.
-    let at-loop-test = c .before .before .before .before .before .before .before .before in
-    let at-loop = at-loop-test .before in
-    omega (arith, march-inside _ _ (at-loop .loop .inv .0 .going), at-loop-test .loop-test .taken))
+    let at-loop-test = c .before .before .before .before .before .before .before .before .before in
+    omega (arith, march-inside _ _ (at-loop-test .before .loop .inv .0 .going), at-loop-test .loop-test .taken))
     (λ c.
     let at-open-parts = c .before .before in
-    let at-lowered = at-open-parts .before .before in
-    let at-if1 = at-lowered .before in
+    let at-if2 = at-open-parts .before .before in
+    let at-kind = at-if2 .before in
+    let at-if1 = at-kind .before in
     let at-loop-test = at-if1 .before .before .before in
-    let at-loop = at-loop-test .before in
+    let loop = at-loop-test .before .loop in
     let kept = at-open-parts .open-parts .kept .1 .1 .1 .0 in (
-      substitute-node (at-loop .loop .inv .0) (at-loop-test .loop-test .taken) (λ e. at-if1 .if1 .left (omega (arith, e))) _ _ _ kept
-          (at-lowered .lowered .ensures) (at-open-parts .open-parts .ensures),
-      kept ∙ at-loop .loop .inv .1,
+      substitute-node (loop .inv .0) (at-loop-test .loop-test .taken) (λ e. at-if1 .if1 .left (omega (arith, e))) _ _ _ kept
+          (first-fails _ _ _ _ (ne-eqb _ 0 (λ z. at-if2 .if2 .left (at-kind .kind .ensures ∙ z)))) (at-open-parts .open-parts .ensures),
+      kept ∙ loop .inv .1,
     ))
+    (λ c. c .before .loop .inv .0 .len)
     (λ c.
     let at-loop = c .before in
-    at-loop .loop .inv .0 .len)
-    (λ c.
-    let at-loop = c .before in
-    let start = at-loop .before .before .before .before .before .before in
-    at-loop .loop .inv .1 ∙ length-set (start .args .pending .now) 0 (start .args .depth))
-    (λ c.
-    let at-loop = c .before in
-    substitute-end (at-loop .loop .inv .0) (omega (arith, c .loop-test .left))))
+    let args = at-loop .before .before .before .before .before .before .args in
+    at-loop .loop .inv .1 ∙ length-set (args .pending .now) 0 (args .depth))
+    (λ c. substitute-end (c .before .loop .inv .0) (omega (arith, c .loop-test .left))))

@@ -110,7 +110,7 @@ pub +scan-part-spec : {M : Type 1} → statement M
     let at-if1 = c .before .before .before .before .before in
     let at-loop = at-if1 .before .before in
     let start = at-loop .before .before .before .before in
-    scan-raisable _ _ _ _ _ (at-loop .loop .inv) (omega (arith, at-if1 .if1 .left)) (start .pre .1 .0 .1))
+    scan-raisable _ _ _ _ _ (at-loop .loop .inv) (omega (arith, at-if1 .if1 .left)) (start .pre .1 .0 .1) _ (omega arith))
     (λ c.
     let at-loop = c .before .before .before .before .before .before .before .before .before .before in
     let start = at-loop .before .before .before .before in
