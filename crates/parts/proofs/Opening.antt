@@ -136,16 +136,18 @@ module _ (calls : List ℕ) (w : ℕ) (p new : List ℕ) (last depth k n x y : �
 pub three-filled : (words : List ℕ) (last n depth : ℕ) → n ≤ 3 → Filled words words (last + 3) (last + n) depth
 three-filled words last n depth le = record { kept = λ j l. refl; set-to = λ j g l. absurd (omega (arith, g, l, le)) }
 
--- a variable has no parts
+-- a node without parts
+pub no-opens : (calls : List ℕ) (w : ℕ) (p : List ℕ) (last depth : ℕ) → partCount calls w ≡ 0 → Opens calls w depth p p last last
+no-opens calls w p last depth none = record {
+  many = omega (arith, none);
+  opened = record {
+    kept = λ j l. refl;
+    inner = λ j l. absurd (omega (arith, l, none));
+    outer = λ j g l. absurd (omega (arith, l, none));
+  };
+}
+
+-- such as a variable
 pub opens-none : (calls : List ℕ) (w : ℕ) (p : List ℕ) (last depth : ℕ) → kindOf w ≡ 0 → Opens calls w depth p p last last
 unfolding partCount
-opens-none calls w p last depth z =
-    let none : partCount calls w ≡ 0 = ap (partsOfKind (arity calls (numberOf w))) z in
-    record {
-      many = omega (arith, none);
-      opened = record {
-        kept = λ j l. refl;
-        inner = λ j l. absurd (omega (arith, l, none));
-        outer = λ j g l. absurd (omega (arith, l, none));
-      };
-    }
+opens-none calls w p last depth z = no-opens calls w p last depth (ap (partsOfKind (arity calls (numberOf w))) z)

@@ -44,14 +44,17 @@ fn fill(words: &mut [u64], start: usize, end: usize, w: u64)
     }
 }
 
-// puts the depths of a node's parts in the place of its own, which is the last; answers how many there are then. Three are
-// written whether or not the node has as many parts: that is faster than asking.
+// puts the depths of a node's parts in the place of its own, which is the last; answers how many there are then. Where there are
+// parts, three are written whether or not the node has as many: that is faster than asking.
 pub fn open_parts(calls: &[u64], w: u64, depth: u64, pending: &mut [u64], last: usize) -> usize
     requires { ⌜ (last + 3 ≤ length (now pending)) × (last + partCount (now calls) w ≤ length (now pending)) × (depth ≤ 131072) ⌝ }
     ensures { λ r. ⌜ Opens (now (calls .entry)) w depth (now (pending .entry)) (now (pending .exit)) last r ⌝ }
 {
     let k = kind(w);
     let n = owed_count(calls, w);
+    if n == 0 {
+        return last;
+    }
     pending[last] = depth + last_binder(k);
     pending[last + 1] = depth + middle_binder(k);
     pending[last + 2] = depth;

@@ -9,11 +9,13 @@ use Rattle.syntax.specs.Words.{kindOf}
 use Rattle.syntax.specs.Term.{Term, var, call, lam, app, bind, pair, fst, snd, inl, inr, case, node}
 use Rattle.parts.specs.Fronts.{Holds, Starts, from}
 use Rattle.parts.proofs.Traversal.{front-of}
-use Rattle.parts.proofs.PartsAt.{parts-of, part-here}
+use Rattle.parts.proofs.PartsAt.{first-from, parts-of, part-here}
+use Rattle.reduction.specs.FitByKinds.{valueKind}
 use Rattle.reducer.specs.ValueTest.{Tests}
 use Rattle.reducer.specs.declared.value.Value.{Value}
 use Rattle.reducer.specs.Unused.{openMark, Opens}
 use Rattle.reducer.proofs.ByKind.{kind-4}
+use Rattle.reducer.proofs.Testing.{other-kind}
 
 -- only a let has a mark below
 pub other-mark : (p : ℕ) (t : Term) → (node t .kind ≡ 4 → ⊥) → 65536 ≡ openMark p t
@@ -44,6 +46,17 @@ module _ {calls words : List ℕ} where
       → cond (r .value) 65536 p ≡ openMark p (bind e b)
   unfolding openMark node
   let-mark p a e b rest h = ap (λ (v : Bool). cond v 65536 p) (a .told e _ (part-here calls words (parts-of calls words h)) .value-is)
+
+  -- what a let binds is no value if its first word is not of a value's kind
+  pub opens-kind : (p : ℕ) → p ≤ 65536 → kindOf (getD words 0 0) ≡ 4 → valueKind (kindOf (getD words 1 0)) ≡ false → Opens calls words p p
+  unfolding openMark node
+  opens-kind p le k n = record {
+    small = le;
+    told = λ t rest h. kind-4 (λ u. Holds calls words u rest → p ≡ openMark p u) t (sym (front-of h .kind) ∙ k)
+        (λ e b g.
+        let q = part-here calls words (parts-of calls words g) in
+        sym (ap (λ (v : Bool). cond v 65536 p) (other-kind e (ap valueKind (sym (ap kindOf (sym (first-from words 1)) ∙ front-of q .kind)) ∙ n)))) h;
+  }
 
   module _ (p : ℕ) (le : p ≤ 65536) (k : kindOf (getD words 0 0) ≡ 4) {r : Value} (a : Tests calls (from words 1) r) where
     by-test : (t : Term) (rest : List ℕ) → Holds calls words t rest → cond (r .value) 65536 p ≡ openMark p t

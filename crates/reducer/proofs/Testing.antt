@@ -47,7 +47,7 @@ function-value : (t : Term) → node t .kind ≡ 2 → isValue t ≡ true
 unfolding isValue
 function-value t h = kind-2 (λ u. isValue u ≡ true) t h λ A b. refl
 
-other-kind : (t : Term) → valueKind (node t .kind) ≡ false → isValue t ≡ false
+pub other-kind : (t : Term) → valueKind (node t .kind) ≡ false → isValue t ≡ false
 unfolding isValue valueKind node
 other-kind (var n) h = h
 other-kind (call f ts) h = refl

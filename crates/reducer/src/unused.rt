@@ -5,6 +5,7 @@ ghost use lib.ListN.{length};
 ghost use Rattle.parts.specs.Fronts.{Starts};
 ghost use Rattle.reducer.specs.Unused.{hasLet, Open, Opens, Least, LeastMark, Scans, FindsUnused};
 use crate::marks::mark;
+use crate::value::value_kind;
 use crate::value::value_test;
 use parts::fields::kind;
 use parts::fields::number;
@@ -37,6 +38,9 @@ fn open_mark(calls: &[u64], t: &[u64], place: usize) -> u64
     ensures { λ r. ⌜ Opens (now (calls .entry)) (now (t .entry)) place r ⌝ }
 {
     if kind(t[0]) == 4 {
+        if !value_kind(kind(t[1])) {
+            return place as u64;
+        }
         let bound = value_test(calls, &t[1..]);
         if !bound.value {
             return place as u64;
