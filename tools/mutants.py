@@ -35,7 +35,7 @@ MUTANTS = [
         (ROOTS + " " + FIRES, "{b v : Term} → T (isValue v)", "{b v : Term} → T true"), (FIRES, "(isValue (x .1)) (b", "true (b")]),
     ("left case takes the right branch", "reduction", [(ALL, "(l ⟦ v ⟧)", "(r ⟦ v ⟧)"), (FIRES, "(x .1 ⟦ v ⟧)", "(x .2 ⟦ v ⟧)")]),
     ("a claim that says nothing of redexes", "theory", [
-        ("semantics/specs/Claim", "normal ≡ true", "normal ≡ isNormal allPure normal"), ("theory/proofs/Claimed", "z .normal;", "refl;")]),
+        ("semantics/specs/Claim", "normal ≡ true", "normal ≡ isNormal allPure normal"), ("theory/proofs/ClaimHolds", "z .normal;", "refl;")]),
     ("a run goes right to left", "theory", [(RUN, "h ← run ρ f\n    v ← run ρ a\n", "v ← run ρ a\n    h ← run ρ f\n")]),
     ("calls put at the trace's front", "theory", [(RUN, "ended x (c ++ d)", "ended x (d ++ c)")]),
     ("let of let also on a value", "reduction", [(RULES, "given (isComputation p) (bind", "given true (bind")]),

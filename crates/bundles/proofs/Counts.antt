@@ -5,7 +5,7 @@ use mathlib.Core.Path.{_≡_, refl, _∙_, ap, subst}
 use mathlib.Core.List.{List, [], _∷_, _++_}
 use lib.ListN.{length, getD, drop, length-append}
 use lib.Seq.{sets, length-sets}
-use Rattle.parts.proofs.Writing.{Writing, write-none, write-next, write-all, write-room}
+use Rattle.words.proofs.Stretches.{Writing, write-none, write-next, write-all, write-room}
 use Rattle.outcomes.specs.Listing.{decimal, fields, space, newline}
 use Rattle.bundles.specs.Puts.{Puts}
 use Rattle.bundles.proofs.Fields.{fields-at, fields-last}

@@ -2,10 +2,10 @@ pub mod Bytes
 pub mod Readable
 pub mod Digits
 pub mod Decimal
-pub mod Putting
+pub mod FieldsWritten
 pub mod Fields
 pub mod Counts
 pub mod Lines
-pub mod Listed
+pub mod WholeListing
 pub mod ListingOutcome
 pub mod ListingBound

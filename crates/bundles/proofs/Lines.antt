@@ -6,9 +6,9 @@ use mathlib.Core.Path.{_≡_, refl, sym, _∙_, ap}
 use mathlib.Core.List.{List, [], _∷_, _++_, append-assoc}
 use lib.ListN.{length, getD, take, length-append}
 use lib.Seq.{sets, length-sets, length-take-le, take-suc}
-use Rattle.parts.proofs.Writing.{sets-append}
+use Rattle.words.proofs.Stretches.{sets-append}
 use Rattle.outcomes.specs.Listing.{hexadecimal, lines, newline}
-use Rattle.bundles.proofs.Putting.{length-hexadecimal}
+use Rattle.bundles.proofs.FieldsWritten.{length-hexadecimal}
 
 pub length-lines : (ws : List ℕ) → length (lines ws) ≡ 17 * length ws
 unfolding lines

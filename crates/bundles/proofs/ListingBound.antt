@@ -12,7 +12,7 @@ use Rattle.bundles.specs.FirstLine.{acceptedLine}
 use Rattle.bundles.proofs.Decimal.{width, width-last, width-more}
 use Rattle.bundles.proofs.Fields.{sizeOf, fields-size}
 use Rattle.bundles.proofs.Lines.{length-lines}
-use Rattle.bundles.proofs.Listed.{length-refused, length-accepted}
+use Rattle.bundles.proofs.WholeListing.{length-refused, length-accepted}
 use Rattle.bundles.proofs.ListingOutcome.{listing-refused, listing-accepted}
 
 -- a number below 10 ^ k has at most k digits, and at least the one

@@ -8,7 +8,7 @@ use Rattle.syntax.specs.Maybe.{_>>=_}
 use Rattle.syntax.specs.Words.{kindOf, numberOf, typeOf}
 use Rattle.syntax.specs.Tables.{Tables}
 use Rattle.syntax.specs.Term.{Terms, done}
-use Rattle.parts.specs.Joined.{joined}
+use Rattle.words.specs.Joined.{joined}
 use Rattle.typing.specs.Infer.{Context}
 use Rattle.checker.specs.Nodes.{nodeType}
 use Rattle.checker.proofs.PartTypes.{inferParts}

@@ -14,7 +14,7 @@ use Rattle.syntax.specs.Decoding.{decode}
 use Rattle.syntax.specs.Parts.{partEnd}
 use Rattle.syntax.proofs.Parts.{part-end}
 use Rattle.syntax.proofs.Forests.{even-term}
-use Rattle.parts.specs.Fronts.{Holds, Starts}
+use Rattle.words.specs.Fronts.{Holds, Starts}
 use Rattle.typing.specs.Infer.{infer}
 use Rattle.typing.specs.TermChecks.{wellFormedWords, scopedAt, scoped}
 use Rattle.typing.specs.Refusals.{elaborate, otherLimit}
@@ -25,9 +25,9 @@ use Rattle.checker.specs.Answers.{wholeOf, Scopes, inferredOf, Infers}
 use Rattle.checker.specs.declared.infer.Inferred.{Inferred}
 use Rattle.checker.specs.declared.infer.Inferred.the-variants.{Typed, Untyped}
 use Rattle.checker.proofs.Screens.{termChecks, elaborate-passes, ready}
-use Rattle.checker.proofs.Decoded.{kinds-of, holds-decoded}
-use Rattle.checker.proofs.Scoping.{scoped-if, unscoped-if}
-use Rattle.checker.proofs.Answered.{untyped-if, typed-if}
+use Rattle.checker.proofs.DecodedTerm.{kinds-of, holds-decoded}
+use Rattle.checker.proofs.ScopeByNode.{scoped-if, unscoped-if}
+use Rattle.checker.proofs.InferredTypes.{untyped-if, typed-if}
 
 -- place 7 passed: the term that the words stand for
 pub record Decoded (tables : Tables) (words : List ℕ) : Type 0 where

@@ -5,12 +5,12 @@ use mathlib.Core.List.{List, []}
 use Prim.Native.Nat.{ℕ}
 use native.Mathlib.Omega.{arith}
 use Rattle.syntax.specs.Tables.{Tables}
-use Rattle.parts.specs.Fronts.{Holds}
+use Rattle.words.specs.Fronts.{Holds}
 use Rattle.typing.specs.Refusals.{Verdict, refused, accepted, Typed, elaborate}
 use Rattle.typing.proofs.Accepted.{Verdicts, refusal, passed, Passed, elaborated}
 use Rattle.outcomes.specs.Check.{checkedOf}
 use Rattle.outcomes.specs.declared.Checked.{Checked}
-use Rattle.checker.proofs.Decoded.{holds-decoded}
+use Rattle.checker.proofs.DecodedTerm.{holds-decoded}
 
 -- a verdict accepts what passed, of a type
 pub record Accepts (P : Typed → Type 0) (v : Verdict Typed) (A : ℕ) : Type 0 where

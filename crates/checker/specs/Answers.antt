@@ -11,7 +11,7 @@ use Rattle.syntax.specs.Words.{kindOf, numberOf}
 use Rattle.syntax.specs.Tables.{Tables}
 use Rattle.syntax.specs.Term.{Term}
 use Rattle.syntax.specs.Encoding.{size}
-use Rattle.parts.specs.Fronts.{Holds}
+use Rattle.words.specs.Fronts.{Holds}
 use Rattle.typing.specs.Infer.{Context, infer}
 use Rattle.typing.specs.TermChecks.{scopedAt}
 use Rattle.checker.specs.declared.infer.Begun.{Begun}

@@ -17,10 +17,10 @@ use crate::tables::distinct;
 use crate::tables::inputs_fit;
 use crate::tables::lengths_fit;
 use crate::tables::types_fit;
-use crate::words::is_whole;
-use crate::words::words_fit;
+use crate::term_words::is_whole;
+use crate::term_words::words_fit;
 use outcomes::Checked;
-use parts::PENDING;
+use words::PENDING;
 
 // the most term words that a call that normalizes takes
 pub const NORMALIZE_LIMIT: usize = 4096;

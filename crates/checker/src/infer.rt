@@ -8,7 +8,7 @@ ghost use Rattle.syntax.specs.Maybe.{given as givenOf};
 ghost use Rattle.syntax.specs.Words.{countOf, argumentFields, kindOf, numberOf, typeOf};
 ghost use Rattle.syntax.specs.Tables.{over, components as componentsAt};
 ghost use Rattle.syntax.specs.Parts.{partCount};
-ghost use Rattle.parts.specs.Fronts.{Starts};
+ghost use Rattle.words.specs.Fronts.{Starts};
 ghost use Rattle.typing.specs.Infer.{equal};
 ghost use Rattle.checker.specs.Answers.{scope, inferredOf, begunOf, Infers};
 ghost use Rattle.checker.specs.Nodes.{componentsOf, binderType, formOf, judge as judgeOf, callType, nodeType};
@@ -26,8 +26,8 @@ pub fn parts_of_type(types: &[u64], kind: u64, a: u64) -> Components
     let i = a as usize;
     if i < types.len() {
         let w = types[i];
-        if parts::fields::kind(w) == kind {
-            return Components::Of(parts::fields::number(w), parts::fields::ty(w));
+        if words::fields::kind(w) == kind {
+            return Components::Of(words::fields::number(w), words::fields::ty(w));
         }
     }
     Components::Missing
@@ -80,18 +80,18 @@ fn entry(table: &[u64], a: u64) -> u64
 fn binder(types: &[u64], w: u64, j: usize, first: u64) -> u64
     ensures { λ r. ⌜ r ≡ binderType (now (types .entry)) (kindOf w) (typeOf w) j first ⌝ }
 {
-    let k = parts::fields::kind(w);
+    let k = words::fields::kind(w);
     if k == 2 {
-        return parts::fields::number(entry(types, parts::fields::ty(w)));
+        return words::fields::number(entry(types, words::fields::ty(w)));
     }
     if k == 4 {
         return first;
     }
     let e = entry(types, first);
     if j <= 1 {
-        return parts::fields::number(e);
+        return words::fields::number(e);
     }
-    parts::fields::ty(e)
+    words::fields::ty(e)
 }
 
 fn pick(b: bool, x: u64, y: u64) -> u64
@@ -118,23 +118,23 @@ fn form(k: u64) -> u64
 fn arguments_agree(w: u64, a: u64, b: u64, c: u64) -> bool
     ensures { λ r. ⌜ r ≡ equal (take (countOf w) (a ∷ b ∷ c ∷ [])) (take (countOf w) (argumentFields w)) ⌝ }
 {
-    let n = parts::fields::kind(w);
+    let n = words::fields::kind(w);
     if n == 0 {
         return true;
     }
-    if a != parts::fields::argument(w, 0) {
+    if a != words::fields::argument(w, 0) {
         return false;
     }
     if n == 1 {
         return true;
     }
-    if b != parts::fields::argument(w, 1) {
+    if b != words::fields::argument(w, 1) {
         return false;
     }
     if n == 2 {
         return true;
     }
-    c == parts::fields::argument(w, 2)
+    c == words::fields::argument(w, 2)
 }
 
 // a call's type, from the types of its arguments
@@ -145,7 +145,7 @@ fn call_type(calls: &[u64], n: u64, a: u64, b: u64, c: u64, words: usize) -> Inf
     if i < calls.len() {
         let w = calls[i];
         let ok = arguments_agree(w, a, b, c);
-        return given(ok, parts::fields::result(w), words);
+        return given(ok, words::fields::result(w), words);
     }
     Inferred::Untyped
 }
@@ -178,15 +178,15 @@ fn node_type(types: &[u64], calls: &[u64], w: u64, a: u64, b: u64, c: u64, words
         (nodeType (over (now (types .entry)) (now (calls .entry)) []) (kindOf w) (numberOf w) (typeOf w) (a ∷ b ∷ c ∷ [])) words
         ⌝ }
 {
-    let k = parts::fields::kind(w);
+    let k = words::fields::kind(w);
     if k == 1 {
-        return call_type(calls, parts::fields::number(w), a, b, c, words);
+        return call_type(calls, words::fields::number(w), a, b, c, words);
     }
     if k == 4 {
         return Inferred::Typed(b, words);
     }
-    let ty = parts::fields::ty(w);
-    let s = parts::shape::shape_of(k);
+    let ty = words::fields::ty(w);
+    let s = words::shape::shape_of(k);
     let subject = pick(s.ty, ty, a);
     let p = parts_of_type(types, form(k), subject);
     match p {
@@ -202,7 +202,7 @@ fn enter(types: &[u64], w: u64, j: usize, first: u64, stack: &mut [u64], depth: 
     ensures { λ r. ⌜ Enters (now (types .entry)) w j first (now (stack .entry)) (now (stack .exit)) depth r ⌝ }
 {
     stack[depth] = binder(types, w, j, first);
-    depth + parts::shape::binders(parts::fields::kind(w), j)
+    depth + words::shape::binders(words::fields::kind(w), j)
 }
 
 // the type of a node that has no parts: a variable, or a call with no arguments
@@ -212,8 +212,8 @@ fn leaf(calls: &[u64], inputs: &[u64], stack: &[u64], depth: usize, w: u64) -> I
         r ≡ inferredOf (leafType (over [] (now (calls .entry)) []) (scope (now (inputs .entry)) (now (stack .entry)) depth) w) 1
         ⌝ }
 {
-    let n = parts::fields::number(w);
-    if parts::fields::kind(w) == 0 {
+    let n = words::fields::number(w);
+    if words::fields::kind(w) == 0 {
         return variable(inputs, stack, depth, n);
     }
     call_type(calls, n, 0, 0, 0, 1)
@@ -235,7 +235,7 @@ fn begin(calls: &[u64], inputs: &[u64], stack: &[u64], depth: usize, part: &[u64
         ⌝ }
 {
     let w = part[0];
-    let n = parts::shape::owed_count(calls, w);
+    let n = words::shape::owed_count(calls, w);
     if n == 0 {
         let r = leaf(calls, inputs, stack, depth, w);
         match r {
@@ -302,9 +302,9 @@ pub fn infer(
             let j = (head % 4) as usize;
             let w = term[place];
             let base = last - j;
-            let outside = depth - parts::shape::binders(parts::fields::kind(w), j);
+            let outside = depth - words::shape::binders(words::fields::kind(w), j);
             nodes[last] = a;
-            if j + 1 < parts::shape::owed_count(calls, w) {
+            if j + 1 < words::shape::owed_count(calls, w) {
                 let first = nodes[base];
                 nodes[top] = head + 1;
                 top += 1;

@@ -1,7 +1,7 @@
 // The type check: refusals 1 to 9 in their order, and the type of a term that passes.
 
 pub mod tables; // tables.rt: refusals 1 to 5, on the tables
-pub mod words; // words.rt: refusals 6 and 7, on the term words
+pub mod term_words; // term_words.rt: refusals 6 and 7, on the term words
 pub mod scope; // scope.rt: refusal 8, variables
 pub mod infer; // infer.rt: refusal 9, types
 pub mod check; // check.rt: all of them, and the public call `check`

@@ -2,17 +2,17 @@
 ghost use mathlib.Core.Path.{_≡_};
 ghost use Prim.Native.Nat.{_+_, _≤_};
 ghost use lib.ListN.{length};
-ghost use Rattle.parts.specs.Fronts.{Starts};
+ghost use Rattle.words.specs.Fronts.{Starts};
 ghost use Rattle.typing.specs.TermChecks.{below};
 ghost use Rattle.checker.specs.Answers.{variableOf, Scopes};
-use parts::depths::open_parts;
+use words::depths::open_parts;
 
 // whether a word names one of so many binders and inputs, where it is a variable's
 fn in_scope(w: u64, depth: u64) -> bool
     ensures { λ r. ⌜ r ≡ below depth (variableOf w) ⌝ }
 {
-    if parts::fields::kind(w) == 0 {
-        return parts::fields::number(w) < depth;
+    if words::fields::kind(w) == 0 {
+        return words::fields::number(w) < depth;
     }
     true
 }

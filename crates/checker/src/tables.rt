@@ -32,15 +32,15 @@ pub fn lengths_fit(limit: usize, types: &[u64], calls: &[u64], inputs: &[u64], t
 pub fn type_fits(i: usize, w: u64) -> bool
     ensures { λ r. ⌜ r ≡ wellFormedType i w ⌝ }
 {
-    let k = parts::fields::kind(w);
-    let right = parts::fields::ty(w) as usize;
+    let k = words::fields::kind(w);
+    let right = words::fields::ty(w) as usize;
     if k == 0 {
         return right == 0;
     }
     if 3 < k {
         return false;
     }
-    let left = parts::fields::number(w) as usize;
+    let left = words::fields::number(w) as usize;
     if left < i {
         return right < i;
     }
@@ -126,20 +126,20 @@ pub fn field_fits(used: bool, bound: usize, x: u64) -> bool
 pub fn call_fits(types: usize, w: u64) -> bool
     ensures { λ r. ⌜ r ≡ wellFormedCall types w ⌝ }
 {
-    let n = parts::fields::kind(w);
+    let n = words::fields::kind(w);
     if 3 < n {
         return false;
     }
-    if types <= parts::fields::result(w) as usize {
+    if types <= words::fields::result(w) as usize {
         return false;
     }
-    if !field_fits(0 < n, types, parts::fields::argument(w, 0)) {
+    if !field_fits(0 < n, types, words::fields::argument(w, 0)) {
         return false;
     }
-    if !field_fits(1 < n, types, parts::fields::argument(w, 1)) {
+    if !field_fits(1 < n, types, words::fields::argument(w, 1)) {
         return false;
     }
-    field_fits(2 < n, types, parts::fields::argument(w, 2))
+    field_fits(2 < n, types, words::fields::argument(w, 2))
 }
 
 pub fn calls_fit(types: &[u64], calls: &[u64]) -> bool

@@ -1,12 +1,12 @@
 // What is written for each call.
 ghost use Prim.Native.Nat.{_≤_};
 ghost use lib.ListN.{length};
-use crate::words::MOST_BUFFER;
-use crate::words::digest;
-use crate::words::fill;
+use crate::codec::MOST_BUFFER;
+use crate::codec::digest;
+use crate::codec::fill;
 use checker::check::check;
 use libc::STDOUT_FILENO;
-use normality::is_normal::is_normal;
+use normal_form::is_normal::is_normal;
 use normalizer::normalize::normalize;
 use outcomes::Answer;
 use responder::MOST_WRITTEN;

@@ -1,5 +1,5 @@
-pub mod Standing
+pub mod BetweenTurns
 pub mod StepLoop
 pub mod PhaseLoop
-pub mod Settling
-pub mod Deciding
+pub mod TermReduced
+pub mod AnswerAndOutput

@@ -18,15 +18,15 @@ use Rattle.reduction.proofs.Clear.{clear-zero}
 use Rattle.reduction.proofs.Remaining.{reduce-begins}
 use Rattle.reduction.proofs.CountsBounded.{zeros}
 use Rattle.theory.proofs.Fields.{fitting}
-use Rattle.stepper.specs.Currents.{Gapped, Current}
-use Rattle.stepper.specs.Gaps.{Seeks}
-use Rattle.stepper.specs.Turns.{Turned, spent, full, Turns}
-use Rattle.stepper.specs.declared.turn.Turn.{Turn}
-use Rattle.stepper.specs.declared.turn.Turn.the-variants.{Stop, Refused}
+use Rattle.step.specs.Currents.{Gapped, Current}
+use Rattle.step.specs.Gaps.{Seeks}
+use Rattle.step.specs.Turns.{Turned, spent, full, Turns}
+use Rattle.step.specs.declared.turn.Turn.{Turn}
+use Rattle.step.specs.declared.turn.Turn.the-variants.{Stop, Refused}
 use Rattle.normalizer.specs.Reductions.{Reducible, Comes, refusal, ended, Reduces}
 use Rattle.normalizer.specs.declared.reduce.Reduced.{Reduced}
-use Rattle.stepper.proofs.Gapping.{gapped-size}
-use Rattle.normalizer.proofs.Standing.{Standing, Ended, standing-refused, standing-inserted, standing-reduced, standing-ended}
+use Rattle.step.proofs.GapMoved.{gapped-size}
+use Rattle.normalizer.proofs.BetweenTurns.{Standing, Ended, standing-refused, standing-inserted, standing-reduced, standing-ended}
 use Rattle.normalizer.proofs.StepLoop.{Stands, Carries, Bounded, Inner}
 
 -- words are those of one term
@@ -39,7 +39,7 @@ current-unique {calls} {t = t} {u = u} c d =
 -- the outer loop's invariant: where it begins, nothing is done
 pub record Outer (calls : List ℕ) (phase : Phase) (words₀ words : List ℕ) (begin start end budget left : ℕ) (counts : Counts)
     (second₀ second : List ℕ) (refused : ℕ) : Type 0 where
-  pub begun : Stands calls Insertion words₀ 0 begin budget zeroCounts
+  pub premise : Stands calls Insertion words₀ 0 begin budget zeroCounts
   pub carries : Carries calls Insertion phase words₀ words 0 start begin end budget left zeroCounts counts
   pub bounded : Bounded left counts
   pub limit : length words ≤ 8192
@@ -52,13 +52,13 @@ pub inner-begins : {calls : List ℕ} {phase : Phase} {words₀ words : List ℕ
     {second₀ second : List ℕ} {refused : ℕ} → Outer calls phase words₀ words begin start end budget left counts second₀ second refused
     → Inner calls phase words words start start end end left left counts counts second second refused
 inner-begins o = record {
-  begun = record {
-    types = o .begun .types;
-    inputs = o .begun .inputs;
-    capacity = o .begun .capacity;
-    whole = o .begun .whole;
-    fit = o .begun .fit;
-    standing = o .carries _ _ _ _ (o .begun .fit) (o .begun .standing);
+  premise = record {
+    types = o .premise .types;
+    inputs = o .premise .inputs;
+    capacity = o .premise .capacity;
+    whole = o .premise .whole;
+    fit = o .premise .fit;
+    standing = o .carries _ _ _ _ (o .premise .fit) (o .premise .standing);
   };
   carries = λ types inputs capacity whole fit s. s;
   bounded = o .bounded;
@@ -105,17 +105,17 @@ module _ {calls : List ℕ} {phase : Phase} {words₀ words₁ words : List ℕ}
 
   -- the reduction of whatever term was current at first stands here
   outer-stands : (t : Term) → Current calls words₀ 0 begin t
-      → Standing (over (o .begun .types) calls (o .begun .inputs)) (length words₀)
+      → Standing (over (o .premise .types) calls (o .premise .inputs)) (length words₀)
       (reduce allPure (length words₀) (record { budget = budget }) t) phase words start end left counts
   outer-stands t c =
-      let s = o .begun .standing in
+      let s = o .premise .standing in
       let e : s .term ≡ t = current-unique (s .at .current) c in
       let g = c .gapped in
-      both _ _ _ _ (o .begun .fit) (record {
+      both _ _ _ _ (o .premise .fit) (record {
         term = t;
         type = s .type;
-        at = record { current = c; clear = clear-zero allPure Insertion t; begun = tt };
-        typed = subst (λ (x : Term). infer (over (o .begun .types) calls (o .begun .inputs)) x (o .begun .inputs) ≡ some (s .type)) e
+        at = record { current = c; clear = clear-zero allPure Insertion t; premise = tt };
+        typed = subst (λ (x : Term). infer (over (o .premise .types) calls (o .premise .inputs)) x (o .premise .inputs) ≡ some (s .type)) e
             (s .typed);
         long = refl;
         same = sym (reduce-begins allPure (length words₀) budget t (omega (arith, gapped-size g, g .inside)));
@@ -146,7 +146,7 @@ module _ {calls : List ℕ} {phase : Phase} {words₀ words₁ words : List ℕ}
         → Follows calls words after front start end rest left counts p p′
         → Outer calls p′ words₀ front begin 0 rest budget left counts second₀ second′ refused
     outer-next b p p′ e f = record {
-      begun = o .begun;
+      premise = o .premise;
       carries = λ types inputs capacity whole fit s.
           let t = both types inputs capacity whole fit s in
           subst (λ (q : Phase). Follows calls words after front start end rest left counts q p′) (sym e) f types inputs capacity whole k
@@ -178,7 +178,7 @@ outer-begins {calls} {words} {second} {begin} {budget} h x =
     let y = x .typed in
     let g = x .current .gapped in
     record {
-      begun = record {
+      premise = record {
         types = y .types;
         inputs = y .inputs;
         capacity = length words;
@@ -187,7 +187,7 @@ outer-begins {calls} {words} {second} {begin} {budget} h x =
         standing = record {
           term = x .term;
           type = y .type;
-          at = record { current = x .current; clear = clear-zero allPure Insertion (x .term); begun = tt };
+          at = record { current = x .current; clear = clear-zero allPure Insertion (x .term); premise = tt };
           typed = y .typed;
           long = refl;
           same = sym (reduce-begins allPure (length words) budget (x .term) (omega (arith, gapped-size g, g .inside)));

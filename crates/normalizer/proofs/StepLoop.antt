@@ -10,11 +10,11 @@ use Rattle.reduction.specs.declared.Rule.{Rule}
 use Rattle.reduction.specs.declared.Phase.{Phase}
 use Rattle.reduction.proofs.CountsBounded.{raised}
 use Rattle.theory.proofs.Fields.{Fitting}
-use Rattle.stepper.specs.Gaps.{Seekable}
-use Rattle.stepper.specs.Turns.{Ready, Turns}
-use Rattle.stepper.specs.declared.turn.Turn.{Turn}
-use Rattle.stepper.specs.declared.turn.Turn.the-variants.{Stop, Step as Stepped}
-use Rattle.normalizer.proofs.Standing.{Standing, standing-ready, standing-seekable, standing-steps}
+use Rattle.step.specs.Gaps.{Seekable}
+use Rattle.step.specs.Turns.{Ready, Turns}
+use Rattle.step.specs.declared.turn.Turn.{Turn}
+use Rattle.step.specs.declared.turn.Turn.the-variants.{Stop, Step as Stepped}
+use Rattle.normalizer.proofs.BetweenTurns.{Standing, standing-ready, standing-seekable, standing-steps}
 
 -- the counts and what is left of the budget stay within 32 bits
 abbrev pub Bounded : (left : ℕ) (counts : Counts) → Type 0
@@ -40,7 +40,7 @@ Carries calls phase₀ phase words₀ words start₀ start end₀ end left₀ le
 -- the inner loop's invariant
 pub record Inner (calls : List ℕ) (phase : Phase) (words₀ words : List ℕ) (start₀ start end₀ end left₀ left : ℕ) (counts₀ counts : Counts)
     (second₀ second : List ℕ) (refused : ℕ) : Type 0 where
-  pub begun : Stands calls phase words₀ start₀ end₀ left₀ counts₀
+  pub premise : Stands calls phase words₀ start₀ end₀ left₀ counts₀
   pub carries : Carries calls phase phase words₀ words start₀ start end₀ end left₀ left counts₀ counts
   pub bounded : Bounded left counts
   pub limit : length words ≤ 8192
@@ -52,8 +52,8 @@ pub record Inner (calls : List ℕ) (phase : Phase) (words₀ words : List ℕ) 
 module _ {calls : List ℕ} {phase : Phase} {words₀ words : List ℕ} {start₀ start end₀ end left₀ left : ℕ} {counts₀ counts : Counts}
     {second₀ second : List ℕ} {refused : ℕ}
     (v : Inner calls phase words₀ words start₀ start end₀ end left₀ left counts₀ counts second₀ second refused) where
-  now : Standing (over (v .begun .types) calls (v .begun .inputs)) (v .begun .capacity) (v .begun .whole) phase words start end left counts
-  now = v .carries _ _ _ _ (v .begun .fit) (v .begun .standing)
+  now : Standing (over (v .premise .types) calls (v .premise .inputs)) (v .premise .capacity) (v .premise .whole) phase words start end left counts
+  now = v .carries _ _ _ _ (v .premise .fit) (v .premise .standing)
 
   pub inner-ready : Ready phase calls words start end second
   inner-ready = standing-ready _ _ _ now second (v .limit) (v .scratch)
@@ -72,7 +72,7 @@ module _ {calls : List ℕ} {phase : Phase} {words₀ words : List ℕ} {start�
     -- a step is taken only while there is budget, so no count overflows
     pub inner-positive : 0 < left
     inner-positive =
-        standing-steps _ _ _ now rule from rest (v .begun .fit) (omega (arith, v .limit, now .long)) (a ∙ now .long) stepped .0
+        standing-steps _ _ _ now rule from rest (v .premise .fit) (omega (arith, v .limit, now .long)) (a ∙ now .long) stepped .0
 
     pub inner-below : (i : ℕ) → getD counts i 0 < 4294967295
     inner-below i = omega (arith, inner-positive, v .bounded i)
@@ -83,7 +83,7 @@ module _ {calls : List ℕ} {phase : Phase} {words₀ words : List ℕ} {start�
     inner-next second′ counts′ b ce =
         subst (λ (cs : Counts). Inner calls phase words₀ after start₀ from end₀ rest left₀ (left - 1) counts₀ cs second₀ second′ refused)
         (sym ce) (record {
-          begun = v .begun;
+          premise = v .premise;
           carries = λ types inputs capacity whole fit s.
               let t = v .carries types inputs capacity whole fit s in
               standing-steps _ _ _ t rule from rest fit (omega (arith, v .limit, t .long)) (a ∙ t .long) stepped .1;

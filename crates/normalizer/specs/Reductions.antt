@@ -11,7 +11,7 @@ use Rattle.typing.specs.Infer.{infer}
 use Rattle.typing.specs.TableChecks.{lengthsFit, wellFormedCalls}
 use Rattle.reduction.specs.Rules.{allPure}
 use Rattle.reduction.specs.Reduction.{Counts, Progress, stopped, reached, reduce}
-use Rattle.stepper.specs.Currents.{Gapped, Current}
+use Rattle.step.specs.Currents.{Gapped, Current}
 use Rattle.normalizer.specs.declared.reduce.Reduced.{Reduced}
 
 -- the term has a type over tables with these calls, which pass checks 1 and 4

@@ -9,8 +9,8 @@ use crate::reduce::reduce;
 use checker::check::NORMALIZE_LIMIT;
 use checker::check::verdict;
 use outcomes::Answer;
-use stepper::moves::clear;
-use stepper::moves::copy;
+use words::moves::clear;
+use words::moves::copy;
 
 fn smaller(a: usize, b: usize) -> usize
     ensures { λ r. ⌜ r ≡ min a b ⌝ }

@@ -18,7 +18,7 @@ use Rattle.reduction.specs.Sequence.{tally, Sequence, terms}
 use Rattle.reduction.proofs.Remaining.{reduce-begins, reduce-too-long}
 use Rattle.reduction.proofs.Path.{Within, fits, nexts, Path, steps, sequence-path, sequence-end, Finished}
 use Rattle.reduction.proofs.Path.{inserted, path-finished, path-fits}
-use Rattle.reduction.proofs.Halting.{from, path-from, Halt, spent, full, over, halt-from, insertion-comes}
+use Rattle.reduction.proofs.RunsHalt.{from, path-from, Halt, spent, full, over, halt-from, insertion-comes}
 
 module _ (pure : Term → Bool) (capacity : ℕ) where
   -- where a reduction is refused: a step fits and the budget is used up; the next term is too long, and the budget is not used up; or the

@@ -6,7 +6,7 @@ pub mod Roots
 pub mod Fires
 pub mod Fits
 pub mod Search
-pub mod Lowered
+pub mod DropSubstitutes
 pub mod StepUses
 pub mod NextSize
 pub mod Clear
@@ -15,7 +15,7 @@ pub mod Places
 pub mod Below
 pub mod Remaining
 pub mod Path
-pub mod Halting
+pub mod RunsHalt
 pub mod Exact
 pub mod CountsBounded
 pub mod SearchAnswer

@@ -13,7 +13,7 @@ use Rattle.syntax.proofs.Uses.{uses-weaken-suc, uses-weakens-suc, uses-weakenBo
 use Rattle.reduction.specs.declared.Phase.{Phase}
 use Rattle.reduction.specs.declared.Phase.the-variants.{Insertion, Reduction, Dropping}
 use Rattle.reduction.specs.Redex.{Step as Stepped, step}
-use Rattle.reduction.proofs.Lowered.{uses-lower}
+use Rattle.reduction.proofs.DropSubstitutes.{uses-lower}
 use Rattle.reduction.proofs.Roots.{Names, this, next, Insert, i-call, i-app₁, i-app₂, i-pair₁, i-pair₂, i-fst, i-snd, i-inl, i-inr}
 use Rattle.reduction.proofs.Roots.{i-case, Reduce, r-let, r-case, r-apply, r-fst, r-snd, r-left, r-right, r-value, Drops, r-drop}
 use Rattle.reduction.proofs.Roots.{Step, StepAll, s-root, s-call, s-lam, s-app₁, s-app₂, s-bind₁, s-bind₂, s-pair₁, s-pair₂, s-fst}

@@ -1,2 +1,2 @@
-mod Responding
+mod ListedAnswer
 pub mod ResponseBound

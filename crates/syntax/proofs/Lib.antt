@@ -1,5 +1,6 @@
 pub mod Options
 pub mod Views
+pub mod ByKind
 pub mod Values
 pub mod Algebra
 pub mod Decoding

@@ -1,7 +1,7 @@
-pub mod Calm
-pub mod Claimed
+pub mod ValuesMakeNoCalls
+pub mod ClaimHolds
 pub mod Compatible
-pub mod Contracted
+pub mod ContractHolds
 pub mod Ends
 pub mod Fields
 pub mod FitByKinds

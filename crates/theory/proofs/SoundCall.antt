@@ -12,7 +12,7 @@ use Rattle.theory.proofs.Ends.{EndsAll, ends-var, ends-bind}
 use Rattle.theory.proofs.Ends.{ends-arg, ends-call}
 use Rattle.theory.proofs.Relation.{All, all-more, Model, Rv, Runs, E}
 use Rattle.theory.proofs.Fundamental.{renamedAll, Same, same}
-use Rattle.theory.proofs.Calm.{calm-weaken}
+use Rattle.theory.proofs.ValuesMakeNoCalls.{calm-weaken}
 use Rattle.reduction.proofs.Roots.{Names, this, next}
 
 module _ (M : Model) where

@@ -12,7 +12,7 @@ use Rattle.theory.proofs.Ends.{ends-case-left, ends-case-right}
 use Rattle.theory.proofs.Relation.{Pairs, pairs, Sums, lefts, rights, Model, Rv, Runs, E, from-arrow, from-product}
 use Rattle.theory.proofs.Relation.{to-product, from-sum, to-sum}
 use Rattle.theory.proofs.Fundamental.{Same, same}
-use Rattle.theory.proofs.Calm.{weakenE, calm-weaken, bodyE}
+use Rattle.theory.proofs.ValuesMakeNoCalls.{weakenE, calm-weaken, bodyE}
 use Rattle.reduction.proofs.Roots.{Insert, i-call, i-app₁, i-app₂, i-pair₁, i-pair₂, i-fst, i-snd, i-inl, i-inr, i-case}
 use Rattle.theory.proofs.SoundCall.{new, named, let-call}
 

@@ -16,7 +16,7 @@ use Rattle.theory.proofs.Compatible.{Bound}
 use Rattle.theory.proofs.Fundamental.{Same, same-up, same}
 use Rattle.theory.proofs.Preserve.{lam-typed, pair-typed, inl-typed, inr-typed}
 use Rattle.reduction.proofs.Roots.{Reduce, r-let, r-case, r-apply, r-fst, r-snd, r-left, r-right, r-value}
-use Rattle.theory.proofs.Calm.{calm-same, bodyE, putE}
+use Rattle.theory.proofs.ValuesMakeNoCalls.{calm-same, bodyE, putE}
 
 module _ (M : Model) where
   case-out : {Γ : Context} {S A B D F : ℕ} {ρ ρ′ : Values} {n : ℕ} {l r c : Term} → Of (M .tables) sum S A B → Bound M S ρ n ρ′ n

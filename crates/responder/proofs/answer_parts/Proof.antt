@@ -1,5 +1,5 @@
 -- The four parts of the words are those that the definitions take.
-use Rattle.responder.proofs.Responding.{parts-answered}
+use Rattle.responder.proofs.ListedAnswer.{parts-answered}
 use borrow.Author.Needs.{needs}
 use Rattle.responder.proofs.answer_parts.Statement.{statement}
 use Rattle.responder.proofs.answer_parts.Tie as tie

@@ -1,6 +1,6 @@
 -- The outcome of `normalize` with buffers of 8,192 zeros, listed.
 use mathlib.Core.Path.{refl}
-use Rattle.responder.proofs.Responding.{listing-normalized, full-capacity}
+use Rattle.responder.proofs.ListedAnswer.{listing-normalized, full-capacity}
 use borrow.Author.Needs.{needs}
 use Rattle.responder.proofs.answer_to.Statement.{statement}
 use Rattle.responder.proofs.answer_to.Tie as tie

@@ -1,5 +1,5 @@
 -- A refusal's listing has no words.
-use Rattle.responder.proofs.Responding.{refusal-listed}
+use Rattle.responder.proofs.ListedAnswer.{refusal-listed}
 use borrow.Author.Needs.{needs}
 use Rattle.responder.proofs.refuse.Statement.{statement}
 use Rattle.responder.proofs.refuse.Tie as tie

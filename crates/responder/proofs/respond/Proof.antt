@@ -1,6 +1,6 @@
 -- Read, then refused or answered.
 use borrow.Author.Needs.{needs}
-use Rattle.responder.proofs.Responding.{refused-responds, read-responds, reading-fits}
+use Rattle.responder.proofs.ListedAnswer.{refused-responds, read-responds, reading-fits}
 use Rattle.responder.proofs.respond.Statement.{statement}
 use Rattle.responder.proofs.respond.Tie as tie
 

@@ -1,6 +1,6 @@
 -- The line's length as a sum, each field with the byte that ends it.
 use native.Mathlib.Omega.{arith}
-use Rattle.bundles.proofs.Listed.{accepted-size}
+use Rattle.bundles.proofs.WholeListing.{accepted-size}
 use borrow.Author.Needs.{needs}
 use Rattle.bundles.proofs.listing.line_size.Statement.{statement}
 use Rattle.bundles.proofs.listing.line_size.Tie as tie

@@ -1,6 +1,6 @@
 -- The listing's length is known before a byte is written; then come the first line and the words.
 use native.Mathlib.Omega.{arith}
-use Rattle.bundles.proofs.Listed.{words-short, words-put}
+use Rattle.bundles.proofs.WholeListing.{words-short, words-put}
 use borrow.Author.Needs.{needs}
 use Rattle.bundles.proofs.listing.list_accepted.Statement.{statement}
 use Rattle.bundles.proofs.listing.list_accepted.Tie as tie

@@ -2,8 +2,8 @@
 use native.Mathlib.Omega.{arith}
 use mathlib.Core.Path.{refl}
 use Rattle.outcomes.specs.Text.{ascii}
-use Rattle.bundles.proofs.Putting.{field-size, line-size}
-use Rattle.bundles.proofs.Listed.{refused-short, refused-put}
+use Rattle.bundles.proofs.FieldsWritten.{field-size, line-size}
+use Rattle.bundles.proofs.WholeListing.{refused-short, refused-put}
 use borrow.Author.Needs.{needs}
 use Rattle.bundles.proofs.listing.list_refused.Statement.{statement}
 use Rattle.bundles.proofs.listing.list_refused.Tie as tie

@@ -4,7 +4,7 @@ use Prim.Native.Nat.{_-_, _≤_}
 use native.Mathlib.Omega.{arith}
 use mathlib.Core.Path.{_≡_}
 use lib.ListN.{length}
-use Rattle.bundles.proofs.Putting.{field-size}
+use Rattle.bundles.proofs.FieldsWritten.{field-size}
 use Rattle.bundles.proofs.Counts.{FieldsPut, fields-none, fields-end, next-room, next-put, last-room, last-put}
 use Rattle.bundles.proofs.listing.put_counts.Statement.{statement}
 use Rattle.bundles.proofs.listing.put_counts.Tie as tie

@@ -2,8 +2,8 @@
 use native.Mathlib.Omega.{arith}
 use mathlib.Core.Path.{refl}
 use Rattle.outcomes.specs.Text.{ascii}
-use Rattle.bundles.proofs.Putting.{field-size}
-use Rattle.bundles.proofs.Listed.{length-accepted, accepted-put}
+use Rattle.bundles.proofs.FieldsWritten.{field-size}
+use Rattle.bundles.proofs.WholeListing.{length-accepted, accepted-put}
 use borrow.Author.Needs.{needs}
 use Rattle.bundles.proofs.listing.put_line.Statement.{statement}
 use Rattle.bundles.proofs.listing.put_line.Tie as tie

@@ -1,7 +1,7 @@
 -- Three bytes, one after the other.
 use native.Mathlib.Omega.{arith}
 use lib.ListN.{length-set}
-use Rattle.bundles.proofs.Putting.{three-put}
+use Rattle.bundles.proofs.FieldsWritten.{three-put}
 use borrow.Author.Needs.{needs}
 use Rattle.bundles.proofs.listing.put_start.Statement.{statement}
 use Rattle.bundles.proofs.listing.put_start.Tie as tie

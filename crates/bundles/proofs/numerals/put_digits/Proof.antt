@@ -7,7 +7,7 @@ use mathlib.Core.Path.{_≡_, refl}
 use mathlib.Core.List.{List}
 use lib.ListN.{getD}
 use Rattle.outcomes.specs.Listing.{digit}
-use Rattle.parts.proofs.PartCounts.{kinds-agree}
+use Rattle.words.proofs.PartCounts.{kinds-agree}
 use Rattle.bundles.proofs.Digits.{DigitsPut, digits-none, digits-more, digits-all}
 use Rattle.bundles.proofs.numerals.put_digits.Statement.{statement}
 use Rattle.bundles.proofs.numerals.put_digits.Tie as tie

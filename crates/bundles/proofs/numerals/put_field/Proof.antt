@@ -1,5 +1,5 @@
 -- The digits, and one byte behind them.
-use Rattle.bundles.proofs.Putting.{field-put}
+use Rattle.bundles.proofs.FieldsWritten.{field-put}
 use borrow.Author.Needs.{needs}
 use Rattle.bundles.proofs.numerals.put_field.Statement.{statement}
 use Rattle.bundles.proofs.numerals.put_field.Tie as tie

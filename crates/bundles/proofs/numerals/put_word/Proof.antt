@@ -1,5 +1,5 @@
 -- Sixteen digits, and a line feed behind them.
-use Rattle.bundles.proofs.Putting.{word-put}
+use Rattle.bundles.proofs.FieldsWritten.{word-put}
 use borrow.Author.Needs.{needs}
 use Rattle.bundles.proofs.numerals.put_word.Statement.{statement}
 use Rattle.bundles.proofs.numerals.put_word.Tie as tie

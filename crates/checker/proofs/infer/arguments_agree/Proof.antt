@@ -8,7 +8,7 @@ use lib.ListN.{take}
 use borrow.Author.Needs.{needs}
 use borrow.Author.Tests.{eq-eqb, ne-eqb}
 use Rattle.syntax.specs.Words.{countOf, argumentFields}
-use Rattle.parts.specs.Shapes.{argumentOf}
+use Rattle.words.specs.Shapes.{argumentOf}
 use Rattle.typing.specs.Infer.{equal}
 use Rattle.checker.proofs.infer.arguments_agree.Statement.{statement}
 use Rattle.checker.proofs.infer.arguments_agree.Tie as tie

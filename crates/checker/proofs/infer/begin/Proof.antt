@@ -10,7 +10,7 @@ use Rattle.checker.specs.Answers.{inferredOf, knownOf, begunOf}
 use Rattle.checker.specs.declared.infer.Begun.the-variants.{Has, Fails}
 use Rattle.checker.specs.declared.infer.Inferred.{Inferred}
 use Rattle.checker.specs.declared.infer.Inferred.the-variants.{Typed, Untyped}
-use Rattle.checker.proofs.Answered.{untyped-if, typed-if, known-is, many-is, opens-is}
+use Rattle.checker.proofs.InferredTypes.{untyped-if, typed-if, known-is, many-is, opens-is}
 use Rattle.checker.proofs.infer.begin.Statement.{statement}
 use Rattle.checker.proofs.infer.begin.Tie as tie
 

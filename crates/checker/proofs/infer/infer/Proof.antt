@@ -8,10 +8,10 @@ use mathlib.Core.List.{List}
 use lib.ListN.{length, length-set, getD, set}
 use Rattle.syntax.specs.Words.{kindOf}
 use Rattle.syntax.specs.Kinds.{bindersAt}
-use Rattle.parts.proofs.Traversal.{from-length}
-use Rattle.checker.proofs.Turns.{Turn, Waiting, Having, Room, Given, as-having, as-waiting, is-having, is-waiting, halves, quarter}
-use Rattle.checker.proofs.Turns.{turn-first, turn-room, turn-fail, turn-leaf, turn-open}
-use Rattle.checker.proofs.Turns.{turn-given, turn-whole, turn-next, turn-untyped, turn-last}
+use Rattle.words.proofs.Traversal.{from-length}
+use Rattle.checker.proofs.InferTurns.{Turn, Waiting, Having, Room, Given, as-having, as-waiting, is-having, is-waiting, halves, quarter}
+use Rattle.checker.proofs.InferTurns.{turn-first, turn-room, turn-fail, turn-leaf, turn-open}
+use Rattle.checker.proofs.InferTurns.{turn-given, turn-whole, turn-next, turn-untyped, turn-last}
 use Rattle.checker.proofs.infer.infer.Statement.{statement}
 use Rattle.checker.proofs.infer.infer.Tie as tie
 

@@ -5,7 +5,7 @@ use native.Mathlib.Omega.{arith}
 use mathlib.Core.Path.{_≡_, refl, _∙_}
 use lib.ListN.{length, length-set}
 use Rattle.checker.proofs.Every.{told-true, told-false}
-use Rattle.checker.proofs.Scoping.{Scan, scan-begin, scan-inside, scan-opens, scan-out, scan-node, scan-end}
+use Rattle.checker.proofs.ScopeByNode.{Scan, scan-begin, scan-inside, scan-opens, scan-out, scan-node, scan-end}
 use Rattle.checker.proofs.scope.scoped.Statement.{statement}
 use Rattle.checker.proofs.scope.scoped.Tie as tie
 

@@ -9,7 +9,7 @@ use lib.ListN.{take, drop}
 use borrow.Author.Needs.{needs}
 use borrow.Author.Tests.{le-leb, lt-leb, lt-ltb, le-ltb}
 use Rattle.syntax.specs.Words.{countOf, resultOf}
-use Rattle.parts.specs.Shapes.{argumentOf}
+use Rattle.words.specs.Shapes.{argumentOf}
 use Rattle.typing.specs.TableChecks.{every, wellFormedCall}
 use Rattle.typing.specs.TermChecks.{fieldFits}
 use Rattle.checker.proofs.Every.{told-true, told-false}

@@ -2,32 +2,29 @@
 use Prim.Native.Nat.{ℕ}
 use mathlib.Core.Path.{_≡_, _∙_, ap}
 use mathlib.Core.List.{List}
-use lib.ListN.{length}
+use lib.ListN.{length, replicate}
 use Rattle.syntax.specs.Tables.{Tables}
 use Rattle.reduction.specs.Reduction.{Settings}
 use Rattle.outcomes.specs.Buffers.{cleared}
 use Rattle.outcomes.specs.Normalize.{Buffers, Outcome, normalizeOutcome}
 use Rattle.outcomes.specs.Contract.{Normalizes}
 use Rattle.outcomes.specs.declared.Answer.{Answer}
-use Rattle.theory.proofs.Contracted.{normalizes}
+use Rattle.theory.proofs.ContractHolds.{normalizes}
 use Rattle.normalizer.specs.Runs.{Runs}
 use borrow.Author.Needs.{needs}
 use Rattle.normalizer.proofs.normalize.normalize.Statement.{statement}
 use Rattle.normalizer.proofs.normalize.normalize.Tie as tie
 
-same-cleared : (l m : List ℕ) → length l ≡ length m → cleared l ≡ cleared m
+zeros-cleared : {n : ℕ} (words : List ℕ) {zeros : List ℕ} → n ≡ length words → zeros ≡ replicate n 0 → zeros ≡ cleared words
 unfolding cleared
-same-cleared l m e = rw e
+zeros-cleared words e z = z ∙ ap (λ (k : ℕ). replicate k 0) e
 
-outcome : (settings : Settings) (tables : Tables) (words : List ℕ) (before : Buffers) (a : Answer)
-    (output first second first′ second′ : List ℕ)
-    → Runs settings tables words before a output → first′ ≡ cleared first → second′ ≡ cleared second
-    → length first ≡ length (before .scratch₁) → length second ≡ length (before .scratch₂)
-    → Normalizes settings tables words before a (record { output = output; scratch₁ = first′; scratch₂ = second′ })
+outcome : (settings : Settings) (tables : Tables) (words : List ℕ) (before : Buffers) (a : Answer) (output first second : List ℕ)
+    → Runs settings tables words before a output → first ≡ cleared (before .scratch₁) → second ≡ cleared (before .scratch₂)
+    → Normalizes settings tables words before a (record { output = output; scratch₁ = first; scratch₂ = second })
 unfolding normalizeOutcome
-outcome settings tables words before a output first second first′ second′ r fe se fl sl =
-    normalizes settings tables words before a _
-    (made (r .answer-is) (r .output-is) (fe ∙ same-cleared first (before .scratch₁) fl) (se ∙ same-cleared second (before .scratch₂) sl))
+outcome settings tables words before a output first second r fe se =
+    normalizes settings tables words before a _ (made (r .answer-is) (r .output-is) fe se)
   where
     made : {a b : Answer} {o p f g s h : List ℕ} → a ≡ b → o ≡ p → f ≡ g → s ≡ h
         → _≡_ {A = Outcome} (record { answer = a; buffers = record { output = o; scratch₁ = f; scratch₂ = s } })
@@ -52,5 +49,5 @@ normalize-spec =
     let run = c .before .before .before .before .before .before .before .before .before .before .before .before .before .before .run in
     let clear = c .before .before .before .before .before .before .clear in
     let clear2 = c .before .before .clear2 in
-    outcome _ _ _ _ _ _ _ _ _ _ (run .ensures) (clear .ensures) (clear2 .ensures) (run .kept .1 .1 .1 .1 .1 .1 .0)
-    (run .kept .1 .1 .1 .1 .1 .1 .1 .0)))
+    outcome _ _ _ _ _ _ _ _ (run .ensures) (zeros-cleared _ (run .kept .1 .1 .1 .1 .1 .1 .0) (clear .ensures))
+    (zeros-cleared _ (run .kept .1 .1 .1 .1 .1 .1 .1 .0) (clear2 .ensures))))

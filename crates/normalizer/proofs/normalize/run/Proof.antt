@@ -3,7 +3,7 @@ use native.Mathlib.Omega.{arith}
 use Prim.Native.Nat.{ℕ, min}
 use mathlib.Core.Path.{_≡_, _∙_, ap}
 use lib.ListN.{length-take}
-use Rattle.normalizer.proofs.Deciding.{run-refused, run-too-long, run-settleable, run-settled}
+use Rattle.normalizer.proofs.AnswerAndOutput.{run-refused, run-too-long, run-settleable, run-settled}
 use borrow.Author.Needs.{needs}
 use Rattle.normalizer.proofs.normalize.run.Statement.{statement}
 use Rattle.normalizer.proofs.normalize.run.Tie as tie

@@ -1,7 +1,7 @@
 -- The term is copied to the end of the first scratch buffer and reduced there; what it comes to is answered.
 use native.Mathlib.Omega.{arith}
 use mathlib.Core.Path.{refl}
-use Rattle.normalizer.proofs.Settling.{settle-reducible, settled-stopped, last-inside, settled-ended}
+use Rattle.normalizer.proofs.TermReduced.{settle-reducible, settled-stopped, last-inside, settled-ended}
 use borrow.Author.Needs.{needs}
 use Rattle.normalizer.proofs.normalize.settle.Statement.{statement}
 use Rattle.normalizer.proofs.normalize.settle.Tie as tie

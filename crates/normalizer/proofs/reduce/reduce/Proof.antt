@@ -7,8 +7,8 @@ use mathlib.Core.List.{List}
 use lib.ListN.{length}
 use Rattle.reduction.specs.declared.Phase.{Phase}
 use Rattle.reduction.specs.declared.Phase.the-variants.{Insertion, Reduction, Dropping}
-use Rattle.stepper.specs.Turns.{Turns}
-use Rattle.stepper.specs.declared.turn.Turn.{Turn}
+use Rattle.step.specs.Turns.{Turns}
+use Rattle.step.specs.declared.turn.Turn.{Turn}
 use Rattle.normalizer.proofs.StepLoop.{Inner, inner-ready, inner-seekable, inner-positive, inner-below, inner-next}
 use Rattle.normalizer.proofs.PhaseLoop.{Outer, inner-begins, outer-begins, outer-refused, outer-next, outer-ended}
 use Rattle.normalizer.proofs.PhaseLoop.{after-insertion, after-reduction, phasesAfter}

@@ -1,0 +1,4 @@
+pub mod UsesByNode
+pub mod TermWritten
+pub mod RenamedWords
+pub mod SubstitutedWords

@@ -1,0 +1,182 @@
+-- Substitution into a buffer: the value is written for its variable, other variables are lowered past it, any other word is copied.
+use Prim.Native.Nat.{ℕ, suc, _+_, _-_, _^_, _≤_, _<_}
+use native.Mathlib.Omega.{arith}
+use native.Mathlib.Decide.{ℕ-discrete}
+use mathlib.Core.Path.{_≡_, refl, sym, _∙_, ap, subst, fun-ext}
+use mathlib.Core.Logic.{_≢_}
+use mathlib.Core.Bool.{Bool, true, false, _&&_, cond}
+use mathlib.Core.List.{List, [], _∷_, _++_, append-nil}
+use lib.Dec.{ltb}
+use lib.ListN.{length, getD, set, take, drop, take-append-drop, List·getD-append}
+use lib.Seq.{sets, take-all, length-take-le}
+use borrow.Rule.Slice.PartMut.{midOf, postOf, putMid, same-len-mid}
+use borrow.Author.Tests.{ltb-true, ltb-false, eq-eqb, ne-eqb}
+use Rattle.syntax.specs.Words.{kindOf, numberOf, pack}
+use Rattle.syntax.specs.Term.{Term, var, node}
+use Rattle.syntax.specs.Encoding.{wordOf, encode, size}
+use Rattle.syntax.specs.Kinds.{partsOfKind}
+use Rattle.syntax.specs.Parts.{partCount}
+use Rattle.syntax.specs.Tables.{arity}
+use Rattle.syntax.specs.Substitution.{traverse, rename, substitution, only}
+use Rattle.syntax.specs.Under.{underBy, raiseAt, onlyAt}
+use Rattle.syntax.proofs.Algebra.{rename-id}
+use Rattle.syntax.proofs.Sizes.{size-rename}
+use Rattle.syntax.proofs.Under.{onlyAt-below, onlyAt-at, onlyAt-above}
+use Rattle.words.specs.Reach.{outer, inner}
+use Rattle.words.specs.Depths.{Opens}
+use Rattle.words.specs.Fronts.{Holds, Whole}
+use Rattle.binding.specs.Writes.{Room, Renames, RoomFor, Substitutes, loweredWord, Raises}
+use Rattle.words.proofs.Rows.{march-within}
+use Rattle.syntax.proofs.ByKind.{by-kind}
+use Rattle.binding.proofs.TermWritten.{put, putAll, put-node, Trace, trace-begin, trace-end, put-room, trace-node, trace-leaf}
+
+-- a value is put for a variable
+abbrev pub valued : (calls value : List ℕ) → Whole calls value → ℕ → Term
+valued calls value v = only (v .term)
+
+-- a value's words begin with it
+whole-holds : {calls value : List ℕ} (v : Whole calls value) → Holds calls value (v .term) []
+whole-holds v = record { shaped = v .shaped; is = v .is ∙ sym (append-nil (encode (v .term))) }
+
+pub whole-room : {calls value : List ℕ} {at : ℕ} (len : ℕ) → Whole calls value → at + length value ≤ len → Room calls value len at
+unfolding size
+whole-room len w le = record {
+  start = record { term = w .term; rest = []; holds = whole-holds w };
+  room = omega (arith, le, ap (λ (l : List ℕ). length l) (w .is));
+}
+
+-- the value is copied, or raised
+module _ {calls value old new : List ℕ} {at by : ℕ} where
+  pub raises-copied : by ≡ 0 → new ≡ sets old at (take (length value) (drop 0 value)) → Raises calls value old new at by (length value)
+  unfolding underBy
+  raises-copied z e = record {
+    told = λ v. e ∙ ap (sets old at) (take-all (length value) value (omega arith) ∙ v .is ∙ ap encode (sym (same v)));
+    size-is = refl;
+  }
+    where
+      same : (v : Whole calls value) → rename (v .term) (raiseAt 0 by) ≡ v .term
+      same v = ap (rename (v .term)) (fun-ext λ n. omega (arith, z)) ∙ rename-id (v .term)
+
+  pub raises-renamed : (r : ℕ) → Whole calls value → Renames calls value old new at 0 by r → Raises calls value old new at by r
+  unfolding size
+  raises-renamed r w n = record {
+    told = λ v. n .told (v .term) [] (whole-holds v) .new-is;
+    size-is = n .told (w .term) [] (whole-holds w) .read-is ∙ ap (λ (l : List ℕ). length l) (sym (w .is));
+  }
+
+-- the word of a variable other than the one that goes
+lower-variable : (w d n : ℕ) (v : Term) → w ≡ pack 0 n 0 → kindOf w ≡ 0 → numberOf w ≡ n → w ≢ pack 0 d 0
+    → encode (onlyAt d v n) ≡ loweredWord d w ∷ []
+unfolding encode node
+lower-variable w d n v e k m h = go (ltb d n) refl
+  where
+    choice : (b : Bool) → ltb d n ≡ b → loweredWord d w ≡ cond b (w - 2 ^ 30) w
+    choice b f = ap (λ (x : Bool). cond (x && ltb d (numberOf w)) (w - 2 ^ 30) w) (eq-eqb (kindOf w) 0 k)
+        ∙ ap (λ (x : Bool). cond x (w - 2 ^ 30) w) (ap (ltb d) m ∙ f)
+
+    below : n ≤ d → n < d
+    below le = let q : n ≢ d = λ x. h (omega (arith, e, x)) in omega (arith, le, q)
+
+    go : (b : Bool) → ltb d n ≡ b → encode (onlyAt d v n) ≡ loweredWord d w ∷ []
+    go true f = ap encode (onlyAt-above d v n (ltb-true d n f))
+        ∙ ap {B = List ℕ} (λ (i : ℕ). i ∷ []) (omega (arith, e, ltb-true d n f) ∙ sym (choice true f))
+    go false f = ap encode (onlyAt-below d v n (below (ltb-false d n f)))
+        ∙ ap {B = List ℕ} (λ (i : ℕ). i ∷ []) (sym e ∙ sym (choice false f))
+
+-- a node other than that variable: its word, its variable lowered, and then its parts
+pub lower-node : (calls value : List ℕ) (w d : ℕ) → w ≢ pack 0 d 0 → (t : Term) → w ≡ wordOf t → kindOf w ≡ node t .kind
+    → numberOf w ≡ node t .number → (v : Whole calls value)
+    → encode (traverse substitution t (onlyAt d (v .term)))
+    ≡ loweredWord d w ∷ (putAll substitution (valued calls value) v (outer t) d ++ putAll substitution (valued calls value) v (inner t) (suc d))
+unfolding node traverse encode outer inner
+lower-node calls value w d h t e k n v = go (ℕ-discrete (node t .kind) 0)
+  where
+    Goal : Term → Type 0
+    Goal x = encode (traverse substitution x (onlyAt d (v .term)))
+        ≡ loweredWord d w ∷ (putAll substitution (valued calls value) v (outer x) d ++ putAll substitution (valued calls value) v (inner x) (suc d))
+
+    go : Dec (node t .kind ≡ 0) → Goal t
+    go (yes z) = by-kind (λ x. w ≡ wordOf x → numberOf w ≡ node x .number → Goal x) 0 t z
+        (λ m f g. lower-variable w d m (v .term) f (k ∙ z) g h) e n
+    go (no z) = put-node substitution (valued calls value) v t d z
+        ∙ ap {B = List ℕ}
+        (λ (i : ℕ). i ∷ (putAll substitution (valued calls value) v (outer t) d ++ putAll substitution (valued calls value) v (inner t) (suc d)))
+        (sym e ∙ ap (λ (b : Bool). cond (b && ltb d (numberOf w)) (w - 2 ^ 30) w) (sym (ne-eqb (kindOf w) 0 (λ y. z (sym k ∙ y)))))
+
+-- the loop's invariant
+abbrev pub Substituting : (calls body value old : List ℕ) (depth at : ℕ) (p new : List ℕ) (owed i o : ℕ) → Type 0
+Substituting calls body value old depth at p new owed i o =
+    Trace substitution (valued calls value) calls body old depth at (length value + 2) p new owed i o
+
+pub substitute-begin : {calls body value old : List ℕ} {at : ℕ} (p : List ℕ) (depth : ℕ)
+    → RoomFor calls body value (length old) at depth (length p) → Substituting calls body value old depth at (set p 0 depth) old 1 0 0
+substitute-begin {calls} {value = value} p depth r =
+    trace-begin substitution (valued calls value) p depth (r .start) (r .whole) (r .room) (omega (arith, r .spare))
+
+-- a node other than the variable
+pub substitute-node : {calls body value old : List ℕ} {depth at : ℕ} {p new : List ℕ} {owed i o : ℕ}
+    → Substituting calls body value old depth at p new owed i o → 1 ≤ owed → getD body i 0 ≢ pack 0 (getD p (owed - 1) 0) 0
+    → (q : List ℕ) (r x : ℕ) → length q ≡ length p → x ≡ loweredWord (getD p (owed - 1) 0) (getD body i 0)
+    → Opens calls (getD body i 0) (getD p (owed - 1) 0) p q (owed - 1) r
+    → Substituting calls body value old depth at q (set new (at + o) x) r (i + 1) (o + 1)
+substitute-node {calls} {body} {value} {at = at} {p = p} {owed = owed} {i = i} {o = o} g lt h q r x l e ops =
+    let w = getD body i 0 in
+    let under = getD p (owed - 1) 0 in
+    let f = valued calls value in
+    trace-node substitution f g lt w under refl refl q r x (at + o) l ops refl λ t a b c v.
+    lower-node calls value w under h t a b c v
+    ∙ ap {B = List ℕ} (λ (z : ℕ). z ∷ (putAll substitution f v (outer t) under ++ putAll substitution f v (inner t) (suc under))) (sym e)
+
+pub substitute-end : {calls body value old : List ℕ} {depth at : ℕ} {p new : List ℕ} {owed i o : ℕ}
+    → Substituting calls body value old depth at p new owed i o → owed ≡ 0
+    → Substitutes calls body value old new at depth (record { read = i; wrote = o })
+substitute-end {calls} {value = value} g z = record {
+  told = λ t rest h v.
+      let e = trace-end substitution (valued calls value) g z t rest h v in
+      record { written = record { read-is = e .0; new-is = e .2 }; wrote-is = e .1 };
+}
+
+-- the depths before a part of the buffer that is lent stay
+lent-kept : (p ys : List ℕ) (a k j : ℕ) → a ≤ length p → j < a → getD (putMid a k p ys) j 0 ≡ getD p j 0
+lent-kept p ys a k j le l =
+    let h : j < length (take a p) = omega (arith, l, length-take-le a p le) in
+    List·getD-append (take a p) (ys ++ postOf a k p) 0 j h ∙ sym (List·getD-append (take a p) (drop a p) 0 j h)
+    ∙ ap (λ (x : List ℕ). getD x j 0) (take-append-drop a p)
+
+-- the variable itself: the value is written, its variables raised
+module _ {calls body value old : List ℕ} {depth at : ℕ} {p new : List ℕ} {owed i o : ℕ}
+    (g : Substituting calls body value old depth at p new owed i o) (lt : 1 ≤ owed) (w under : ℕ) (we : w ≡ getD body i 0)
+    (ue : under ≡ getD p (owed - 1) 0) (e : w ≡ pack 0 under 0) (lu : under < 2 ^ 30) where
+  kind-is : kindOf w ≡ 0
+  kind-is = omega (arith, e, lu)
+
+  -- the term is the variable
+  is-variable : (P : Term → Type 0) (t : Term) → w ≡ wordOf t → kindOf w ≡ node t .kind → numberOf w ≡ node t .number
+      → P (var under) → P t
+  unfolding node
+  is-variable P t _ k n h = by-kind (λ x. numberOf w ≡ node x .number → P x) 0 t (sym k ∙ kind-is) (λ m q.
+      let c : under ≡ m = omega (arith, e, lu, q) in
+      subst (λ (x : ℕ). P (var x)) c h) n
+
+  value-size : (v : Whole calls value) → length value ≡ size (put substitution (valued calls value) v (var under) under)
+  unfolding size traverse
+  value-size v = ap (λ (l : List ℕ). length l) (v .is) ∙ sym (size-rename (v .term) (λ n. under + n)) ∙ ap size (sym (onlyAt-at under (v .term)))
+
+  pub value-room : at + o + length value ≤ length new
+  value-room = put-room substitution (valued calls value) g lt w under we ue (length value) λ t a b c v.
+      is-variable (λ x. length value ≡ size (put substitution (valued calls value) v x under)) t a b c (value-size v)
+
+  -- the value's depths stand in the part of the buffer behind those of the parts still to come
+  pub substitute-value : (ys new′ : List ℕ) (k r : ℕ) → length ys ≡ length (midOf owed k p) → length new′ ≡ length new
+      → Raises calls value new new′ (at + o) under r
+      → Substituting calls body value old depth at (putMid owed k p ys) new′ (owed - 1) (i + 1) (o + r)
+  unfolding partCount traverse underBy
+  substitute-value ys new′ k r l ln s =
+      trace-leaf substitution (valued calls value) g lt w under we ue (putMid owed k p ys) new′ r (at + o) (same-len-mid owed k p ys l)
+      (λ j c. lent-kept p ys owed k j (omega (arith, march-within calls body (g .going), g .spare)) (omega (arith, c))) ln
+      (ap (partsOfKind (arity calls (numberOf w))) kind-is) refl λ t a b c v.
+      is-variable (λ x. (new′ ≡ sets new (at + o) (encode (put substitution (valued calls value) v x under)))
+      × (r ≡ size (put substitution (valued calls value) v x under))) t a b c (
+        s .told v ∙ ap (λ (x : Term). sets new (at + o) (encode x)) (sym (onlyAt-at under (v .term))),
+        s .size-is ∙ value-size v,
+      )

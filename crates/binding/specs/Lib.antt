@@ -1,0 +1,2 @@
+pub mod UseCounts
+pub mod Writes

@@ -1,0 +1,78 @@
+-- The answer of `is_normal` from that of the checks: a term that is accepted is typed, so the grammar says whether a rule fits.
+use Prim.Native.Nat.{ℕ, _≤_}
+use native.Mathlib.Omega.{arith}
+use mathlib.Core.Path.{_≡_, sym, _∙_, ap}
+use mathlib.Core.Bool.{Bool, false, _&&_}
+use mathlib.Core.List.{List, []}
+use lib.Dec.{T, leb}
+use lib.ListN.{length, replicate, length-replicate}
+use borrow.Author.Tests.{leb-true}
+use Rattle.syntax.specs.Tables.{Tables}
+use Rattle.syntax.proofs.Options.{is-true, and-left, and-right}
+use Rattle.typing.specs.TableChecks.{lengthsFit}
+use Rattle.typing.specs.Refusals.{elaborate, otherLimit}
+use Rattle.typing.proofs.Accepted.{Passed}
+use Rattle.reduction.specs.Rules.{allPure}
+use Rattle.reduction.specs.Grammar.{inGrammar}
+use Rattle.outcomes.specs.Check.{checkedOf}
+use Rattle.outcomes.specs.IsNormal.{testedOf, isNormalOutcome}
+use Rattle.outcomes.specs.declared.Checked.{Checked}
+use Rattle.outcomes.specs.declared.Tested.{Tested}
+use Rattle.theory.proofs.GrammarNormal.{grammar-is-normal}
+use Rattle.words.specs.Fronts.{Starts}
+use Rattle.checker.proofs.Verdicts.{Accepts, accepted-of, refused-of, accepted-holds}
+use Rattle.search.specs.Marks.{Space}
+use Rattle.normal_form.specs.NormalTest.{Tests, Decides}
+use Rattle.normal_form.specs.declared.normal.Part.{Part}
+
+-- no binder is in scope yet: marks for as many as there can be words
+pub space-none : (l : ℕ) → l ≤ 8192 → Space 1 (replicate 8192 0) 0 l
+space-none l le = record {
+  deep = omega (arith, length-replicate {A = ℕ} 8192 0);
+  small = omega (arith, length-replicate {A = ℕ} 8192 0);
+  low = λ d h. absurd (omega arith);
+}
+
+pub decides : {calls words : List ℕ} {depth : ℕ} {old new : List ℕ} {r : Part} → Tests (inGrammar allPure) calls words depth old new r
+    → Decides calls words (r .ok)
+decides a = record { told = λ t rest h. a .told t rest h .ok-is }
+
+-- what passed has no more words than the limit
+short : (limit : ℕ) (tables : Tables) (words : List ℕ) → T (lengthsFit limit tables words) → length words ≤ limit
+unfolding lengthsFit
+short limit tables words h =
+    let fits = leb (length (tables .types)) 1024 && leb (length (tables .calls)) 1024 && leb (length (tables .inputs)) 256 in
+    let within = and-left (fits && leb (length words) limit) (leb 1 (length words)) h in
+    leb-true (length words) limit (is-true _ (and-right fits (leb (length words) limit) within))
+
+module _ (tables : Tables) (words : List ℕ) (r : Checked) (e : r ≡ checkedOf (elaborate otherLimit tables words)) where
+  -- refused by a check
+  pub refused-tested : (r .refusal ≡ 0 → ⊥) → _≡_ {A = Tested} (record { refusal = r .refusal; normal = false })
+      (isNormalOutcome tables words)
+  unfolding isNormalOutcome
+  refused-tested z = ap testedOf (sym (refused-of otherLimit tables words r e z))
+
+  -- accepted
+  module _ (z : r .refusal ≡ 0) where
+    accepts : Accepts (Passed otherLimit tables words) (elaborate otherLimit tables words) (r .ty)
+    accepts = accepted-of otherLimit tables words r e z
+
+    pub accepted-starts : Starts (tables .calls) words
+    accepted-starts = record {
+      term = accepts .typed .term;
+      rest = [];
+      holds = accepted-holds otherLimit tables words (accepts .typed) (accepts .passed);
+    }
+
+    pub accepted-short : length words ≤ 8192
+    accepted-short = short otherLimit tables words (accepts .passed .lengths)
+
+    pub accepted-tested : (b : Bool) → Decides (tables .calls) words b
+        → _≡_ {A = Tested} (record { refusal = 0; normal = b }) (isNormalOutcome tables words)
+    unfolding isNormalOutcome
+    accepted-tested b d =
+        let a = accepts in
+        let x = a .typed in
+        let n = d .told (x .term) [] (accepted-holds otherLimit tables words x (a .passed))
+        ∙ grammar-is-normal allPure tables (tables .inputs) (x .type) (x .term) (a .passed .type) in
+        ap {B = Tested} (λ c. record { refusal = 0; normal = c }) n ∙ ap testedOf (sym (a .is))

@@ -1,0 +1,4 @@
+pub mod GrammarByParts
+pub mod TestedParts
+pub mod NormalTests
+pub mod IsNormal

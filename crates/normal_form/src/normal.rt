@@ -1,0 +1,176 @@
+// The test for a normal form (paper 01: the flat test) and the test for a normal value, each by way of the other.
+ghost use mathlib.Core.Path.{_≡_};
+ghost use Prim.Native.Nat.{_≤_};
+ghost use lib.ListN.{length};
+ghost use Rattle.reduction.specs.Rules.{allPure};
+ghost use Rattle.reduction.specs.Grammar.{inGrammar};
+ghost use Rattle.words.specs.Fronts.{Starts};
+ghost use Rattle.search.specs.Marks.{Space};
+ghost use Rattle.normal_form.specs.Roles.{firstRole, laterRole, roleOf, suits, operationKind, keepsVariable};
+ghost use Rattle.normal_form.specs.NormalTest.{isNormalValue, Tests, Decides};
+use checker::check::OTHER_LIMIT;
+use words::fields::kind;
+use words::fields::number;
+use words::shape::binders;
+use words::shape::part_count;
+use search::marks::mark;
+use search::value::value_kind;
+
+// where a part ends, and whether it passed its test; the end is 0 if not
+pub struct Part {
+    pub end: usize,
+    pub ok: bool,
+}
+
+// what a part of an operation, a let or a case in normal form has to be
+pub enum Role {
+    Variable,
+    Value,
+    Operation,
+    Normal,
+}
+
+// the kinds of operations: call, application, first, second
+fn operation_kind(k: u64) -> bool
+    ensures { λ r. ⌜ r ≡ operationKind k ⌝ }
+{
+    match k {
+        1 | 3 | 6 | 7 => true,
+        _ => false,
+    }
+}
+
+fn first_role(k: u64) -> Role
+    ensures { λ r. ⌜ r ≡ firstRole k ⌝ }
+{
+    match k {
+        1 => Role::Value,
+        4 => Role::Operation,
+        _ => Role::Variable,
+    }
+}
+
+fn later_role(k: u64) -> Role
+    ensures { λ r. ⌜ r ≡ laterRole k ⌝ }
+{
+    match k {
+        1 | 3 => Role::Value,
+        _ => Role::Normal,
+    }
+}
+
+// what part j of a node of kind k has to be
+fn role_of(k: u64, j: usize) -> Role
+    ensures { λ r. ⌜ r ≡ roleOf k j ⌝ }
+{
+    if j == 0 {
+        return first_role(k);
+    }
+    later_role(k)
+}
+
+// whether a part that begins with a node of kind h can be what it has to be
+fn admits(role: Role, h: u64) -> bool
+    ensures { λ r. ⌜ r ≡ suits role h ⌝ }
+{
+    match role {
+        Role::Variable => h == 0,
+        Role::Value => value_kind(h),
+        Role::Operation => operation_kind(h),
+        Role::Normal => true,
+    }
+}
+
+// whether the variable that part j of a node of kind k binds has to be used, and if so whether it is
+fn keeps(k: u64, j: usize, uses: u64) -> bool
+    ensures { λ r. ⌜ r ≡ keepsVariable k j uses ⌝ }
+{
+    if k == 4 {
+        if j == 0 {
+            return true;
+        }
+        return 1 <= uses;
+    }
+    true
+}
+
+// whether the part at the front is a value in normal form, and where it ends
+pub fn value_test(calls: &[u64], t: &[u64], used: &mut [u64], depth: usize) -> Part
+    requires { ⌜ Starts (now calls) (now t) × Space 1 (now used) depth (length (now t)) ⌝ }
+    ensures { λ r. ⌜ Tests isNormalValue (now (calls .entry)) (now (t .entry)) depth (now (used .entry)) (now (used .exit)) r ⌝ }
+{
+    let w = t[0];
+    let k = kind(w);
+    if k == 0 {
+        mark(used, depth, number(w) as usize, 1);
+        return Part { end: 1, ok: true };
+    }
+    if k == 2 {
+        used[depth] = 0;
+        let body = normal_test(calls, &t[1..], used, depth + 1);
+        if !body.ok {
+            return Part { end: 0, ok: false };
+        }
+        return Part {
+            end: 1 + body.end,
+            ok: true,
+        };
+    }
+    if !value_kind(k) {
+        return Part { end: 0, ok: false };
+    }
+    let n = part_count(calls, w);
+    let mut at: usize = 1;
+    let mut j: usize = 0;
+    while j < n {
+        let part = value_test(calls, &t[at..], used, depth);
+        if !part.ok {
+            return Part { end: 0, ok: false };
+        }
+        at = at + part.end;
+        j += 1;
+    }
+    Part { end: at, ok: true }
+}
+
+// whether the part at the front is in normal form, and where it ends
+pub fn normal_test(calls: &[u64], t: &[u64], used: &mut [u64], depth: usize) -> Part
+    requires { ⌜ Starts (now calls) (now t) × Space 1 (now used) depth (length (now t)) ⌝ }
+    ensures { λ r. ⌜ Tests (inGrammar allPure) (now (calls .entry)) (now (t .entry)) depth (now (used .entry)) (now (used .exit)) r ⌝ }
+{
+    let w = t[0];
+    let k = kind(w);
+    if value_kind(k) {
+        return value_test(calls, t, used, depth);
+    }
+    let n = part_count(calls, w);
+    let mut at: usize = 1;
+    let mut j: usize = 0;
+    while j < n {
+        if !admits(role_of(k, j), kind(t[at])) {
+            return Part { end: 0, ok: false };
+        }
+        used[depth] = 0;
+        let inner = depth + binders(k, j);
+        let part = normal_test(calls, &t[at..], used, inner);
+        if !part.ok {
+            return Part { end: 0, ok: false };
+        }
+        if !keeps(k, j, used[depth]) {
+            return Part { end: 0, ok: false };
+        }
+        at = at + part.end;
+        j += 1;
+    }
+    Part { end: at, ok: true }
+}
+
+// whether the term at the front is in normal form
+pub fn is_normal_form(calls: &[u64], t: &[u64]) -> bool
+    requires { ⌜ Starts (now calls) (now t) × (length (now t) ≤ 8192) ⌝ }
+    ensures { λ r. ⌜ Decides (now (calls .entry)) (now (t .entry)) r ⌝ }
+{
+    let mut used: [u64; OTHER_LIMIT] = [0; OTHER_LIMIT];
+    let part = normal_test(calls, t, &mut used, 0);
+    part.ok
+}

@@ -1,4 +1,0 @@
-pub mod ByParts
-pub mod TestedParts
-pub mod NormalTests
-pub mod IsNormal

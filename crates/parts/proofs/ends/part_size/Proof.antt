@@ -1,9 +1,0 @@
--- A term is a row of one.
-use Rattle.parts.proofs.Rows.{one-starts, one-sized}
-use Rattle.parts.proofs.ends.part_size.Statement.{statement}
-use Rattle.parts.proofs.ends.part_size.Tie as tie
-
-pub part-size-spec : {M : Type 1} → statement M
-part-size-spec = tie.close (tie.spec (λ c κs.
-    let pre = c .before .before .pre in
-    (one-starts (pre .0), pre .1)) (λ c. one-sized (c .parts-size .ensures)))

@@ -1,7 +1,0 @@
-// Searching for redexes on words.
-
-pub mod value; // value.rt: whether a part is a value, and where it ends
-pub mod fits; // fits.rt: whether a rule of phase 1 or 2 fits the node at the front
-pub mod search; // search.rt: the first redex of phase 1 or 2, from a place on
-pub mod marks; // marks.rt: how often each binder in scope is used, by its depth
-pub mod unused; // unused.rt: the search of phase 3, for a let that binds a computation and whose variable is not used

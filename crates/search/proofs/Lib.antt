@@ -1,0 +1,13 @@
+pub mod ValueByNode
+pub mod InsertionFits
+pub mod FirstOperand
+pub mod RuleFits
+pub mod ForwardScan
+pub mod MarkedUses
+pub mod OpenMarks
+pub mod FirstByMarks
+pub mod Lets
+pub mod RowInTwo
+pub mod UnusedRows
+pub mod UnusedSteps
+mod FirstRedexFound

@@ -1,0 +1,9 @@
+pub mod ValueTest
+pub mod Operands
+pub mod Fits
+pub mod Searches
+pub mod Marks
+pub mod Unused
+pub mod PhasePremise
+pub mod Finds
+pub mod NextFrom

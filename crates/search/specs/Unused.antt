@@ -1,0 +1,81 @@
+-- The search of phase 3 by marks of binders: the mark of a let that binds a computation begins as the let's place, any
+-- other as 65536, and each use adds 65536. So a mark is in the end below 65536 exactly for a let that can be dropped, and then its place.
+use Prim.Native.Nat.{ℕ, _+_, _*_, _≤_, _<_}
+use mathlib.Core.Path.{_≡_}
+use mathlib.Core.Bool.{Bool, false, cond, _||_}
+use mathlib.Core.List.{List, [], _∷_}
+use lib.Dec.{eqb}
+use lib.ListN.{length, getD}
+use Rattle.syntax.specs.Words.{kindOf}
+use Rattle.syntax.specs.Term.{Term, var, call, lam, app, bind, pair, fst, snd, inl, inr, case}
+use Rattle.syntax.specs.Encoding.{encode, size}
+use Rattle.syntax.specs.Shaped.{Shaped}
+use Rattle.syntax.specs.Values.{isValue, usesAll}
+use Rattle.words.specs.Fronts.{Holds, from}
+use Rattle.words.specs.Reach.{inner}
+use Rattle.reduction.specs.declared.Phase.the-variants.{Dropping}
+use Rattle.reduction.specs.declared.Found.{Found}
+use Rattle.reduction.specs.Rules.{allPure}
+use Rattle.reduction.specs.Redex.{firstRedex}
+use Rattle.search.specs.Marks.{Marked, Space}
+use Rattle.search.specs.declared.unused.Scan.{Scan}
+
+-- whether some word is a let's
+unfoldable pub hasLet : List ℕ → Bool
+hasLet [] = false
+hasLet (w ∷ ws) = eqb (kindOf w) 4 || hasLet ws
+
+-- the mark of a node's binder before any use
+unfoldable pub openMark : ℕ → Term → ℕ
+openMark p (var n) = 65536
+openMark p (call k ts) = 65536
+openMark p (lam A b) = 65536
+openMark p (app f a) = 65536
+openMark p (bind e b) = cond (isValue e) 65536 p
+openMark p (pair A a b) = 65536
+openMark p (fst a) = 65536
+openMark p (snd a) = 65536
+openMark p (inl A a) = 65536
+openMark p (inr A a) = 65536
+openMark p (case s l r) = 65536
+
+-- and after all uses, for a node at the place p
+unfoldable pub finalMark : ℕ → Term → ℕ
+finalMark p t = openMark p t + 65536 * usesAll (inner t) 0
+
+-- of the nodes at the first n words, none is a let before place x that can be dropped; places are counted from base
+pub record Passed (calls words : List ℕ) (base x n : ℕ) : Type 0 where
+  pub marks : (i : ℕ) (t : Term) (rest : List ℕ) → i < n → Holds calls (from words i) t rest → x ≤ finalMark (base + i) t
+
+-- so many words more can be gone through
+abbrev pub Open : List ℕ → ℕ → ℕ → Type 0
+Open used depth more = Space 65536 used depth more
+
+-- the mark of the binder of whatever term is at the front
+pub record Opens (calls words : List ℕ) (place r : ℕ) : Type 0 where
+  pub small : r ≤ 65536
+  pub told : (t : Term) (rest : List ℕ) → Holds calls words t rest → r ≡ openMark place t
+
+-- the least of two numbers
+pub record Least (a b r : ℕ) : Type 0 where
+  pub left : r ≤ a
+  pub right : r ≤ b
+  pub greatest : (x : ℕ) → x ≤ a → x ≤ b → x ≤ r
+
+-- the least of a number and the marks of so many binders
+pub record LeastMark (used : List ℕ) (start end first r : ℕ) : Type 0 where
+  pub first-least : r ≤ first
+  pub least : (d : ℕ) → start ≤ d → d < end → r ≤ getD used d 0
+  pub greatest : (x : ℕ) → x ≤ first → ((d : ℕ) → start ≤ d → d < end → x ≤ getD used d 0) → x ≤ r
+
+-- the part at the front is gone through: its end, the least place in it of a let that can be dropped, or 65536, and the marks of the
+-- binders around it
+pub record Scans (calls words : List ℕ) (base depth : ℕ) (old new : List ℕ) (r : Scan) : Type 0 where
+  pub within : r .end ≤ length words
+  pub before : (x : ℕ) → x ≤ r .first → x ≤ 65536 → Passed calls words base x (r .end)
+  pub greatest : (x : ℕ) → x ≤ 65536 → Passed calls words base x (r .end) → x ≤ r .first
+  pub told : (t : Term) (rest : List ℕ) → Holds calls words t rest → (r .end ≡ size t) × Marked 65536 t depth old new
+
+-- the first redex of phase 3 in whatever term the words are
+pub record FindsUnused (calls words : List ℕ) (r : Found) : Type 0 where
+  pub told : (t : Term) → Shaped calls t → words ≡ encode t → r ≡ firstRedex allPure Dropping t

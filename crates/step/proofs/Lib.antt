@@ -1,0 +1,4 @@
+pub mod GapMoved
+mod RewrittenRedex
+mod InPlace
+mod TurnIsStep

@@ -1,0 +1,4 @@
+pub mod Gaps
+pub mod Currents
+pub mod Rewrites
+pub mod Turns

@@ -1,0 +1,14 @@
+pub mod Extents
+pub mod PartCounts
+pub mod Traversal
+pub mod Variables
+pub mod Joined
+pub mod Reach
+pub mod Rows
+pub mod PartDepths
+pub mod RowAtDepths
+pub mod Stretches
+pub mod CopiedWords
+pub mod Sized
+pub mod PartsAt
+pub mod Pastes

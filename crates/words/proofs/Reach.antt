@@ -1,0 +1,76 @@
+-- A node's parts are its outer and its inner ones, and what is done to a node is done to the outer ones as they stand and to the inner ones
+-- under one binder: by the table of kinds.
+use Prim.Native.Nat.{ℕ, suc, _+_}
+use native.Mathlib.Omega.{arith}
+use mathlib.Core.Path.{_≡_, refl, sym, ap}
+use mathlib.Core.Logic.{_≢_}
+use mathlib.Core.List.{List, _∷_, _++_, append-nil}
+use Rattle.syntax.specs.Term.{Term, var, call, lam, app, bind, pair, fst, snd, inl, inr, case, done, node}
+use Rattle.syntax.specs.Encoding.{wordOf, encode, encodeAll}
+use Rattle.syntax.specs.Shaped.{count}
+use Rattle.syntax.specs.Substitution.{Kit, under, traverse, traverseAll}
+use Rattle.syntax.specs.Values.{uses, usesAll}
+use Rattle.words.specs.Joined.{joined}
+use Rattle.words.specs.Reach.{outer, inner, outerCount}
+use Rattle.words.proofs.Joined.{joined-done}
+
+pub node-parts : (t : Term) → node t .parts ≡ joined (outer t) (inner t)
+unfolding node outer inner joined
+node-parts (var n) = refl
+node-parts (call k ts) = sym (joined-done ts)
+node-parts (lam A b) = refl
+node-parts (app f a) = refl
+node-parts (bind e b) = refl
+node-parts (pair A a b) = refl
+node-parts (fst a) = refl
+node-parts (snd a) = refl
+node-parts (inl A a) = refl
+node-parts (inr A a) = refl
+node-parts (case s l r) = refl
+
+pub outer-many : (t : Term) → outerCount (node t .kind) (count (node t .parts)) ≡ count (outer t)
+unfolding node outer outerCount count
+outer-many (var n) = refl
+outer-many (call k ts) = refl
+outer-many (lam A b) = refl
+outer-many (app f a) = refl
+outer-many (bind e b) = refl
+outer-many (pair A a b) = refl
+outer-many (fst a) = refl
+outer-many (snd a) = refl
+outer-many (inl A a) = refl
+outer-many (inr A a) = refl
+outer-many (case s l r) = refl
+
+-- uses
+pub uses-binding : (t : Term) (n : ℕ) → node t .kind ≢ 0 → uses t n ≡ usesAll (outer t) n + usesAll (inner t) (suc n)
+unfolding node outer inner uses
+uses-binding (var m) n h = absurd (h refl)
+uses-binding (call k ts) n h = omega arith
+uses-binding (lam A b) n h = omega arith
+uses-binding (app f a) n h = omega arith
+uses-binding (bind e b) n h = omega arith
+uses-binding (pair A a b) n h = omega arith
+uses-binding (fst a) n h = omega arith
+uses-binding (snd a) n h = omega arith
+uses-binding (inl A a) n h = omega arith
+uses-binding (inr A a) n h = omega arith
+uses-binding (case s l r) n h = omega arith
+
+-- a traversal
+module _ {X : Type 0} (kit : Kit X) (f : ℕ → X) where
+  pub encode-binding : (t : Term) → node t .kind ≢ 0
+      → encode (traverse kit t f)
+      ≡ wordOf t ∷ (encodeAll (traverseAll kit (outer t) f) ++ encodeAll (traverseAll kit (inner t) (under kit f)))
+  unfolding node outer inner encode traverse
+  encode-binding (var n) h = absurd (h refl)
+  encode-binding (call k ts) h = ap {B = List ℕ} (λ l. wordOf (call k ts) ∷ l) (sym (append-nil (encodeAll (traverseAll kit ts f))))
+  encode-binding (lam A b) h = ap {B = List ℕ} (λ l. wordOf (lam A b) ∷ l) (sym (append-nil _))
+  encode-binding (app a b) h = rw (append-nil (encode (traverse kit b f)), append-nil (encode (traverse kit a f) ++ encode (traverse kit b f)))
+  encode-binding (bind e b) h = rw (append-nil (encode (traverse kit e f)), append-nil (encode (traverse kit b (under kit f))))
+  encode-binding (pair A a b) h = rw (append-nil (encode (traverse kit b f)), append-nil (encode (traverse kit a f) ++ encode (traverse kit b f)))
+  encode-binding (fst a) h = rw (append-nil (encode (traverse kit a f)), append-nil (encode (traverse kit a f)))
+  encode-binding (snd a) h = rw (append-nil (encode (traverse kit a f)), append-nil (encode (traverse kit a f)))
+  encode-binding (inl A a) h = rw (append-nil (encode (traverse kit a f)), append-nil (encode (traverse kit a f)))
+  encode-binding (inr A a) h = rw (append-nil (encode (traverse kit a f)), append-nil (encode (traverse kit a f)))
+  encode-binding (case s l r) h = rw (append-nil (encode (traverse kit s f)), append-nil (encode (traverse kit r (under kit f))))

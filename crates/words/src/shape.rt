@@ -1,0 +1,108 @@
+// What a kind decides: the fields it uses, its parts, and which of them bind a variable.
+ghost use mathlib.Core.Path.{_≡_};
+ghost use Prim.Native.Nat.{_≤_};
+ghost use Rattle.syntax.specs.Kinds.{bindersAt};
+ghost use Rattle.syntax.specs.Tables.{arity as arityOf};
+ghost use Rattle.syntax.specs.Parts.{partCount};
+ghost use Rattle.words.specs.Shapes.{Shaping};
+ghost use Rattle.words.specs.Reach.{outerCount};
+use crate::fields::kind;
+use crate::fields::number;
+
+// parts: how many (a call's are in the table); number, ty: whether these fields are used;
+// binds: whether it binds a variable; free: how many of its parts come before the binder
+pub struct Shape {
+    pub parts: usize,
+    pub number: bool,
+    pub ty: bool,
+    pub binds: bool,
+    pub free: usize,
+}
+
+fn shaped(parts: usize, number: bool, ty: bool, binds: bool, free: usize) -> Shape
+    ensures { λ r. ⌜ r ≡ record { parts = parts; number = number; ty = ty; binds = binds; free = free } ⌝ }
+{
+    Shape {
+        parts: parts,
+        number: number,
+        ty: ty,
+        binds: binds,
+        free: free,
+    }
+}
+
+pub fn shape_of(k: u64) -> Shape
+    ensures { λ r. ⌜ Shaping k r ⌝ }
+{
+    match k {
+        0..=1 => shaped(0, true, false, false, 0),
+        2 => shaped(1, false, true, true, 0),
+        3 => shaped(2, false, false, false, 0),
+        4 => shaped(2, false, false, true, 1),
+        5 => shaped(2, false, true, false, 0),
+        6..=7 => shaped(1, false, false, false, 0),
+        8..=9 => shaped(1, false, true, false, 0),
+        10 => shaped(3, false, false, true, 1),
+        _ => shaped(0, false, false, false, 0),
+    }
+}
+
+// how many binders of a node its part j stands under: none or one
+pub fn binders(k: u64, j: usize) -> usize
+    ensures { λ r. ⌜ (r ≡ bindersAt k j) × (r ≤ 1) ⌝ }
+{
+    let s = shape_of(k);
+    if s.binds {
+        if j < s.free {
+            return 0;
+        }
+        return 1;
+    }
+    0
+}
+
+// how many of the n parts of a node its binder does not reach: the first ones
+pub fn outer_count(k: u64, n: usize) -> usize
+    ensures { λ r. ⌜ r ≡ outerCount k n ⌝ }
+{
+    let s = shape_of(k);
+    if s.binds {
+        return s.free;
+    }
+    n
+}
+
+// how many arguments a call takes, 0 past the table
+pub fn arity(calls: &[u64], n: u64) -> usize
+    ensures { λ r. ⌜ (r ≡ arityOf (now (calls .entry)) n) × (r ≤ 15) ⌝ }
+{
+    let i = n as usize;
+    if i < calls.len() {
+        return kind(calls[i]) as usize;
+    }
+    0
+}
+
+// how many parts a word's node has
+pub fn part_count(calls: &[u64], w: u64) -> usize
+    ensures { λ r. ⌜ (r ≡ partCount (now (calls .entry)) w) × (r ≤ 15) ⌝ }
+{
+    let k = kind(w);
+    if k == 1 {
+        return arity(calls, number(w));
+    }
+    let s = shape_of(k);
+    s.parts
+}
+
+// the same by a table in a number, four bits a kind: faster where nothing else depends on the kind
+pub fn owed_count(calls: &[u64], w: u64) -> usize
+    ensures { λ r. ⌜ (r ≡ partCount (now (calls .entry)) w) × (r ≤ 15) ⌝ }
+{
+    let k = kind(w);
+    if k == 1 {
+        return arity(calls, number(w));
+    }
+    let table: u64 = 3371836776704;
+    (table >> (k * 4)) as usize % 16
+}
