@@ -16,7 +16,8 @@ use Rattle.typing.specs.TermChecks.{wellFormedWords, scopedAt, scoped}
 use Rattle.reduction.specs.Redex.{contract, firstStep, step}
 use Rattle.reduction.specs.Reduction.{runPhase, thenPhase, reduce}
 use Rattle.reduction.specs.Rules.{nameFirst, letInsertion, letOfLet, letOfCase, apply, first, second, leftCase, rightCase, letValue}
-use Rattle.reduction.specs.Rules.{allPure, drop, fire, rules}
+use Rattle.reduction.specs.MayDrop.{mayDrop}
+use Rattle.reduction.specs.Rules.{drop, fire, rules}
 use Rattle.outcomes.specs.Buffers.{overwrite, cleared}
 use Rattle.outcomes.specs.Listing.{decimalThen, decimal, hexadecimal, fields, lines, listingOf}
 use Rattle.outcomes.specs.Normalize.{reducedTo, checkedTo, normalizeWithin, capacityOf, normalizeOutcome}
@@ -43,7 +44,7 @@ unfolding leaf unary binary ternary splitForest callBuilder builders graft decod
     asApp asBind asPair asFst asSnd asInl asInr asCase isValue isComputation argumentsIn operands uses infer elaborate lengthsFit
     wellFormedTypes distinct wellFormedCalls wellFormedInputs wellFormedWords scopedAt scoped contract firstStep step runPhase thenPhase
     reduce
-    nameFirst letInsertion letOfLet letOfCase apply first second leftCase rightCase letValue allPure drop fire rules overwrite cleared
+    nameFirst letInsertion letOfLet letOfCase apply first second leftCase rightCase letValue mayDrop drop fire rules overwrite cleared
     decimalThen decimal hexadecimal fields lines listingOf reducedTo checkedTo normalizeWithin capacityOf normalizeOutcome fromBytes wordsOf
     lengthsOf readable wordsAfter readBundleOutcome tablesOf termOf respondTo response ascii
     table computed expected bytesOf bundleOf bundle written buffered leaves left sizes fit

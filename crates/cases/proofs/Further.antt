@@ -15,7 +15,8 @@ use Rattle.reduction.specs.NormalForm.{isNormal}
 use Rattle.reduction.specs.Redex.{contract, firstStep, step}
 use Rattle.reduction.specs.Reduction.{runPhase, thenPhase, reduce}
 use Rattle.reduction.specs.Rules.{nameFirst, letInsertion, letOfLet, letOfCase, apply, first, second, leftCase, rightCase, letValue}
-use Rattle.reduction.specs.Rules.{allPure, drop, fire, rules}
+use Rattle.reduction.specs.MayDrop.{mayDrop}
+use Rattle.reduction.specs.Rules.{drop, fire, rules}
 use Rattle.outcomes.specs.Buffers.{overwrite}
 use Rattle.outcomes.specs.Listing.{decimalThen, decimal, hexadecimal, fields, lines, listingOf}
 use Rattle.outcomes.specs.Check.{checkOutcome}
@@ -41,7 +42,7 @@ unfolding leaf unary binary ternary splitForest callBuilder builders graft decod
     partsOf asVar asLam asApp asBind asPair asFst asSnd asInl asInr asCase isValue isComputation argumentsIn operands uses infer
     elaborate lengthsFit wellFormedTypes distinct wellFormedCalls wellFormedInputs wellFormedWords scopedAt scoped contract
     firstStep step runPhase thenPhase reduce nameFirst letInsertion letOfLet letOfCase apply first second leftCase rightCase
-    letValue allPure drop fire rules overwrite decimalThen decimal hexadecimal fields lines listingOf reducedTo checkedTo
+    letValue mayDrop drop fire rules overwrite decimalThen decimal hexadecimal fields lines listingOf reducedTo checkedTo
     normalizeWithin isNormal checkOutcome isNormalOutcome fromBytes wordsOf lengthsOf readable wordsAfter readBundleOutcome
     tablesOf termOf respondTo response ascii computed expected bytesOf bundleOf bundle further questions replied awaited
     badBundles largest slices readings

@@ -12,7 +12,7 @@ use Rattle.syntax.specs.Decoding.{decode}
 use Rattle.typing.specs.Infer.{infer}
 use Rattle.typing.specs.TableChecks.{lengthsFit}
 use Rattle.typing.specs.TermChecks.{wellFormedWords, scoped}
-use Rattle.typing.specs.Refusals.{Verdict, refused, accepted, _>>=_, require, provide, Typed, elaborate}
+use Rattle.typing.specs.Refusals.{Verdict, refused, accepted, _>>=_, require, provide, TypedTerm, elaborate}
 use Rattle.checker.proofs.Every.{told-true, told-false}
 use Rattle.checker.specs.Places.{firstFailed, tableTests, tableRefusal}
 
@@ -47,7 +47,7 @@ none-fails n (true ∷ bs) (e, p) = none-fails (suc n) bs p
 none-fails n (false ∷ bs) (e, p) = absurd (subst T (sym e) tt)
 
 -- the places 7 to 9
-abbrev pub termChecks : Tables → List ℕ → Verdict Typed
+abbrev pub termChecks : Tables → List ℕ → Verdict TypedTerm
 termChecks tables words =
     provide 7 (decode (tables .calls) words) >>= λ t.
     require 8 (scoped tables t) >>= λ _.

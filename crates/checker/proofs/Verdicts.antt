@@ -6,24 +6,24 @@ use Prim.Native.Nat.{ℕ}
 use native.Mathlib.Omega.{arith}
 use Rattle.syntax.specs.Tables.{Tables}
 use Rattle.words.specs.Fronts.{Holds}
-use Rattle.typing.specs.Refusals.{Verdict, refused, accepted, Typed, elaborate}
+use Rattle.typing.specs.Refusals.{Verdict, refused, accepted, TypedTerm, elaborate}
 use Rattle.typing.proofs.Accepted.{Verdicts, refusal, passed, Passed, elaborated}
 use Rattle.outcomes.specs.Check.{checkedOf}
 use Rattle.outcomes.specs.declared.Checked.{Checked}
 use Rattle.checker.proofs.DecodedTerm.{holds-decoded}
 
 -- a verdict accepts what passed, of a type
-pub record Accepts (P : Typed → Type 0) (v : Verdict Typed) (A : ℕ) : Type 0 where
-  pub typed : Typed
+pub record Accepts (P : TypedTerm → Type 0) (v : Verdict TypedTerm) (A : ℕ) : Type 0 where
+  pub typed : TypedTerm
   pub is : v ≡ accepted typed
   pub type : typed .type ≡ A
   pub passed : P typed
 
-accepts : {P : Typed → Type 0} (v : Verdict Typed) (r : Checked) → Verdicts P v → r ≡ checkedOf v → r .refusal ≡ 0 → Accepts P v (r .ty)
+accepts : {P : TypedTerm → Type 0} (v : Verdict TypedTerm) (r : Checked) → Verdicts P v → r ≡ checkedOf v → r .refusal ≡ 0 → Accepts P v (r .ty)
 accepts v r (refusal n) e z = absurd (omega (arith, ap (λ (x : Checked). x .refusal) e))
 accepts v r (passed {x = x} p) e z = record { typed = x; is = refl; type = sym (ap (λ (y : Checked). y .ty) e); passed = p }
 
-refuses : {P : Typed → Type 0} (v : Verdict Typed) (r : Checked) → Verdicts P v → r ≡ checkedOf v → (r .refusal ≡ 0 → ⊥)
+refuses : {P : TypedTerm → Type 0} (v : Verdict TypedTerm) (r : Checked) → Verdicts P v → r ≡ checkedOf v → (r .refusal ≡ 0 → ⊥)
     → v ≡ refused (r .refusal)
 refuses v r (refusal n) e z = ap (λ (x : Checked). refused (x .refusal)) (sym e)
 refuses v r (passed p) e z = absurd (z (ap (λ (x : Checked). x .refusal) e))
@@ -36,6 +36,6 @@ module _ (limit : ℕ) (tables : Tables) (words : List ℕ) (r : Checked) (e : r
   refused-of z = refuses (elaborate limit tables words) r (elaborated limit tables words) e z
 
 -- the words of what passed begin with its term, and end there
-pub accepted-holds : (limit : ℕ) (tables : Tables) (words : List ℕ) (x : Typed) → Passed limit tables words x
+pub accepted-holds : (limit : ℕ) (tables : Tables) (words : List ℕ) (x : TypedTerm) → Passed limit tables words x
     → Holds (tables .calls) words (x .term) []
 accepted-holds limit tables words x p = holds-decoded tables words (p .words′) (x .term) (p .term)

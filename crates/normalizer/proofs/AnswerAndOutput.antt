@@ -6,7 +6,7 @@ use mathlib.Core.List.{List, [], append-nil}
 use lib.ListN.{length, take, length-take}
 use Rattle.syntax.specs.Tables.{over}
 use Rattle.syntax.specs.Encoding.{encode, size}
-use Rattle.typing.specs.Refusals.{refused, Typed, elaborate, normalizeLimit}
+use Rattle.typing.specs.Refusals.{refused, TypedTerm, elaborate, normalizeLimit}
 use Rattle.typing.proofs.Accepted.{Passed}
 use Rattle.reduction.specs.Rules.{allPure}
 use Rattle.reduction.specs.Reduction.{zeroCounts, reduce}
@@ -54,7 +54,7 @@ module _ (types calls inputs words output first second : List ℕ) (budget : ℕ
         (checked .ty)
     passed = accepted-of normalizeLimit (over types calls inputs) words checked ce z
 
-    abbrev x : Typed
+    abbrev x : TypedTerm
     x = passed .typed
 
     holds : Holds calls words (x .term) []

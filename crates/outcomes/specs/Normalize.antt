@@ -1,11 +1,13 @@
 -- The outcome of the public call `normalize`: the answer, and the final words of the output and the two scratch buffers.
 use Prim.Native.Nat.{ℕ, min}
+use mathlib.Core.Bool.{Bool}
 use mathlib.Core.List.{List, []}
 use lib.ListN.{length}
 use Rattle.syntax.specs.Tables.{Tables}
+use Rattle.syntax.specs.Term.{Term}
 use Rattle.syntax.specs.Encoding.{encode, size}
-use Rattle.typing.specs.Refusals.{Verdict, refused, accepted, Typed, elaborate, normalizeLimit}
-use Rattle.reduction.specs.Rules.{allPure}
+use Rattle.typing.specs.Refusals.{Verdict, refused, accepted, TypedTerm, elaborate, normalizeLimit}
+use Rattle.reduction.specs.MayDrop.{mayDrop}
 use Rattle.reduction.specs.Reduction.{Settings, Progress, stopped, reached, reduce, zeroCounts}
 use Rattle.outcomes.specs.Buffers.{overwrite, cleared}
 use Rattle.outcomes.specs.declared.Answer.{Answer}
@@ -20,14 +22,14 @@ unfoldable pub reducedTo : ℕ → Progress → Normalized
 reducedTo A (stopped n counts) = record { answer = record { refusal = n; ty = 0; length = 0; counts = counts }; words = [] }
 reducedTo A (reached left u counts) = record { answer = record { refusal = 0; ty = A; length = size u; counts = counts }; words = encode u }
 
--- what a check comes to: refused by its number with zero counts, or reduced
-unfoldable pub checkedTo : ℕ → Settings → Verdict Typed → Normalized
-checkedTo capacity settings (refused n) = record { answer = record { refusal = n; ty = 0; length = 0; counts = zeroCounts }; words = [] }
-checkedTo capacity settings (accepted x) = reducedTo (x .type) (reduce allPure capacity settings (x .term))
+-- what a check comes to: refused by its number with zero counts, or reduced; `pure` says what may be dropped
+unfoldable pub checkedTo : (Term → Bool) → ℕ → Settings → Verdict TypedTerm → Normalized
+checkedTo pure capacity settings (refused n) = record { answer = record { refusal = n; ty = 0; length = 0; counts = zeroCounts }; words = [] }
+checkedTo pure capacity settings (accepted x) = reducedTo (x .type) (reduce pure capacity settings (x .term))
 
 -- normalization (paper 01: flattening) within a capacity
 unfoldable pub normalizeWithin : ℕ → Settings → Tables → List ℕ → Normalized
-normalizeWithin capacity settings tables words = checkedTo capacity settings (elaborate normalizeLimit tables words)
+normalizeWithin capacity settings tables words = checkedTo (mayDrop (tables .calls)) capacity settings (elaborate normalizeLimit tables words)
 
 -- the largest capacity
 abbrev pub maxCapacity : ℕ

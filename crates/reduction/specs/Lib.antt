@@ -1,3 +1,4 @@
+pub mod MayDrop
 pub mod Rules
 pub mod Redex
 pub mod Reduction

@@ -89,10 +89,6 @@ abbrev pub lower : ℕ → ℕ
 lower zero = zero
 lower (suc n) = n
 
--- every call counts as free of effect, so every computation may be dropped
-unfoldable pub allPure : Term → Bool
-allPure e = true
-
 -- The rules are given which computations may be dropped.
 module _ (pure : Term → Bool) where
   -- drop: let x = P in b, where b does not use x, becomes b

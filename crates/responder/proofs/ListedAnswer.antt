@@ -9,7 +9,7 @@ use lib.ListN.{length, take, drop, replicate, length-append}
 use borrow.Author.Tests.{le-leb}
 use Rattle.syntax.specs.Tables.{Tables, over}
 use Rattle.syntax.specs.Encoding.{size}
-use Rattle.typing.specs.Refusals.{Verdict, refused, accepted, Typed, elaborate, normalizeLimit}
+use Rattle.typing.specs.Refusals.{Verdict, refused, accepted, TypedTerm, elaborate, normalizeLimit}
 use Rattle.reduction.specs.Rules.{allPure}
 use Rattle.reduction.specs.Reduction.{Settings, Progress, stopped, reached, reduce}
 use Rattle.outcomes.specs.Buffers.{overwrite}
@@ -32,7 +32,7 @@ unfolding reducedTo size
 reduced-counted A (stopped n counts) = refl
 reduced-counted A (reached left u counts) = refl
 
-checked-counted : (capacity : ℕ) (settings : Settings) (v : Verdict Typed) → Counted (checkedTo capacity settings v)
+checked-counted : (capacity : ℕ) (settings : Settings) (v : Verdict TypedTerm) → Counted (checkedTo capacity settings v)
 unfolding checkedTo
 checked-counted capacity settings (refused n) = refl
 checked-counted capacity settings (accepted x) = reduced-counted (x .type) (reduce allPure capacity settings (x .term))

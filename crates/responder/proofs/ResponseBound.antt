@@ -11,7 +11,7 @@ use Rattle.syntax.specs.Tables.{Tables}
 use Rattle.syntax.specs.Term.{Term}
 use Rattle.syntax.specs.Encoding.{size}
 use Rattle.syntax.proofs.Options.{Every, every-at}
-use Rattle.typing.specs.Refusals.{Verdict, refused, accepted, Typed, elaborate, normalizeLimit}
+use Rattle.typing.specs.Refusals.{Verdict, refused, accepted, TypedTerm, elaborate, normalizeLimit}
 use Rattle.typing.proofs.Accepted.{Verdicts, passed, Passed, elaborated}
 use Rattle.typing.proofs.Order.{refusalOf, refusal-below}
 use Rattle.reduction.specs.Rules.{allPure}
@@ -72,7 +72,7 @@ reduced-bounded A t (reached left u counts) h x ten each = record {
 }
 
 -- refused by a check, or reduced
-checked-bounded : (tables : Tables) (words : List ℕ) (v : Verdict Typed) → Every (λ n. n ≤ 9) (refusalOf v)
+checked-bounded : (tables : Tables) (words : List ℕ) (v : Verdict TypedTerm) → Every (λ n. n ≤ 9) (refusalOf v)
     → Verdicts (Passed normalizeLimit tables words) v → Bounded (checkedTo maxCapacity programSettings v)
 unfolding checkedTo
 checked-bounded tables words (refused n) h v = refused-bounded n (omega (arith, every-at n h refl))

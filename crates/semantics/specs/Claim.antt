@@ -10,7 +10,7 @@ use Rattle.syntax.specs.Encoding.{encode}
 use Rattle.syntax.specs.Decoding.{decode}
 use Rattle.typing.specs.Infer.{infer}
 use Rattle.typing.specs.NodeTypes.{nodeTypes}
-use Rattle.reduction.specs.Rules.{allPure}
+use Rattle.reduction.specs.MayDrop.{mayDrop}
 use Rattle.reduction.specs.Sequence.{Sequence, beforeDropping}
 use Rattle.reduction.specs.NormalForm.{isNormal}
 use Rattle.syntax.specs.Lists.{_∈_, Sublist}
@@ -62,12 +62,12 @@ pub record Claim (tables : Tables) (words : List ℕ) (A : ℕ) (result : List �
   pub source-decoded : decode (tables .calls) words ≡ some source
   pub normal-decoded : decode (tables .calls) result ≡ some normal
   -- the normal form is the last term of the reduction sequence of the source
-  pub sequence : Sequence allPure source normal
+  pub sequence : Sequence (mayDrop (tables .calls)) source normal
   -- it has the source's type
   pub source-type : infer tables source (tables .inputs) ≡ some A
   pub normal-type : infer tables normal (tables .inputs) ≡ some A
   -- no rule fits anywhere in it
-  pub no-redex : isNormal allPure normal ≡ true
+  pub no-redex : isNormal (mayDrop (tables .calls)) normal ≡ true
   -- each part's type is part of the result's type, of an input's, or of an argument or result type of a call it contains
   pub part-types : List ℕ
   pub every-part : nodeTypes tables normal (tables .inputs) ≡ some part-types
@@ -75,4 +75,4 @@ pub record Claim (tables : Tables) (words : List ℕ) (A : ℕ) (result : List �
   -- with no function in those types, whatever the inputs hold and whatever the calls answer, the runs agree:
   -- the source, the normal form, and each term up to and including the one the third phase starts from
   pub same-runs : FirstOrder tables A source → (ρ : Values) (answer : ℕ → Values → Value) → Feed tables source ρ answer
-      → SameRuns answer ρ source normal (beforeDropping allPure sequence)
+      → SameRuns answer ρ source normal (beforeDropping (mayDrop (tables .calls)) sequence)

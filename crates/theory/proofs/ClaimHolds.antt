@@ -16,8 +16,8 @@ use Rattle.typing.specs.Infer.{infer}
 use Rattle.typing.specs.NodeTypes.{nodeTypes}
 use Rattle.typing.specs.TermChecks.{wellFormedWords}
 use Rattle.typing.proofs.Encoding.{encode-decode}
-use Rattle.typing.specs.Refusals.{accepted, Typed as Checked, elaborate, normalizeLimit}
-use Rattle.reduction.specs.Rules.{allPure}
+use Rattle.typing.specs.Refusals.{accepted, TypedTerm, elaborate, normalizeLimit}
+use Rattle.reduction.specs.MayDrop.{mayDrop}
 use Rattle.reduction.specs.declared.Phase.{Phase}
 use Rattle.reduction.specs.declared.Phase.the-variants.{Insertion, Reduction, Dropping}
 use Rattle.reduction.specs.Redex.{Step as Stepped, step}
@@ -97,9 +97,9 @@ parts tables A u e (listed {As = As} h) = record { types = As; are = e; each = �
 
 pub claim-of-sequence : (tables : Tables) (words : List ℕ) (A : ℕ) (t u : Term) → Earlier tables → Fitting tables
     → T (wellFormedWords tables words) → decode (tables .calls) words ≡ some t
-    → infer tables t (tables .inputs) ≡ some A → size u ≤ maxCapacity → Sequence allPure t u → Claim tables words A (encode u)
+    → infer tables t (tables .inputs) ≡ some A → size u ≤ maxCapacity → Sequence (mayDrop (tables .calls)) t u → Claim tables words A (encode u)
 claim-of-sequence tables words A t u wf fit w d e l q =
-    let z = last tables allPure A t u e q in
+    let z = last tables (mayDrop (tables .calls)) A t u e q in
     let x = typing-of tables (λ k. k ∈ callsIn u) u (tables .inputs) A (z .type) (λ k i. i) in
     let p = parts tables A u refl (subformulas tables never u A x (z .form)) in
     let n = fit .inputs in
@@ -117,32 +117,33 @@ claim-of-sequence tables words A t u wf fit w d e l q =
       part-types = p .types;
       every-part = p .are;
       subformulas = p .each;
-      same-runs = λ free ρ answer feed. same-runs tables wf allPure A t free ρ answer feed q
+      same-runs = λ free ρ answer feed. same-runs tables wf (mayDrop (tables .calls)) A t free ρ answer feed q
           (typing-of tables (λ k. k ∈ callsIn t) t (tables .inputs) A e (λ k i. i));
     }
 
 -- what a reduction that came through says of the term it reached
-record Came (capacity : ℕ) (t u : Term) : Type 0 where
-  sequence : Sequence allPure t u
+record Came (pure : Term → Bool) (capacity : ℕ) (t u : Term) : Type 0 where
+  sequence : Sequence pure t u
   fits : size u ≤ capacity
 
-came : {capacity budget : ℕ} {t : Term} {left : ℕ} {u : Term} {c : Counts} → Exact allPure capacity budget t (reached left u c)
-    → Came capacity t u
-came {capacity = capacity} (normal q h l d) = record { sequence = q; fits = reached-fits allPure capacity (normal q h l d) }
+came : {pure : Term → Bool} {capacity budget : ℕ} {t : Term} {left : ℕ} {u : Term} {c : Counts}
+    → Exact pure capacity budget t (reached left u c) → Came pure capacity t u
+came {pure} {capacity} (normal q h l d) = record { sequence = q; fits = reached-fits pure capacity (normal q h l d) }
 
-passed-at : (limit : ℕ) (tables : Tables) (words : List ℕ) {x : Checked} → Verdicts (Passed limit tables words) (accepted x)
+passed-at : (limit : ℕ) (tables : Tables) (words : List ℕ) {x : TypedTerm} → Verdicts (Passed limit tables words) (accepted x)
     → Passed limit tables words x
 passed-at limit tables words (passed p) = p
 
 -- the claim holds of every accepted outcome
-pub claim : (tables : Tables) (words : List ℕ) (capacity : ℕ) (settings : Settings) (x : Checked) (left : ℕ) (u : Term) (counts : Counts)
+pub claim : (tables : Tables) (words : List ℕ) (capacity : ℕ) (settings : Settings) (x : TypedTerm) (left : ℕ) (u : Term) (counts : Counts)
     → capacity ≤ maxCapacity
-    → elaborate normalizeLimit tables words ≡ accepted x → reduce allPure capacity settings (x .term) ≡ reached left u counts
+    → elaborate normalizeLimit tables words ≡ accepted x → reduce (mayDrop (tables .calls)) capacity settings (x .term) ≡ reached left u counts
     → Claim tables words (x .type) (encode u)
 claim tables words capacity settings x left u counts h e r =
     let p = passed-at normalizeLimit tables words
     (subst (Verdicts (Passed normalizeLimit tables words)) e (elaborated normalizeLimit tables words)) in
-    let g = came (subst (Exact allPure capacity (settings .budget) (x .term)) r (reduce-exact allPure capacity settings (x .term))) in
+    let pure = mayDrop (tables .calls) in
+    let g = came (subst (Exact pure capacity (settings .budget) (x .term)) r (reduce-exact pure capacity settings (x .term))) in
     claim-of-sequence tables words (x .type) (x .term) u (earlier tables (p .types))
     (fitting normalizeLimit tables words (p .lengths) (p .calls)) (p .words′) (p .term) (p .type) (omega (arith, h, g .fits))
     (g .sequence)

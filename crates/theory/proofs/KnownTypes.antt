@@ -12,7 +12,7 @@ use Rattle.syntax.specs.Term.{Term}
 use Rattle.syntax.proofs.Options.{and-left, and-right}
 use Rattle.typing.specs.Infer.{Context}
 use Rattle.typing.specs.TableChecks.{every, wellFormedInputs}
-use Rattle.typing.specs.Refusals.{Typed as Checked}
+use Rattle.typing.specs.Refusals.{TypedTerm}
 use Rattle.typing.proofs.Accepted.{Passed}
 use Rattle.typing.proofs.InferTyped.{typing-of}
 use Rattle.typing.proofs.Trees.{Earlier, earlier, word-of, parts-below}
@@ -71,7 +71,7 @@ module _ (tables : Tables) (wf : Earlier tables) (fit : Fitting tables) (ok : �
   typed-known h (t-case o x y z) = typed-known (one-more (parts-known o .0) h) y
 
 -- the type that the checks answer is one of at most 1,024
-pub type-below : (limit : ℕ) (tables : Tables) (words : List ℕ) (x : Checked) → Passed limit tables words x → x .type < 1024
+pub type-below : (limit : ℕ) (tables : Tables) (words : List ℕ) (x : TypedTerm) → Passed limit tables words x → x .type < 1024
 unfolding wellFormedInputs
 type-below limit tables words x p =
     let fit = fitting limit tables words (p .lengths) (p .calls) in

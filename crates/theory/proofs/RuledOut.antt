@@ -18,7 +18,8 @@ use Rattle.syntax.specs.Values.{isValue, isComputation, argumentsIn, operands}
 use Rattle.reduction.specs.declared.Phase.the-variants.{Insertion}
 use Rattle.reduction.specs.declared.Rule.the-variants.{LetInsertion}
 use Rattle.reduction.specs.Rules.{nameFirst, letInsertion, letOfLet, letOfCase, apply, first, second, leftCase, rightCase, letValue}
-use Rattle.reduction.specs.Rules.{allPure, fire, rules}
+use Rattle.reduction.specs.MayDrop.{mayDrop}
+use Rattle.reduction.specs.Rules.{fire, rules}
 use Rattle.reduction.specs.Redex.{Step, contract, firstStep, step}
 use Rattle.reduction.specs.Sequence.{Steps, ended, stepped}
 use Rattle.reduction.specs.NormalForm.{isNormal}
@@ -27,10 +28,10 @@ use Rattle.semantics.specs.Claim.{Claim}
 
 -- no claim holds of words that decode to a term with a redex
 no-claim : (tables : Tables) (words : List ℕ) (A : ℕ) (result : List ℕ) (u : Term) → decode (tables .calls) result ≡ some u
-    → isNormal allPure u ≡ false → Claim tables words A result → ⊥
+    → isNormal (mayDrop (tables .calls)) u ≡ false → Claim tables words A result → ⊥
 no-claim tables words A result u d n c =
     let e = Option·some-injective u (c .normal) (sym d ∙ c .normal-decoded) in
-    subst T (sym (c .no-redex) ∙ ap (isNormal allPure) (sym e) ∙ n) tt
+    subst T (sym (c .no-redex) ∙ ap (isNormal (mayDrop (tables .calls))) (sym e) ∙ n) tt
 
 -- case A: types 0 base, 1 function 0 to 0, 2 product 0 0, 3 sum 0 0; calls c with no argument and d with one, all of type 0
 abbrev pub tables : Tables
@@ -55,20 +56,20 @@ unfolding leaf unary binary splitForest callBuilder builders graft decodeForest 
 copies-ruled-out = no-claim tables (encode source) 0 (encode source) source refl refl
 
 -- phase 1 of case A, by computation
-phase₁ : Steps allPure Insertion source (record { rule = LetInsertion; place = 0; next = named } ∷ []) named
+phase₁ : Steps (mayDrop (tables .calls)) Insertion source (record { rule = LetInsertion; place = 0; next = named } ∷ []) named
 unfolding positions traverse isValue argumentsIn operands nameFirst letInsertion fire rules contract firstStep step
 phase₁ = stepped refl (ended refl)
 
-named-has-redex : isNormal allPure named ≡ false
+named-has-redex : isNormal (mayDrop (tables .calls)) named ≡ false
 unfolding node partsOf asVar asLam asApp asBind asPair asFst asSnd asInl asInr asCase isValue isComputation
     positions traverse argumentsIn operands nameFirst letInsertion letOfLet letOfCase apply first second leftCase rightCase letValue
     fire rules contract firstStep step isNormal
 named-has-redex = refl
 
 -- the one that inserts lets and skips phases 2 and 3: it hands back the last term of phase 1
-pub insertion-ruled-out : {u : Term} {ss : List Step} → Steps allPure Insertion source ss u → Claim tables (encode source) 0 (encode u) → ⊥
+pub insertion-ruled-out : {u : Term} {ss : List Step} → Steps (mayDrop (tables .calls)) Insertion source ss u → Claim tables (encode source) 0 (encode u) → ⊥
 unfolding leaf unary binary splitForest callBuilder builders graft decodeForest decode encode node
 insertion-ruled-out {u} q c =
-    let e : u ≡ named = steps-unique allPure Insertion refl q phase₁ .1 in
+    let e : u ≡ named = steps-unique (mayDrop (tables .calls)) Insertion refl q phase₁ .1 in
     no-claim tables (encode source) 0 (encode named) named refl named-has-redex
     (subst (λ (x : Term). Claim tables (encode source) 0 (encode x)) e c)

@@ -10,7 +10,7 @@ use Rattle.syntax.specs.Decoding.{decode}
 use Rattle.typing.specs.Infer.{infer}
 use Rattle.typing.specs.TableChecks.{lengthsFit, wellFormedTypes, distinct, wellFormedCalls, wellFormedInputs}
 use Rattle.typing.specs.TermChecks.{wellFormedWords, scoped}
-use Rattle.typing.specs.Refusals.{Verdict, refused, accepted, _>>=_, require, provide, Typed, elaborate}
+use Rattle.typing.specs.Refusals.{Verdict, refused, accepted, _>>=_, require, provide, TypedTerm, elaborate}
 
 -- an accepted verdict is of what passed
 pub data Verdicts {X : Type 0} (P : X → Type 0) : Verdict X → Type 0 where
@@ -28,7 +28,7 @@ provided n none f h = refusal n
 provided n (some x) f h = h x refl
 
 -- what passed: each check
-pub record Passed (limit : ℕ) (tables : Tables) (words : List ℕ) (x : Typed) : Type 0 where
+pub record Passed (limit : ℕ) (tables : Tables) (words : List ℕ) (x : TypedTerm) : Type 0 where
   pub lengths : T (lengthsFit limit tables words)
   pub types : T (wellFormedTypes 0 (tables .types))
   pub no-twice : T (distinct (tables .types))

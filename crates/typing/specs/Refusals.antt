@@ -32,12 +32,12 @@ provide n none = refused n
 provide n (some x) = accepted x
 
 -- a term that passes the checks, and its type
-pub record Typed : Type 0 where
+pub record TypedTerm : Type 0 where
   pub term : Term
   pub type : ℕ
 
 -- The checks in order; `limit` is the largest number of term words. Each is asked of a whole table before the next.
-unfoldable pub elaborate : ℕ → Tables → List ℕ → Verdict Typed
+unfoldable pub elaborate : ℕ → Tables → List ℕ → Verdict TypedTerm
 elaborate limit tables words = do
   _ ← require 1 (lengthsFit limit tables words)
   _ ← require 2 (wellFormedTypes 0 (tables .types))
