@@ -12,7 +12,8 @@ use Rattle.syntax.specs.Parts.{partCount}
 use Rattle.syntax.specs.Shaped.{count}
 use Rattle.syntax.specs.Values.{isValue}
 use Rattle.syntax.proofs.Sizes.{sizeAll, size-node, size-arg}
-use Rattle.reduction.specs.Rules.{allPure, fire}
+use Rattle.reduction.specs.MayDrop.{mayDrop}
+use Rattle.reduction.specs.Rules.{fire}
 use Rattle.reduction.specs.declared.Rule.the-variants.{LetInsertion}
 use Rattle.reduction.proofs.Fires.{Fires, f-insertion}
 use Rattle.reduction.proofs.NextSize.{size-letInsertion}
@@ -131,7 +132,7 @@ module _ (calls words : List ℕ) (r : Operand) where
             (inserts h (subst (λ (j : ℕ). Inserted j x (n .node-under)) i (n .inserted)) hp (size-is h ∙ ap size (sym (e .1)))
             (record { told = λ t more g. found-size g }))
 
-        inserted : {y : Term} (n : ℕ) → Fires allPure LetInsertion x y → n ≡ size x
+        inserted : {y : Term} (n : ℕ) → Fires (mayDrop calls) LetInsertion x y → n ≡ size x
             → MeasuredAs calls words x y (record { plan = InsertPlan (r .index) (r .start) m; read = n; wrote = n + 2 })
         inserted n (f-insertion i) e = record {
           read-is = e;

@@ -1,13 +1,15 @@
 -- The parts of a redex stand in a row, behind the words of its first nodes.
 use Prim.Native.Nat.{ℕ}
 use mathlib.Core.Path.{_≡_, refl, sym}
+use mathlib.Core.Bool.{Bool}
 use mathlib.Core.List.{List}
 use mathlib.Core.Option.{some}
 use Rattle.syntax.specs.Term.{Term, var, done, arg, node}
 use Rattle.syntax.specs.Shaped.{count}
 use Rattle.syntax.proofs.Options.{every-at}
 use Rattle.syntax.proofs.Sizes.{size-var}
-use Rattle.reduction.specs.Rules.{allPure, fire}
+use Rattle.reduction.specs.MayDrop.{mayDrop}
+use Rattle.reduction.specs.Rules.{fire}
 use Rattle.reduction.specs.declared.Rule.{Rule}
 use Rattle.reduction.specs.declared.Rule.the-variants.{LetOfLet, LetOfCase, Apply, First, Second, LeftCase, RightCase, LetValue, Drop}
 use Rattle.reduction.proofs.Fires.{Fires, fires, f-let, f-case, f-apply, f-first, f-second, f-left, f-right, f-value, f-drop}
@@ -16,8 +18,8 @@ use Rattle.words.specs.Fronts.{Holds}
 use Rattle.words.proofs.PartsAt.{PartsAt, parts-of, parts-open, parts-past, Row}
 use Rattle.contraction.specs.Plans.{StartsRedex}
 
-pub fired : (r : Rule) (x y : Term) → fire allPure r x ≡ some y → Fires allPure r x y
-fired r x y e = every-at y (fires allPure r x) e
+pub fired : {pure : Term → Bool} (r : Rule) (x y : Term) → fire pure r x ≡ some y → Fires pure r x y
+fired {pure} r x y e = every-at y (fires pure r x) e
 
 -- the rules that look at the parts of a node's first part, and how many parts the two nodes have
 pub data Inner : Rule → ℕ → Type 0 where
@@ -34,7 +36,7 @@ pub data Outer : Rule → Type 0 where
   of-drop : Outer Drop
 
 module _ (calls words : List ℕ) where
-  inner-row : {r : Rule} {n : ℕ} {x y : Term} {rest : List ℕ} → Inner r n → Fires allPure r x y → Holds calls words x rest
+  inner-row : {r : Rule} {n : ℕ} {x y : Term} {rest : List ℕ} → Inner r n → Fires (mayDrop calls) r x y → Holds calls words x rest
       → Row calls words 2 n
   unfolding node joined count
   inner-row of-let (f-let q) h = record { parts = _; rest = _; at = parts-open calls words (parts-of calls words h); many = refl }
@@ -49,7 +51,7 @@ module _ (calls words : List ℕ) where
   redex-row {r} i s = inner-row i (fired r (s .start .term) (s .contractum) (s .fires)) (s .start .holds)
 
   -- of a let of a case, behind the subject's word
-  branches : {x y : Term} {rest : List ℕ} → Fires allPure LetOfCase x y → Holds calls words x rest → Row calls words 3 3
+  branches : {x y : Term} {rest : List ℕ} → Fires (mayDrop calls) LetOfCase x y → Holds calls words x rest → Row calls words 3 3
   unfolding node joined count
   branches {rest = rest} (f-case {n = z} {l = l} {r = r} {c = c}) h =
       let at : PartsAt calls words 2 (arg (var z) (arg l (arg r (arg c done)))) rest = parts-open calls words (parts-of calls words h) in
@@ -59,7 +61,7 @@ module _ (calls words : List ℕ) where
   case-row s = branches (fired LetOfCase (s .start .term) (s .contractum) (s .fires)) (s .start .holds)
 
   -- of a let
-  bound-row : {r : Rule} {x y : Term} {rest : List ℕ} → Outer r → Fires allPure r x y → Holds calls words x rest → Row calls words 1 2
+  bound-row : {r : Rule} {x y : Term} {rest : List ℕ} → Outer r → Fires (mayDrop calls) r x y → Holds calls words x rest → Row calls words 1 2
   unfolding node count
   bound-row of-value (f-value q) h = record { parts = _; rest = _; at = parts-of calls words h; many = refl }
   bound-row of-drop (f-drop p q z) h = record { parts = _; rest = _; at = parts-of calls words h; many = refl }

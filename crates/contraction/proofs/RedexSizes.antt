@@ -11,7 +11,8 @@ use Rattle.syntax.specs.Substitution.{_⟦_⟧}
 use Rattle.syntax.specs.Values.{uses}
 use Rattle.syntax.proofs.Sizes.{size-var, size-lam, size-app, size-bind, size-pair, size-fst, size-snd, size-inl, size-inr, size-case}
 use Rattle.syntax.proofs.Sizes.{size-rename, size-substitute}
-use Rattle.reduction.specs.Rules.{allPure, lower}
+use Rattle.reduction.specs.MayDrop.{mayDrop}
+use Rattle.reduction.specs.Rules.{lower}
 use Rattle.reduction.specs.declared.Rule.the-variants.{LetOfLet, LetOfCase, Apply, First, Second, LeftCase, RightCase, LetValue, Drop}
 use Rattle.reduction.proofs.Fires.{Fires, f-let, f-case, f-apply, f-first, f-second, f-left, f-right, f-value, f-drop}
 use Rattle.reduction.proofs.DropSubstitutes.{rename-lower}
@@ -56,7 +57,7 @@ module _ {calls words : List ℕ} where
   word-body s e = record { ends = s; becomes = word-with s e }
 
 module _ (calls words : List ℕ) where
-  applied : {x y : Term} {rest : List ℕ} → Holds calls words x rest → Fires allPure Apply x y
+  applied : {x y : Term} {rest : List ℕ} → Holds calls words x rest → Fires (mayDrop calls) Apply x y
       → (m n w : ℕ) → Sized calls (from words 2) m → Sized calls (from words (2 + m)) n → SizedWith calls (from words 2) n w
       → MeasuredAs calls words x y (record { plan = Substitute 2 (2 + m) n; read = 2 + m + n; wrote = w })
   unfolding node joined
@@ -80,7 +81,7 @@ module _ (calls words : List ℕ) where
 
   -- a let: the bound part, then the body
   module _ (n m : ℕ) (s : Sized calls (from words 1) n) (d : Sized calls (from words (1 + n)) m) where
-    put-in : {x y : Term} {rest : List ℕ} → Holds calls words x rest → Fires allPure LetValue x y
+    put-in : {x y : Term} {rest : List ℕ} → Holds calls words x rest → Fires (mayDrop calls) LetValue x y
         → (w : ℕ) → SizedWith calls (from words (1 + n)) n w
         → MeasuredAs calls words x y (record { plan = Substitute (1 + n) 1 n; read = 1 + n + m; wrote = w })
     unfolding node
@@ -98,7 +99,7 @@ module _ (calls words : List ℕ) where
         }
 
     -- dropping an unused variable is substituting anything for it
-    dropped : {x y : Term} {rest : List ℕ} → Holds calls words x rest → Fires allPure Drop x y
+    dropped : {x y : Term} {rest : List ℕ} → Holds calls words x rest → Fires (mayDrop calls) Drop x y
         → MeasuredAs calls words x y (record { plan = Substitute (1 + n) 1 n; read = 1 + n + m; wrote = m })
     unfolding node
     dropped {rest = rest} h (f-drop {e = v} {b = b} p q z) =
@@ -125,7 +126,7 @@ module _ (calls words : List ℕ) where
   -- a case on an injection: the value, then the branches
   module _ (n m k w : ℕ) (s₁ : Sized calls (from words 2) n) (s₂ : Sized calls (from words (2 + n)) m)
       (s₃ : Sized calls (from words (2 + n + m)) k) where
-    left : {x y : Term} {rest : List ℕ} → Holds calls words x rest → Fires allPure LeftCase x y → SizedWith calls (from words (2 + n)) n w
+    left : {x y : Term} {rest : List ℕ} → Holds calls words x rest → Fires (mayDrop calls) LeftCase x y → SizedWith calls (from words (2 + n)) n w
         → MeasuredAs calls words x y (record { plan = Substitute (2 + n) 2 n; read = 2 + n + m + k; wrote = w })
     unfolding node joined
     left {rest = rest} h (f-left {A = A} {v = v} {l = l} {r = r} q) f =
@@ -143,7 +144,7 @@ module _ (calls words : List ℕ) where
           laid = substitutes hl hv ve (omega (arith, e, le, fits h));
         }
 
-    right : {x y : Term} {rest : List ℕ} → Holds calls words x rest → Fires allPure RightCase x y
+    right : {x y : Term} {rest : List ℕ} → Holds calls words x rest → Fires (mayDrop calls) RightCase x y
         → SizedWith calls (from words (2 + n + m)) n w
         → MeasuredAs calls words x y (record { plan = Substitute (2 + n + m) 2 n; read = 2 + n + m + k; wrote = w })
     unfolding node joined
@@ -172,7 +173,7 @@ module _ (calls words : List ℕ) where
     right-measures f = record { told = λ x y rest h e. right h (fired RightCase x y e) f }
 
   module _ (n m : ℕ) (s : Sized calls (from words 2) n) (d : Sized calls (from words (2 + n)) m) where
-    left-half : {x y : Term} {rest : List ℕ} → Holds calls words x rest → Fires allPure First x y
+    left-half : {x y : Term} {rest : List ℕ} → Holds calls words x rest → Fires (mayDrop calls) First x y
         → MeasuredAs calls words x y (record { plan = Copy 2; read = 2 + n + m; wrote = n })
     unfolding node joined
     left-half {rest = rest} h (f-first {A = A} {v = v} {w = w} p q) =
@@ -186,7 +187,7 @@ module _ (calls words : List ℕ) where
           laid = copies hv;
         }
 
-    right-half : {x y : Term} {rest : List ℕ} → Holds calls words x rest → Fires allPure Second x y
+    right-half : {x y : Term} {rest : List ℕ} → Holds calls words x rest → Fires (mayDrop calls) Second x y
         → MeasuredAs calls words x y (record { plan = Copy (2 + n); read = 2 + n + m; wrote = m })
     unfolding node joined
     right-half {rest = rest} h (f-second {A = A} {v = v} {w = w} p q) =
@@ -206,7 +207,7 @@ module _ (calls words : List ℕ) where
     pub second-measures : Measures Second calls words (record { plan = Copy (2 + n); read = 2 + n + m; wrote = m })
     second-measures = record { told = λ x y rest h f. right-half h (fired Second x y f) }
 
-  moved-let : {x y : Term} {rest : List ℕ} → Holds calls words x rest → Fires allPure LetOfLet x y
+  moved-let : {x y : Term} {rest : List ℕ} → Holds calls words x rest → Fires (mayDrop calls) LetOfLet x y
       → (n m k : ℕ) → Sized calls (from words 2) n → Sized calls (from words (2 + n)) m → Sized calls (from words (2 + n + m)) k
       → MeasuredAs calls words x y (record { plan = MoveLet (2 + n) (2 + n + m); read = 2 + n + m + k; wrote = 2 + n + m + k })
   unfolding node joined
@@ -230,7 +231,7 @@ module _ (calls words : List ℕ) where
       → Measures LetOfLet calls words (record { plan = MoveLet (2 + n) (2 + n + m); read = 2 + n + m + k; wrote = 2 + n + m + k })
   let-of-let-measures n m k s₁ s₂ s₃ = record { told = λ x y rest h f. moved-let h (fired LetOfLet x y f) n m k s₁ s₂ s₃ }
 
-  moved-case : {x y : Term} {rest : List ℕ} → Holds calls words x rest → Fires allPure LetOfCase x y
+  moved-case : {x y : Term} {rest : List ℕ} → Holds calls words x rest → Fires (mayDrop calls) LetOfCase x y
       → (n m k : ℕ) → Sized calls (from words 3) n → Sized calls (from words (3 + n)) m → Sized calls (from words (3 + n + m)) k
       → MeasuredAs calls words x y (record { plan = MoveCase (3 + n) (3 + n + m); read = 3 + n + m + k; wrote = 3 + n + m + k + 1 + k })
   unfolding node joined

@@ -11,7 +11,8 @@ use Rattle.syntax.specs.Term.{Term, Terms, var, bind, case, done, arg, node}
 use Rattle.syntax.specs.Encoding.{wordOf, size}
 use Rattle.syntax.specs.Substitution.{rename, weakenBody, _⟦_⟧}
 use Rattle.syntax.specs.Under.{raiseAt}
-use Rattle.reduction.specs.Rules.{allPure, fire}
+use Rattle.reduction.specs.MayDrop.{mayDrop}
+use Rattle.reduction.specs.Rules.{fire}
 use Rattle.reduction.specs.declared.Rule.{Rule}
 use Rattle.words.specs.Fronts.{Holds, Starts, from}
 use Rattle.words.specs.Ends.{Sized}
@@ -81,8 +82,8 @@ pub record MeasuredAs (calls words : List ℕ) (x y : Term) (r : Measured) : Typ
 pub record StartsRedex (rule : Rule) (calls words : List ℕ) : Type 0 where
   pub start : Starts calls words
   pub contractum : Term
-  pub fires : fire allPure rule (start .term) ≡ some contractum
+  pub fires : fire (mayDrop calls) rule (start .term) ≡ some contractum
 
 -- for whatever redex of the rule is at the front
 pub record Measures (rule : Rule) (calls words : List ℕ) (r : Measured) : Type 0 where
-  pub told : (x y : Term) (rest : List ℕ) → Holds calls words x rest → fire allPure rule x ≡ some y → MeasuredAs calls words x y r
+  pub told : (x y : Term) (rest : List ℕ) → Holds calls words x rest → fire (mayDrop calls) rule x ≡ some y → MeasuredAs calls words x y r

@@ -5,9 +5,9 @@ ghost use Rattle.contraction.specs.declared.plan.Plan.the-variants.{Subs
 ghost use Rattle.contraction.specs.Writers.{LetRoom, WritesLet, Planned, PlannedAs, Writes};
 use crate::insert::insert_node;
 use crate::plan::Plan;
-use words::copy::copy_into;
 use binding::rename::rename_into;
 use binding::substitute::substitute_into;
+use words::copy::copy_into;
 
 // a let that binds the part from `start` to `end`, over the body of another let that moves under it; answers its size
 fn let_over(

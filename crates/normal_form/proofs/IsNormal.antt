@@ -12,7 +12,7 @@ use Rattle.syntax.proofs.Options.{is-true, and-left, and-right}
 use Rattle.typing.specs.TableChecks.{lengthsFit}
 use Rattle.typing.specs.Refusals.{elaborate, otherLimit}
 use Rattle.typing.proofs.Accepted.{Passed}
-use Rattle.reduction.specs.Rules.{allPure}
+use Rattle.reduction.specs.MayDrop.{mayDrop}
 use Rattle.reduction.specs.Grammar.{inGrammar}
 use Rattle.outcomes.specs.Check.{checkedOf}
 use Rattle.outcomes.specs.IsNormal.{testedOf, isNormalOutcome}
@@ -33,7 +33,7 @@ space-none l le = record {
   low = λ d h. absurd (omega arith);
 }
 
-pub decides : {calls words : List ℕ} {depth : ℕ} {old new : List ℕ} {r : Part} → Tests (inGrammar allPure) calls words depth old new r
+pub decides : {calls words : List ℕ} {depth : ℕ} {old new : List ℕ} {r : Part} → Tests (inGrammar (mayDrop calls)) calls words depth old new r
     → Decides calls words (r .ok)
 decides a = record { told = λ t rest h. a .told t rest h .ok-is }
 
@@ -50,7 +50,7 @@ module _ (tables : Tables) (words : List ℕ) (r : Checked) (e : r ≡ checkedOf
   pub refused-tested : (r .refusal ≡ 0 → ⊥) → _≡_ {A = Tested} (record { refusal = r .refusal; normal = false })
       (isNormalOutcome tables words)
   unfolding isNormalOutcome
-  refused-tested z = ap testedOf (sym (refused-of otherLimit tables words r e z))
+  refused-tested z = ap (testedOf (mayDrop (tables .calls))) (sym (refused-of otherLimit tables words r e z))
 
   -- accepted
   module _ (z : r .refusal ≡ 0) where
@@ -74,5 +74,5 @@ module _ (tables : Tables) (words : List ℕ) (r : Checked) (e : r ≡ checkedOf
         let a = accepts in
         let x = a .typed in
         let n = d .told (x .term) [] (accepted-holds otherLimit tables words x (a .passed))
-        ∙ grammar-is-normal allPure tables (tables .inputs) (x .type) (x .term) (a .passed .type) in
-        ap {B = Tested} (λ c. record { refusal = 0; normal = c }) n ∙ ap testedOf (sym (a .is))
+        ∙ grammar-is-normal (mayDrop (tables .calls)) tables (tables .inputs) (x .type) (x .term) (a .passed .type) in
+        ap {B = Tested} (λ c. record { refusal = 0; normal = c }) n ∙ ap (testedOf (mayDrop (tables .calls))) (sym (a .is))

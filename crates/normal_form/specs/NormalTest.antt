@@ -5,15 +5,15 @@ use mathlib.Core.List.{List}
 use Prim.Native.Nat.{ℕ}
 use Rattle.syntax.specs.Term.{Term}
 use Rattle.syntax.specs.Encoding.{size}
-use Rattle.reduction.specs.Rules.{allPure}
+use Rattle.reduction.specs.MayDrop.{mayDrop}
 use Rattle.reduction.specs.Grammar.{class, isAValue, inGrammar}
 use Rattle.words.specs.Fronts.{Holds}
 use Rattle.search.specs.Marks.{Marked}
 use Rattle.normal_form.specs.declared.normal.Part.{Part}
 
 -- a value in normal form
-unfoldable pub isNormalValue : Term → Bool
-isNormalValue t = isAValue (class allPure t)
+unfoldable pub isNormalValue : List ℕ → Term → Bool
+isNormalValue calls t = isAValue (class (mayDrop calls) t)
 
 -- a term that passed: it ends where the answer says, and its uses are marked
 pub record Passed (t : Term) (depth : ℕ) (old new : List ℕ) (r : Part) : Type 0 where
@@ -29,7 +29,7 @@ pub record Tests (test : Term → Bool) (calls words : List ℕ) (depth : ℕ) (
 
 -- yes exactly if the term at the front is in normal form
 pub record Decides (calls words : List ℕ) (r : Bool) : Type 0 where
-  pub told : (t : Term) (rest : List ℕ) → Holds calls words t rest → r ≡ inGrammar allPure t
+  pub told : (t : Term) (rest : List ℕ) → Holds calls words t rest → r ≡ inGrammar (mayDrop calls) t
 
 -- the answer of a test that the part did not pass
 abbrev pub no : Part

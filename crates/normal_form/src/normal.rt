@@ -2,19 +2,19 @@
 ghost use mathlib.Core.Path.{_≡_};
 ghost use Prim.Native.Nat.{_≤_};
 ghost use lib.ListN.{length};
-ghost use Rattle.reduction.specs.Rules.{allPure};
+ghost use Rattle.reduction.specs.MayDrop.{mayDrop};
 ghost use Rattle.reduction.specs.Grammar.{inGrammar};
 ghost use Rattle.words.specs.Fronts.{Starts};
 ghost use Rattle.search.specs.Marks.{Space};
 ghost use Rattle.normal_form.specs.Roles.{firstRole, laterRole, roleOf, suits, operationKind, keepsVariable};
 ghost use Rattle.normal_form.specs.NormalTest.{isNormalValue, Tests, Decides};
 use checker::check::OTHER_LIMIT;
+use search::marks::mark;
+use search::value::value_kind;
 use words::fields::kind;
 use words::fields::number;
 use words::shape::binders;
 use words::shape::part_count;
-use search::marks::mark;
-use search::value::value_kind;
 
 // where a part ends, and whether it passed its test; the end is 0 if not
 pub struct Part {
@@ -97,7 +97,7 @@ fn keeps(k: u64, j: usize, uses: u64) -> bool
 // whether the part at the front is a value in normal form, and where it ends
 pub fn value_test(calls: &[u64], t: &[u64], used: &mut [u64], depth: usize) -> Part
     requires { ⌜ Starts (now calls) (now t) × Space 1 (now used) depth (length (now t)) ⌝ }
-    ensures { λ r. ⌜ Tests isNormalValue (now (calls .entry)) (now (t .entry)) depth (now (used .entry)) (now (used .exit)) r ⌝ }
+    ensures { λ r. ⌜ Tests (isNormalValue (now (calls .entry))) (now (calls .entry)) (now (t .entry)) depth (now (used .entry)) (now (used .exit)) r ⌝ }
 {
     let w = t[0];
     let k = kind(w);
@@ -136,7 +136,7 @@ pub fn value_test(calls: &[u64], t: &[u64], used: &mut [u64], depth: usize) -> P
 // whether the part at the front is in normal form, and where it ends
 pub fn normal_test(calls: &[u64], t: &[u64], used: &mut [u64], depth: usize) -> Part
     requires { ⌜ Starts (now calls) (now t) × Space 1 (now used) depth (length (now t)) ⌝ }
-    ensures { λ r. ⌜ Tests (inGrammar allPure) (now (calls .entry)) (now (t .entry)) depth (now (used .entry)) (now (used .exit)) r ⌝ }
+    ensures { λ r. ⌜ Tests (inGrammar (mayDrop (now (calls .entry)))) (now (calls .entry)) (now (t .entry)) depth (now (used .entry)) (now (used .exit)) r ⌝ }
 {
     let w = t[0];
     let k = kind(w);

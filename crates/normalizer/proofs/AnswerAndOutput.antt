@@ -8,7 +8,7 @@ use Rattle.syntax.specs.Tables.{over}
 use Rattle.syntax.specs.Encoding.{encode, size}
 use Rattle.typing.specs.Refusals.{refused, TypedTerm, elaborate, normalizeLimit}
 use Rattle.typing.proofs.Accepted.{Passed}
-use Rattle.reduction.specs.Rules.{allPure}
+use Rattle.reduction.specs.MayDrop.{mayDrop}
 use Rattle.reduction.specs.Reduction.{zeroCounts, reduce}
 use Rattle.reduction.proofs.Remaining.{reduce-too-long}
 use Rattle.outcomes.specs.Buffers.{overwrite}
@@ -45,7 +45,7 @@ module _ (types calls inputs words output first second : List ℕ) (budget : ℕ
       → a ≡ record { refusal = checked .refusal; ty = 0; length = 0; counts = zeroCounts } → Told a output
   unfolding normalizeWithin checkedTo
   run-refused z a ae =
-      untouched _ a (ap (checkedTo (capacityOf before) (record { budget = budget }))
+      untouched _ a (ap (checkedTo (mayDrop calls) (capacityOf before) (record { budget = budget }))
       (refused-of normalizeLimit (over types calls inputs) words checked ce z)) refl ae
 
   module _ (capacity : ℕ) (ke : capacity ≡ min (min (length output) (min (length first) (length second))) 8192)
@@ -67,11 +67,11 @@ module _ (types calls inputs words output first second : List ℕ) (budget : ℕ
     unfolding capacityOf
     capacity-is = ke
 
-    reduced : within ≡ reducedTo (x .type) (reduce allPure capacity (record { budget = budget }) (x .term))
+    reduced : within ≡ reducedTo (x .type) (reduce (mayDrop calls) capacity (record { budget = budget }) (x .term))
     unfolding normalizeWithin checkedTo
     reduced =
-        ap (checkedTo (capacityOf before) (record { budget = budget })) (passed .is)
-        ∙ ap (λ (k : ℕ). reducedTo (x .type) (reduce allPure k (record { budget = budget }) (x .term))) (sym capacity-is)
+        ap (checkedTo (mayDrop calls) (capacityOf before) (record { budget = budget })) (passed .is)
+        ∙ ap (λ (k : ℕ). reducedTo (x .type) (reduce (mayDrop calls) k (record { budget = budget }) (x .term))) (sym capacity-is)
 
     -- longer than the capacity
     pub run-too-long : capacity < length words → (a : Answer) → a ≡ record { refusal = 11; ty = 0; length = 0; counts = zeroCounts }
@@ -79,7 +79,7 @@ module _ (types calls inputs words output first second : List ℕ) (budget : ℕ
     unfolding reducedTo size
     run-too-long h a ae =
         let long : capacity < size (x .term) = omega (arith, h, ap (λ (l : List ℕ). length l) is-encoded) in
-        untouched _ a (reduced ∙ ap (reducedTo (x .type)) (reduce-too-long allPure capacity budget (x .term) long)) refl ae
+        untouched _ a (reduced ∙ ap (reducedTo (x .type)) (reduce-too-long (mayDrop calls) capacity budget (x .term) long)) refl ae
 
     module _ (h : length words ≤ capacity) where
       long₁ : length (take capacity first) ≡ capacity
@@ -113,5 +113,5 @@ module _ (types calls inputs words output first second : List ℕ) (budget : ℕ
           → Settles calls words (checked .ty) budget (length (take capacity first)) output a out → Told a out
       run-settled a out s =
           subst (λ (n : Normalized). Fills n output a out)
-          (ap₂ {C = Normalized} (λ (A k : ℕ). reducedTo A (reduce allPure k (record { budget = budget }) (x .term))) (sym (passed .type)) long₁
+          (ap₂ {C = Normalized} (λ (A k : ℕ). reducedTo A (reduce (mayDrop calls) k (record { budget = budget }) (x .term))) (sym (passed .type)) long₁
           ∙ sym reduced) (s .told (x .term) (holds .shaped) is-encoded)

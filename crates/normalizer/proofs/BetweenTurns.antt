@@ -12,7 +12,7 @@ use Rattle.syntax.specs.Encoding.{size}
 use Rattle.syntax.specs.Shaped.{Shaped}
 use Rattle.typing.specs.Infer.{infer}
 use Rattle.typing.proofs.InferTyped.{typing-of}
-use Rattle.reduction.specs.Rules.{allPure}
+use Rattle.reduction.specs.MayDrop.{mayDrop}
 use Rattle.reduction.specs.Redex.{Step, step}
 use Rattle.reduction.specs.Clear.{Clear}
 use Rattle.reduction.specs.Reduction.{Counts, raise, Progress, stopped, reached, runPhase}
@@ -36,19 +36,19 @@ use Rattle.step.specs.declared.turn.Turn.the-variants.{Stop, Refused, Step as S
 use Rattle.step.proofs.GapMoved.{gapped-size, gapped-seekable, gapped-sought}
 
 -- after a step: what the phase takes as known still holds where the search goes on, and no redex stands before that place
-known-next : (phase : Phase) (t : Term) (s : Step) → step allPure phase t ≡ some s → (i : ℕ) → PhasePremise phase t i
-    → PhasePremise phase (s .next) (nextFrom phase (s .place))
+premise-next : (calls : List ℕ) (phase : Phase) (t : Term) (s : Step) → step (mayDrop calls) phase t ≡ some s → (i : ℕ) → PhasePremise calls phase t i
+    → PhasePremise calls phase (s .next) (nextFrom phase (s .place))
 unfolding nextFrom
-known-next Insertion t s e i b = tt
-known-next Reduction t s e i b = not-inserted allPure (s .next) (operands-next allPure t s (inserted allPure t b) e)
-known-next Dropping t s e i b = refl
+premise-next calls Insertion t s e i b = tt
+premise-next calls Reduction t s e i b = not-inserted (mayDrop calls) (s .next) (operands-next (mayDrop calls) t s (inserted (mayDrop calls) t b) e)
+premise-next calls Dropping t s e i b = refl
 
-clear-next : (phase : Phase) (t : Term) (s : Step) → step allPure phase t ≡ some s → (i : ℕ) → PhasePremise phase t i
-    → Clear allPure phase (s .next) (nextFrom phase (s .place))
+clear-next : (calls : List ℕ) (phase : Phase) (t : Term) (s : Step) → step (mayDrop calls) phase t ≡ some s → (i : ℕ) → PhasePremise calls phase t i
+    → Clear (mayDrop calls) phase (s .next) (nextFrom phase (s .place))
 unfolding nextFrom
-clear-next Insertion t s e i b = next-insertion allPure t s e
-clear-next Reduction t s e i b = next-reduction allPure t s (inserted allPure t b) e
-clear-next Dropping t s e i b = clear-zero allPure Dropping (s .next)
+clear-next calls Insertion t s e i b = next-insertion (mayDrop calls) t s e
+clear-next calls Reduction t s e i b = next-reduction (mayDrop calls) t s (inserted (mayDrop calls) t b) e
+clear-next calls Dropping t s e i b = clear-zero (mayDrop calls) Dropping (s .next)
 
 module _ (tables : Tables) (capacity : ℕ) (whole : Progress) where
   -- the term, its type, and what is left to do
@@ -58,7 +58,7 @@ module _ (tables : Tables) (capacity : ℕ) (whole : Progress) where
     pub at : At phase (tables .calls) words start end term
     pub typed : infer tables term (tables .inputs) ≡ some type
     pub long : length words ≡ capacity
-    pub same : onwards allPure capacity phase (runPhase allPure capacity phase left term counts) ≡ whole
+    pub same : onwards (mayDrop (tables .calls)) capacity phase (runPhase (mayDrop (tables .calls)) capacity phase left term counts) ≡ whole
 
   -- what the whole comes to
   pub record Ended (words : List ℕ) (end left : ℕ) (counts : Counts) : Type 0 where
@@ -78,11 +78,11 @@ module _ (tables : Tables) (capacity : ℕ) (whole : Progress) where
 
     -- a turn that ends the phase
     standing-stops : {after : List ℕ} → Turns phase (tables .calls) words start end left after Stop
-        → (step allPure phase (s .term) ≡ none) × Current (tables .calls) after start end (s .term)
+        → (step (mayDrop (tables .calls)) phase (s .term) ≡ none) × Current (tables .calls) after start end (s .term)
     standing-stops x = told (x .told (s .term) (s .at))
       where
         told : {after : List ℕ} {n : ℕ} → Turned phase (tables .calls) after start end left n (s .term) Stop
-            → (step allPure phase (s .term) ≡ none) × Current (tables .calls) after start end (s .term)
+            → (step (mayDrop (tables .calls)) phase (s .term) ≡ none) × Current (tables .calls) after start end (s .term)
         told (stops e c) = (e, c)
 
     -- the gap can go back to any place then
@@ -97,15 +97,15 @@ module _ (tables : Tables) (capacity : ℕ) (whole : Progress) where
         → whole ≡ stopped n counts
     standing-refused n x = told (x .told (s .term) (s .at)) (s .long)
       where
-        here : {p : Progress} → runPhase allPure capacity phase left (s .term) counts ≡ p → whole ≡ onwards allPure capacity phase p
-        here e = sym (s .same) ∙ ap (onwards allPure capacity phase) e
+        here : {p : Progress} → runPhase (mayDrop (tables .calls)) capacity phase left (s .term) counts ≡ p → whole ≡ onwards (mayDrop (tables .calls)) capacity phase p
+        here e = sym (s .same) ∙ ap (onwards (mayDrop (tables .calls)) capacity phase) e
 
         told : {after : List ℕ} {n m : ℕ} → Turned phase (tables .calls) after start end left m (s .term) (Refused n) → m ≡ capacity
             → whole ≡ stopped n counts
-        told (spent st e z) l = here (turn-spent allPure capacity phase left (s .term) counts st e z)
-            ∙ onwards-stopped allPure capacity phase 10 counts
-        told (full st e h f) l = here (turn-full allPure capacity phase left (s .term) counts st e h (omega (arith, f, l)))
-            ∙ onwards-stopped allPure capacity phase 11 counts
+        told (spent st e z) l = here (turn-spent (mayDrop (tables .calls)) capacity phase left (s .term) counts st e z)
+            ∙ onwards-stopped (mayDrop (tables .calls)) capacity phase 10 counts
+        told (full st e h f) l = here (turn-full (mayDrop (tables .calls)) capacity phase left (s .term) counts st e h (omega (arith, f, l)))
+            ∙ onwards-stopped (mayDrop (tables .calls)) capacity phase 11 counts
 
     -- a turn that takes a step
     pub standing-steps : {after : List ℕ} (rule : Rule) (from rest : ℕ) → Fitting tables → capacity ≤ 8192 → length after ≡ capacity
@@ -123,17 +123,17 @@ module _ (tables : Tables) (capacity : ℕ) (whole : Progress) where
             type = s .type;
             at = record {
               current = record { shaped = typed-shaped fit limit (st .next) (s .type) typed fits; gapped = g };
-              clear = clear-next phase (s .term) st e start (s .at .premise);
-              premise = known-next phase (s .term) st e start (s .at .premise);
+              clear = clear-next (tables .calls) phase (s .term) st e start (s .at .premise);
+              premise = premise-next (tables .calls) phase (s .term) st e start (s .at .premise);
             };
             typed = typed;
             long = long;
-            same = sym (ap (onwards allPure capacity phase) (turn-goes allPure capacity phase left (s .term) counts st e h fits)) ∙ s .same;
+            same = sym (ap (onwards (mayDrop (tables .calls)) capacity phase) (turn-goes (mayDrop (tables .calls)) capacity phase left (s .term) counts st e h fits)) ∙ s .same;
           },
         )
           where
             typed : infer tables (st .next) (tables .inputs) ≡ some (s .type)
-            typed = infer-step tables allPure phase (tables .inputs) (s .type) (s .term) st (s .typed) e
+            typed = infer-step tables (mayDrop (tables .calls)) phase (tables .inputs) (s .type) (s .term) st (s .typed) e
 
             fits : size (st .next) ≤ capacity
             fits = omega (arith, gapped-size g, g .ordered, g .inside, long)
@@ -150,13 +150,13 @@ module _ (tables : Tables) (capacity : ℕ) (whole : Progress) where
           type = s .type;
           at = record {
             current = record { shaped = q .1 .shaped; gapped = gapped-sought (q .1 .gapped) k };
-            clear = clear-zero allPure Reduction (s .term);
+            clear = clear-zero (mayDrop (tables .calls)) Reduction (s .term);
             premise = q .0;
           };
           typed = s .typed;
           long = long;
-          same = sym (ap (onwards allPure capacity Insertion) (turn-stops allPure capacity Insertion left (s .term) counts (q .0))
-              ∙ insertion-ends allPure capacity left (s .term) counts) ∙ s .same;
+          same = sym (ap (onwards (mayDrop (tables .calls)) capacity Insertion) (turn-stops (mayDrop (tables .calls)) capacity Insertion left (s .term) counts (q .0))
+              ∙ insertion-ends (mayDrop (tables .calls)) capacity left (s .term) counts) ∙ s .same;
         }
 
     pub standing-reduced : Standing Reduction words start end left counts
@@ -168,13 +168,13 @@ module _ (tables : Tables) (capacity : ℕ) (whole : Progress) where
           type = s .type;
           at = record {
             current = record { shaped = q .1 .shaped; gapped = gapped-sought (q .1 .gapped) k };
-            clear = clear-zero allPure Dropping (s .term);
+            clear = clear-zero (mayDrop (tables .calls)) Dropping (s .term);
             premise = refl;
           };
           typed = s .typed;
           long = long;
-          same = sym (ap (onwards allPure capacity Reduction) (turn-stops allPure capacity Reduction left (s .term) counts (q .0))
-              ∙ reduction-ends allPure capacity left (s .term) counts) ∙ s .same;
+          same = sym (ap (onwards (mayDrop (tables .calls)) capacity Reduction) (turn-stops (mayDrop (tables .calls)) capacity Reduction left (s .term) counts (q .0))
+              ∙ reduction-ends (mayDrop (tables .calls)) capacity left (s .term) counts) ∙ s .same;
         }
 
     -- the last phase is over
@@ -185,5 +185,5 @@ module _ (tables : Tables) (capacity : ℕ) (whole : Progress) where
         record {
           term = s .term;
           gapped = gapped-sought (q .1 .gapped) k;
-          whole-is = sym (s .same) ∙ turn-stops allPure capacity Dropping left (s .term) counts (q .0);
+          whole-is = sym (s .same) ∙ turn-stops (mayDrop (tables .calls)) capacity Dropping left (s .term) counts (q .0);
         }

@@ -10,7 +10,7 @@ use Rattle.syntax.specs.Term.{Term}
 use Rattle.syntax.specs.Decoding.{decode}
 use Rattle.syntax.proofs.Decoding.{decode-words}
 use Rattle.typing.specs.Infer.{infer}
-use Rattle.reduction.specs.Rules.{allPure}
+use Rattle.reduction.specs.MayDrop.{mayDrop}
 use Rattle.reduction.specs.Reduction.{Counts, zeroCounts, Progress, stopped, reduce}
 use Rattle.reduction.specs.declared.Phase.{Phase}
 use Rattle.reduction.specs.declared.Phase.the-variants.{Insertion, Reduction, Dropping}
@@ -106,7 +106,7 @@ module _ {calls : List ℕ} {phase : Phase} {words₀ words₁ words : List ℕ}
   -- the reduction of whatever term was current at first stands here
   outer-stands : (t : Term) → Current calls words₀ 0 begin t
       → Standing (over (o .premise .types) calls (o .premise .inputs)) (length words₀)
-      (reduce allPure (length words₀) (record { budget = budget }) t) phase words start end left counts
+      (reduce (mayDrop calls) (length words₀) (record { budget = budget }) t) phase words start end left counts
   outer-stands t c =
       let s = o .premise .standing in
       let e : s .term ≡ t = current-unique (s .at .current) c in
@@ -114,11 +114,11 @@ module _ {calls : List ℕ} {phase : Phase} {words₀ words₁ words : List ℕ}
       both _ _ _ _ (o .premise .fit) (record {
         term = t;
         type = s .type;
-        at = record { current = c; clear = clear-zero allPure Insertion t; premise = tt };
+        at = record { current = c; clear = clear-zero (mayDrop calls) Insertion t; premise = tt };
         typed = subst (λ (x : Term). infer (over (o .premise .types) calls (o .premise .inputs)) x (o .premise .inputs) ≡ some (s .type)) e
             (s .typed);
         long = refl;
-        same = sym (reduce-begins allPure (length words₀) budget t (omega (arith, gapped-size g, g .inside)));
+        same = sym (reduce-begins (mayDrop calls) (length words₀) budget t (omega (arith, gapped-size g, g .inside)));
       })
 
   -- it is refused
@@ -182,15 +182,15 @@ outer-begins {calls} {words} {second} {begin} {budget} h x =
         types = y .types;
         inputs = y .inputs;
         capacity = length words;
-        whole = reduce allPure (length words) (record { budget = budget }) (x .term);
+        whole = reduce (mayDrop calls) (length words) (record { budget = budget }) (x .term);
         fit = fitting (y .limit) (over (y .types) calls (y .inputs)) (y .source) (y .lengths) (y .signatures);
         standing = record {
           term = x .term;
           type = y .type;
-          at = record { current = x .current; clear = clear-zero allPure Insertion (x .term); premise = tt };
+          at = record { current = x .current; clear = clear-zero (mayDrop calls) Insertion (x .term); premise = tt };
           typed = y .typed;
           long = refl;
-          same = sym (reduce-begins allPure (length words) budget (x .term) (omega (arith, gapped-size g, g .inside)));
+          same = sym (reduce-begins (mayDrop calls) (length words) budget (x .term) (omega (arith, gapped-size g, g .inside)));
         };
       };
       carries = λ types inputs capacity whole fit s. s;

@@ -10,7 +10,7 @@ use Rattle.syntax.specs.Encoding.{encode, size}
 use Rattle.syntax.specs.Shaped.{Shaped}
 use Rattle.syntax.proofs.Nodes.{tail-part}
 use Rattle.words.specs.Fronts.{from}
-use Rattle.reduction.specs.Rules.{allPure}
+use Rattle.reduction.specs.MayDrop.{mayDrop}
 use Rattle.reduction.specs.Reduction.{Counts, Progress, stopped, reached, reduce}
 use Rattle.outcomes.specs.Buffers.{overwrite}
 use Rattle.outcomes.specs.Normalize.{reducedTo}
@@ -53,8 +53,8 @@ module _ {calls words output first second : List ℕ} (x : Settleable calls word
   }
 
   module _ {budget : ℕ} {after : List ℕ} {r : Reduced} (y : Reduces calls first′ begin budget after r) where
-    comes : (t : Term) → Shaped calls t → words ≡ encode t → Comes after r (reduce allPure (length first) (record { budget = budget }) t)
-    comes t s e = subst (λ (k : ℕ). Comes after r (reduce allPure k (record { budget = budget }) t)) same-long (y .told t (placed t s e))
+    comes : (t : Term) → Shaped calls t → words ≡ encode t → Comes after r (reduce (mayDrop calls) (length first) (record { budget = budget }) t)
+    comes t s e = subst (λ (k : ℕ). Comes after r (reduce (mayDrop calls) k (record { budget = budget }) t)) same-long (y .told t (placed t s e))
 
     -- stopped on the way
     pub settled-stopped : (A : ℕ) (a : Answer) → (r .refusal ≡ 0 → ⊥)

@@ -9,7 +9,7 @@ use Rattle.syntax.specs.Tables.{over}
 use Rattle.syntax.specs.Term.{Term}
 use Rattle.typing.specs.Infer.{infer}
 use Rattle.typing.specs.TableChecks.{lengthsFit, wellFormedCalls}
-use Rattle.reduction.specs.Rules.{allPure}
+use Rattle.reduction.specs.MayDrop.{mayDrop}
 use Rattle.reduction.specs.Reduction.{Counts, Progress, stopped, reached, reduce}
 use Rattle.step.specs.Currents.{Gapped, Current}
 use Rattle.normalizer.specs.declared.reduce.Reduced.{Reduced}
@@ -42,4 +42,4 @@ pub data Comes (after : List ℕ) (r : Reduced) : Progress → Type 0 where
 -- for whatever term is there; the capacity is the buffer's length
 pub record Reduces (calls before : List ℕ) (begin budget : ℕ) (after : List ℕ) (r : Reduced) : Type 0 where
   pub told : (t : Term) → Current calls before 0 begin t
-      → Comes after r (reduce allPure (length before) (record { budget = budget }) t)
+      → Comes after r (reduce (mayDrop calls) (length before) (record { budget = budget }) t)

@@ -7,7 +7,7 @@ use Rattle.syntax.specs.Tables.{Tables}
 use Rattle.syntax.specs.Term.{Term}
 use Rattle.syntax.specs.Encoding.{encode}
 use Rattle.syntax.specs.Shaped.{Shaped}
-use Rattle.reduction.specs.Rules.{allPure}
+use Rattle.reduction.specs.MayDrop.{mayDrop}
 use Rattle.reduction.specs.Reduction.{Settings, reduce}
 use Rattle.outcomes.specs.Buffers.{overwrite}
 use Rattle.outcomes.specs.Normalize.{Normalized, reducedTo, Buffers, capacityOf, normalizeWithin}
@@ -38,4 +38,4 @@ pub record Settleable (calls words output first second : List ℕ) : Type 0 wher
 -- for whatever term the words are
 pub record Settles (calls words : List ℕ) (A budget capacity : ℕ) (before : List ℕ) (answer : Answer) (after : List ℕ) : Type 0 where
   pub told : (t : Term) → Shaped calls t → words ≡ encode t
-      → Fills (reducedTo A (reduce allPure capacity (record { budget = budget }) t)) before answer after
+      → Fills (reducedTo A (reduce (mayDrop calls) capacity (record { budget = budget }) t)) before answer after

@@ -7,10 +7,11 @@ use mathlib.Core.Bool.{Bool, true, false}
 use mathlib.Core.List.{List, [], _++_}
 use lib.ListN.{length, take, drop, replicate, length-append}
 use borrow.Author.Tests.{le-leb}
+use Rattle.syntax.specs.Term.{Term}
 use Rattle.syntax.specs.Tables.{Tables, over}
 use Rattle.syntax.specs.Encoding.{size}
 use Rattle.typing.specs.Refusals.{Verdict, refused, accepted, TypedTerm, elaborate, normalizeLimit}
-use Rattle.reduction.specs.Rules.{allPure}
+use Rattle.reduction.specs.MayDrop.{mayDrop}
 use Rattle.reduction.specs.Reduction.{Settings, Progress, stopped, reached, reduce}
 use Rattle.outcomes.specs.Buffers.{overwrite}
 use Rattle.outcomes.specs.Listing.{listingOf, Written, writtenTo, wordsListed, listingOutcome}
@@ -32,15 +33,15 @@ unfolding reducedTo size
 reduced-counted A (stopped n counts) = refl
 reduced-counted A (reached left u counts) = refl
 
-checked-counted : (capacity : ℕ) (settings : Settings) (v : Verdict TypedTerm) → Counted (checkedTo capacity settings v)
+checked-counted : (pure : Term → Bool) (capacity : ℕ) (settings : Settings) (v : Verdict TypedTerm) → Counted (checkedTo pure capacity settings v)
 unfolding checkedTo
-checked-counted capacity settings (refused n) = refl
-checked-counted capacity settings (accepted x) = reduced-counted (x .type) (reduce allPure capacity settings (x .term))
+checked-counted pure capacity settings (refused n) = refl
+checked-counted pure capacity settings (accepted x) = reduced-counted (x .type) (reduce pure capacity settings (x .term))
 
 normalized-counted : (capacity : ℕ) (settings : Settings) (tables : Tables) (words : List ℕ)
     → Counted (normalizeWithin capacity settings tables words)
 unfolding normalizeWithin
-normalized-counted capacity settings tables words = checked-counted capacity settings (elaborate normalizeLimit tables words)
+normalized-counted capacity settings tables words = checked-counted (mayDrop (tables .calls)) capacity settings (elaborate normalizeLimit tables words)
 
 -- no more words are listed than counted
 listed-at-most : (a : Answer) → wordsListed a ≤ a .length

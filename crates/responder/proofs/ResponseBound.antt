@@ -14,7 +14,7 @@ use Rattle.syntax.proofs.Options.{Every, every-at}
 use Rattle.typing.specs.Refusals.{Verdict, refused, accepted, TypedTerm, elaborate, normalizeLimit}
 use Rattle.typing.proofs.Accepted.{Verdicts, passed, Passed, elaborated}
 use Rattle.typing.proofs.Order.{refusalOf, refusal-below}
-use Rattle.reduction.specs.Rules.{allPure}
+use Rattle.reduction.specs.MayDrop.{mayDrop}
 use Rattle.reduction.specs.Reduction.{Progress, stopped, reached, reduce}
 use Rattle.reduction.proofs.Exact.{Exact, reduce-exact, reached-fits, refusal-number}
 use Rattle.reduction.proofs.CountsBounded.{zeros, countsOf, ten-counts, count-budget}
@@ -51,35 +51,35 @@ refused-bounded n h = record {
 }
 
 -- reduced, to a refusal or to a normal form
-reduced-bounded : (A : ℕ) (t : Term) (p : Progress) → A < 1024 → Exact allPure maxCapacity (programSettings .budget) t p
+reduced-bounded : (pure : Term → Bool) (A : ℕ) (t : Term) (p : Progress) → A < 1024 → Exact pure maxCapacity (programSettings .budget) t p
     → length (countsOf p) ≡ 10 → ((i : ℕ) → getD (countsOf p) i 0 ≤ programSettings .budget) → Bounded (reducedTo A p)
 unfolding reducedTo size
-reduced-bounded A t (stopped n counts) h x ten each = record {
-  refusal = omega (arith, refusal-number allPure maxCapacity x .1);
+reduced-bounded pure A t (stopped n counts) h x ten each = record {
+  refusal = omega (arith, refusal-number pure maxCapacity x .1);
   type = omega arith;
   length-answered = omega arith;
   words = omega arith;
   ten = ten;
   each = each;
 }
-reduced-bounded A t (reached left u counts) h x ten each = record {
+reduced-bounded pure A t (reached left u counts) h x ten each = record {
   refusal = omega arith;
   type = h;
-  length-answered = reached-fits allPure maxCapacity x;
-  words = reached-fits allPure maxCapacity x;
+  length-answered = reached-fits pure maxCapacity x;
+  words = reached-fits pure maxCapacity x;
   ten = ten;
   each = each;
 }
 
 -- refused by a check, or reduced
 checked-bounded : (tables : Tables) (words : List ℕ) (v : Verdict TypedTerm) → Every (λ n. n ≤ 9) (refusalOf v)
-    → Verdicts (Passed normalizeLimit tables words) v → Bounded (checkedTo maxCapacity programSettings v)
+    → Verdicts (Passed normalizeLimit tables words) v → Bounded (checkedTo (mayDrop (tables .calls)) maxCapacity programSettings v)
 unfolding checkedTo
 checked-bounded tables words (refused n) h v = refused-bounded n (omega (arith, every-at n h refl))
-checked-bounded tables words (accepted x) h (passed p) = reduced-bounded (x .type) (x .term)
-    (reduce allPure maxCapacity programSettings (x .term)) (type-below normalizeLimit tables words x p)
-    (reduce-exact allPure maxCapacity programSettings (x .term)) (ten-counts allPure maxCapacity programSettings (x .term))
-    (count-budget allPure maxCapacity programSettings (x .term))
+checked-bounded tables words (accepted x) h (passed p) = reduced-bounded (mayDrop (tables .calls)) (x .type) (x .term)
+    (reduce (mayDrop (tables .calls)) maxCapacity programSettings (x .term)) (type-below normalizeLimit tables words x p)
+    (reduce-exact (mayDrop (tables .calls)) maxCapacity programSettings (x .term)) (ten-counts (mayDrop (tables .calls)) maxCapacity programSettings (x .term))
+    (count-budget (mayDrop (tables .calls)) maxCapacity programSettings (x .term))
 
 normalized-bounded : (tables : Tables) (words : List ℕ) → Bounded (normalizeWithin maxCapacity programSettings tables words)
 unfolding normalizeWithin

@@ -26,7 +26,8 @@ use Rattle.reduction.specs.declared.Phase.the-variants.{Dropping}
 use Rattle.reduction.specs.declared.Rule.{Rule}
 use Rattle.reduction.specs.declared.Rule.the-variants.{Drop}
 use Rattle.reduction.specs.declared.Found.the-variants.{Redex, Nothing}
-use Rattle.reduction.specs.Rules.{allPure, drop as dropRule, fire, rules, lower}
+use Rattle.reduction.specs.MayDrop.{mayDrop}
+use Rattle.reduction.specs.Rules.{drop as dropRule, fire, rules, lower}
 use Rattle.reduction.specs.Redex.{Contraction, contract, foundOf, firstRedex}
 use Rattle.reduction.specs.Clear.{Clear}
 use Rattle.reduction.proofs.Clear.{clear-down, clear-all, first-at}
@@ -102,17 +103,17 @@ flat-mark p (inr A a) e = omega arith
 flat-mark p (case s l r) e = absurd (omega (arith, e))
 
 -- whether a node is a let that can be dropped, and its mark
-data Judged (p : ℕ) (t : Term) : Type 0 where
-  stays : contract allPure (rules Dropping) t ≡ none → 65536 ≤ finalMark p t → Judged p t
-  drops : (c : Contraction) → contract allPure (rules Dropping) t ≡ some c → c .rule ≡ Drop → finalMark p t ≡ p → Judged p t
+data Judged (calls : List ℕ) (p : ℕ) (t : Term) : Type 0 where
+  stays : contract (mayDrop calls) (rules Dropping) t ≡ none → 65536 ≤ finalMark p t → Judged calls p t
+  drops : (c : Contraction) → contract (mayDrop calls) (rules Dropping) t ≡ some c → c .rule ≡ Drop → finalMark p t ≡ p → Judged calls p t
 
-judge : (p : ℕ) (t : Term) → Judged p t
-unfolding contract fire rules dropRule asBind partsOf node isComputation allPure finalMark openMark inner uses
-judge p (var n) = stays refl (omega arith)
-judge p (call k ts) = stays refl (omega arith)
-judge p (lam A b) = stays refl (omega arith)
-judge p (app f a) = stays refl (omega arith)
-judge p (bind e b) = go (isValue e) refl (eqb (uses b 0) 0) refl
+judge : (calls : List ℕ) (p : ℕ) (t : Term) → Judged calls p t
+unfolding contract fire rules dropRule asBind partsOf node isComputation mayDrop finalMark openMark inner uses
+judge calls p (var n) = stays refl (omega arith)
+judge calls p (call k ts) = stays refl (omega arith)
+judge calls p (lam A b) = stays refl (omega arith)
+judge calls p (app f a) = stays refl (omega arith)
+judge calls p (bind e b) = go (isValue e) refl (eqb (uses b 0) 0) refl
   where
     made : Bool → Bool → Option Contraction
     made v z = elim (given (not v && true && z) (rename b lower)) [
@@ -120,17 +121,17 @@ judge p (bind e b) = go (isValue e) refl (eqb (uses b 0) 0) refl
       | none ↦ none
     ]
 
-    go : (v : Bool) → isValue e ≡ v → (z : Bool) → eqb (uses b 0) 0 ≡ z → Judged p (bind e b)
+    go : (v : Bool) → isValue e ≡ v → (z : Bool) → eqb (uses b 0) 0 ≡ z → Judged calls p (bind e b)
     go true ev z ez = stays (ap (λ (v : Bool). made v (eqb (uses b 0) 0)) ev) (omega (arith, ap (λ (v : Bool). cond v 65536 p) ev))
     go false ev true ez = drops (record { rule = Drop; contractum = rename b lower }) (ap₂ made ev ez) refl
         (omega (arith, ap (λ (v : Bool). cond v 65536 p) ev, eqb-true (uses b 0) 0 ez))
     go false ev false ez = stays (ap₂ made ev ez) (omega (arith, eqb-false (uses b 0) 0 ez))
-judge p (pair A a b) = stays refl (omega arith)
-judge p (fst a) = stays refl (omega arith)
-judge p (snd a) = stays refl (omega arith)
-judge p (inl A a) = stays refl (omega arith)
-judge p (inr A a) = stays refl (omega arith)
-judge p (case s l r) = stays refl (omega arith)
+judge calls p (pair A a b) = stays refl (omega arith)
+judge calls p (fst a) = stays refl (omega arith)
+judge calls p (snd a) = stays refl (omega arith)
+judge calls p (inl A a) = stays refl (omega arith)
+judge calls p (inr A a) = stays refl (omega arith)
+judge calls p (case s l r) = stays refl (omega arith)
 
 -- the subterm at an index begins at its word
 subterm-at : {calls words : List ℕ} (t : Term) (s : Shaped calls t) (w : words ≡ encode t) (j : ℕ) (p : Position Term)
@@ -146,12 +147,12 @@ pub finds-none : {calls words : List ℕ} → ((i : ℕ) → i < length words �
 unfolding size finalMark
 finds-none {calls} {words} free small = record {
   told = λ t s w.
-      sym (none-nothing allPure Dropping t (clear-all allPure Dropping t
-      (record { misses = λ j p l e. go t s w j p e (judge j (p .subterm)) })));
+      sym (none-nothing (mayDrop calls) Dropping t (clear-all (mayDrop calls) Dropping t
+      (record { misses = λ j p l e. go t s w j p e (judge calls j (p .subterm)) })));
 }
   where
     go : (t : Term) → Shaped calls t → words ≡ encode t → (j : ℕ) (p : Position Term) → getElem? (positions t) j ≡ some p
-        → Judged j (p .subterm) → contract allPure (rules Dropping) (p .subterm) ≡ none
+        → Judged calls j (p .subterm) → contract (mayDrop calls) (rules Dropping) (p .subterm) ≡ none
     go t s w j p e (stays f m) = f
     go t s w j p e (drops c f q m) =
         let below : j < length words = omega (arith, index-below t j p e, ap (λ (l : List ℕ). length l) w) in
@@ -164,11 +165,11 @@ module _ {calls words old new : List ℕ} {r : Scan} (a : Scans calls words 0 0 
   ends : r .end ≡ size t
   ends = a .told t [] (record { shaped = s; is = w ∙ sym (append-nil (encode t)) }) .0
 
-  clear-first : (n : ℕ) → n ≤ r .first → n ≤ 65536 → Clear allPure Dropping t n
-  clear-first n le lim = record { misses = λ j p l e. go j p l e (judge (0 + j) (p .subterm)) }
+  clear-first : (n : ℕ) → n ≤ r .first → n ≤ 65536 → Clear (mayDrop calls) Dropping t n
+  clear-first n le lim = record { misses = λ j p l e. go j p l e (judge calls (0 + j) (p .subterm)) }
     where
-      go : (j : ℕ) (p : Position Term) → j < n → getElem? (positions t) j ≡ some p → Judged (0 + j) (p .subterm)
-          → contract allPure (rules Dropping) (p .subterm) ≡ none
+      go : (j : ℕ) (p : Position Term) → j < n → getElem? (positions t) j ≡ some p → Judged calls (0 + j) (p .subterm)
+          → contract (mayDrop calls) (rules Dropping) (p .subterm) ≡ none
       go j p l e (stays f m) = f
       go j p l e (drops c f q m) = absurd (omega (
         arith,
@@ -177,9 +178,9 @@ module _ {calls words old new : List ℕ} {r : Scan} (a : Scans calls words 0 0 
         a .before n le lim .marks j (p .subterm) _ (omega (arith, ends, index-below t j p e)) (subterm-at t s w j p e),
       ))
 
-  none-unused : 65536 ≤ r .first → Nothing ≡ firstRedex allPure Dropping t
-  none-unused h = sym (none-nothing allPure Dropping t (clear-all allPure Dropping t
-      (clear-down allPure Dropping (size t) (omega (arith, small)) (clear-first 65536 h (omega arith)))))
+  none-unused : 65536 ≤ r .first → Nothing ≡ firstRedex (mayDrop calls) Dropping t
+  none-unused h = sym (none-nothing (mayDrop calls) Dropping t (clear-all (mayDrop calls) Dropping t
+      (clear-down (mayDrop calls) Dropping (size t) (omega (arith, small)) (clear-first 65536 h (omega arith)))))
 
   module _ (lt : r .first < 65536) where
     -- the node at the place found cannot stay
@@ -200,28 +201,28 @@ module _ {calls words old new : List ℕ} {r : Scan} (a : Scans calls words 0 0 
         ))
         go i u rest l h (no b) (no e) m = omega (arith, b, e, m)
 
-        judged : (i : ℕ) (u : Term) (rest : List ℕ) → i < r .end → Holds calls (from words i) u rest → Judged (0 + i) u
+        judged : (i : ℕ) (u : Term) (rest : List ℕ) → i < r .end → Holds calls (from words i) u rest → Judged calls (0 + i) u
             → r .first + 1 ≤ finalMark (0 + i) u
         judged i u rest l h (stays f m) = omega (arith, m, lt)
         judged i u rest l h (drops c f e m) = go i u rest l h (decLt i (r .first)) (ℕ-discrete i (r .first)) m
 
         passed : Passed calls words 0 (r .first + 1) (r .end)
-        passed = record { marks = λ i u rest l h. judged i u rest l h (judge (0 + i) u) }
+        passed = record { marks = λ i u rest l h. judged i u rest l h (judge calls (0 + i) u) }
 
-    first-unused : Redex Drop (r .first) ≡ firstRedex allPure Dropping t
+    first-unused : Redex Drop (r .first) ≡ firstRedex (mayDrop calls) Dropping t
     unfolding firstRedex
     first-unused = sym (inside (decLt (r .first) (size t)))
       where
-        here : (p : PositionAt t (r .first)) → Judged (0 + r .first) (p .position .subterm) → firstRedex allPure Dropping t ≡ Redex Drop (r .first)
+        here : (p : PositionAt t (r .first)) → Judged calls (0 + r .first) (p .position .subterm) → firstRedex (mayDrop calls) Dropping t ≡ Redex Drop (r .first)
         here p (stays f m) = absurd (no-further λ u rest l h.
             subst (λ (z : Term). 65536 ≤ finalMark (0 + r .first) z)
             (sym (same-term h (subterm-at t s w (r .first) (p .position) (p .is)))) m)
         here p (drops c f q m) =
-            ap foundOf (first-at allPure Dropping t (r .first) (p .position) c (clear-first (r .first) (omega arith) (omega (arith, lt))) (p .is) f)
+            ap foundOf (first-at (mayDrop calls) Dropping t (r .first) (p .position) c (clear-first (r .first) (omega arith) (omega (arith, lt))) (p .is) f)
             ∙ ap (λ (k : Rule). Redex k (r .first)) q
 
-        inside : Dec (r .first < size t) → firstRedex allPure Dropping t ≡ Redex Drop (r .first)
-        inside (yes l) = let p = position-at t (r .first) l in here p (judge (0 + r .first) (p .position .subterm))
+        inside : Dec (r .first < size t) → firstRedex (mayDrop calls) Dropping t ≡ Redex Drop (r .first)
+        inside (yes l) = let p = position-at t (r .first) l in here p (judge calls (0 + r .first) (p .position .subterm))
         inside (no l) = absurd (no-further λ u rest b h. absurd (omega (arith, l, b, ends)))
 
 module _ {calls words old new : List ℕ} {r : Scan} (a : Scans calls words 0 0 old new r) (small : length words ≤ 8192) where

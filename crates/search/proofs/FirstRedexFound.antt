@@ -18,9 +18,10 @@ use Rattle.search.specs.PhasePremise.{PhasePremise}
 use Rattle.search.specs.Finds.{SearchAt, Searchable, Finds}
 
 -- phases 1 and 2
-module _ {phase : Phase} {calls rest : List ℕ} (ready : (t : Term) (i : ℕ) → PhasePremise phase t i → Scannable phase t) where
+module _ {phase : Phase} (ready : (calls : List ℕ) (t : Term) (i : ℕ) → PhasePremise calls phase t i → Scannable calls phase t)
+    {calls rest : List ℕ} where
   onward : (t : Term) (i : ℕ) → SearchAt phase calls rest i t → Onward phase calls rest t i
-  onward t i a = record { shaped = a .shaped; is = a .is; clear = a .clear; ready = ready t i (a .premise) }
+  onward t i a = record { shaped = a .shaped; is = a .is; clear = a .clear; ready = ready calls t i (a .premise) }
 
   pub continues : {marks : List ℕ} → Searchable phase calls rest marks → Continues phase calls rest
   continues s = record { term = s .term; index = s .from; onward = onward (s .term) (s .from) (s .at) }
@@ -29,11 +30,11 @@ module _ {phase : Phase} {calls rest : List ℕ} (ready : (t : Term) (i : ℕ) �
   finds-first f = record { told = λ t i a. f .told t i (onward t i a) }
 
 -- what they take as known
-pub insertion-ready : (t : Term) (i : ℕ) → PhasePremise Insertion t i → Scannable Insertion t
-insertion-ready t i b = tt
+pub insertion-ready : (calls : List ℕ) (t : Term) (i : ℕ) → PhasePremise calls Insertion t i → Scannable calls Insertion t
+insertion-ready calls t i b = tt
 
-pub reduction-ready : (t : Term) (i : ℕ) → PhasePremise Reduction t i → Scannable Reduction t
-reduction-ready t i b = b
+pub reduction-ready : (calls : List ℕ) (t : Term) (i : ℕ) → PhasePremise calls Reduction t i → Scannable calls Reduction t
+reduction-ready calls t i b = b
 
 -- what is found in the whole is found at its place
 at-front : (r : Found) → movedBy 0 r ≡ r

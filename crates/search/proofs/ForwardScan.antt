@@ -13,7 +13,8 @@ use Rattle.syntax.specs.Positions.{Position, positions}
 use Rattle.syntax.proofs.Nodes.{tail-part}
 use Rattle.syntax.proofs.Sites.{site, drop-site, position-at}
 use Rattle.syntax.proofs.Inherited.{shaped-site}
-use Rattle.reduction.specs.Rules.{allPure, rules}
+use Rattle.reduction.specs.MayDrop.{mayDrop}
+use Rattle.reduction.specs.Rules.{rules}
 use Rattle.reduction.specs.Clear.{Clear}
 use Rattle.reduction.specs.declared.Phase.{Phase}
 use Rattle.reduction.specs.declared.Phase.the-variants.{Insertion, Reduction, Dropping}
@@ -29,53 +30,53 @@ use Rattle.search.specs.Fits.{rootRedex, ruleOf, Scannable, Fits}
 use Rattle.search.specs.Searches.{Onward, Continues, FindsFirst}
 
 -- what is known of a term is known of its subterms
-scannable-site : (phase : Phase) (t : Term) (i : ℕ) (p : Position Term) → getElem? (positions t) i ≡ some p → Scannable phase t
-    → Scannable phase (p .subterm)
-scannable-site Insertion t i p e h = tt
-scannable-site Reduction t i p e h = not-inserted allPure (p .subterm) (each-site Ops t (inserted allPure t h) i p e)
-scannable-site Dropping t i p e h = h
+scannable-site : (calls : List ℕ) (phase : Phase) (t : Term) (i : ℕ) (p : Position Term) → getElem? (positions t) i ≡ some p → Scannable calls phase t
+    → Scannable calls phase (p .subterm)
+scannable-site calls Insertion t i p e h = tt
+scannable-site calls Reduction t i p e h = not-inserted (mayDrop calls) (p .subterm) (each-site Ops t (inserted (mayDrop calls) t h) i p e)
+scannable-site calls Dropping t i p e h = h
 
 -- no rule fits, and one does
-no-rule : (phase : Phase) (t : Term) → rootRedex (ruleOf phase t) ≡ Nothing → contract allPure (rules phase) t ≡ none
+no-rule : (calls : List ℕ) (phase : Phase) (t : Term) → rootRedex (ruleOf calls phase t) ≡ Nothing → contract (mayDrop calls) (rules phase) t ≡ none
 unfolding ruleOf
-no-rule phase t e = go (contract allPure (rules phase) t) e
+no-rule calls phase t e = go (contract (mayDrop calls) (rules phase) t) e
   where
     go : (o : Option Contraction) → rootRedex (Option·map (λ (c : Contraction). c .rule) o) ≡ Nothing → o ≡ none
     go none d = refl
     go (some c) d = let z : _≡_ {A = ℕ} 0 1 = cc in absurd (omega arith)
 
-record Rules (phase : Phase) (t : Term) (r : Rule) : Type 0 where
+record Rules (calls : List ℕ) (phase : Phase) (t : Term) (r : Rule) : Type 0 where
   contraction : Contraction
-  is : contract allPure (rules phase) t ≡ some contraction
+  is : contract (mayDrop calls) (rules phase) t ≡ some contraction
   rule-is : contraction .rule ≡ r
 
-a-rule : (phase : Phase) (t : Term) (r : Rule) (k : ℕ) → rootRedex (ruleOf phase t) ≡ Redex r k → Rules phase t r
+a-rule : (calls : List ℕ) (phase : Phase) (t : Term) (r : Rule) (k : ℕ) → rootRedex (ruleOf calls phase t) ≡ Redex r k → Rules calls phase t r
 unfolding ruleOf
-a-rule phase t r k e = go (contract allPure (rules phase) t) refl e
+a-rule calls phase t r k e = go (contract (mayDrop calls) (rules phase) t) refl e
   where
-    go : (o : Option Contraction) → contract allPure (rules phase) t ≡ o
-        → rootRedex (Option·map (λ (c : Contraction). c .rule) o) ≡ Redex r k → Rules phase t r
+    go : (o : Option Contraction) → contract (mayDrop calls) (rules phase) t ≡ o
+        → rootRedex (Option·map (λ (c : Contraction). c .rule) o) ≡ Redex r k → Rules calls phase t r
     go none f d = let z : _≡_ {A = ℕ} 0 1 = cc in absurd (omega arith)
     go (some c) f d = record { contraction = c; is = f; rule-is = cc }
 
 -- a node that a rule fits, where no redex stands before it, is the first redex
-redex-at : (phase : Phase) (t : Term) (i : ℕ) (p : Position Term) (r : Rule) → Clear allPure phase t i → getElem? (positions t) i ≡ some p
-    → Rules phase (p .subterm) r → firstRedex allPure phase t ≡ Redex r i
+redex-at : (calls : List ℕ) (phase : Phase) (t : Term) (i : ℕ) (p : Position Term) (r : Rule) → Clear (mayDrop calls) phase t i → getElem? (positions t) i ≡ some p
+    → Rules calls phase (p .subterm) r → firstRedex (mayDrop calls) phase t ≡ Redex r i
 unfolding firstRedex
-redex-at phase t i p r h e c = ap foundOf (first-at allPure phase t i p (c .contraction) h e (c .is))
+redex-at calls phase t i p r h e c = ap foundOf (first-at (mayDrop calls) phase t i p (c .contraction) h e (c .is))
     ∙ ap (λ (q : Rule). Redex q i) (c .rule-is)
 
 module _ (phase : Phase) (calls words : List ℕ) where
   -- no redex stands before word k
   pub record Scanned (k : ℕ) : Type 0 where
     pub within : k ≤ length words
-    pub clear : (t : Term) (i : ℕ) → Onward phase calls words t i → Clear allPure phase t (i + k)
+    pub clear : (t : Term) (i : ℕ) → Onward phase calls words t i → Clear (mayDrop calls) phase t (i + k)
 
   -- before the first word
   pub scan-enter : Scanned 0
   scan-enter = record {
     within = omega arith;
-    clear = λ t i o. clear-down allPure phase (i + 0) (omega arith) (o .clear);
+    clear = λ t i o. clear-down (mayDrop calls) phase (i + 0) (omega arith) (o .clear);
   }
 
   module _ (t : Term) (i : ℕ) (o : Onward phase calls words t i) where
@@ -92,8 +93,8 @@ module _ (phase : Phase) (calls words : List ℕ) where
         is = tail-part words k ∙ ap (λ (ws : List ℕ). drop k ws) (o .is) ∙ drop-drop k i (encode t) ∙ drop-site (site t (i + k) p e);
       }
 
-      fit-at : {f : Found} → Fits phase calls (from words k) f → f ≡ rootRedex (ruleOf phase (p .subterm))
-      fit-at a = a .told (p .subterm) _ subterm-at (scannable-site phase t (i + k) p e (o .ready))
+      fit-at : {f : Found} → Fits phase calls (from words k) f → f ≡ rootRedex (ruleOf calls phase (p .subterm))
+      fit-at a = a .told (p .subterm) _ subterm-at (scannable-site calls phase t (i + k) p e (o .ready))
 
   module _ (k : ℕ) (lt : k < length words) where
     -- a term starts at word k
@@ -108,8 +109,8 @@ module _ (phase : Phase) (calls words : List ℕ) where
       pub scan-next : f ≡ Nothing → Scanned (k + 1)
       scan-next e = record {
         within = omega arith;
-        clear = λ t i o. clear-down allPure phase (i + (k + 1)) (omega arith)
-            (clear-suc allPure phase (s .clear t i o) λ p d. no-rule phase (p .subterm) (sym (fit-at t i o k p d a) ∙ e));
+        clear = λ t i o. clear-down (mayDrop calls) phase (i + (k + 1)) (omega arith)
+            (clear-suc (mayDrop calls) phase (s .clear t i o) λ p d. no-rule calls phase (p .subterm) (sym (fit-at t i o k p d a) ∙ e));
       }
 
       -- a rule fits there
@@ -118,14 +119,14 @@ module _ (phase : Phase) (calls words : List ℕ) where
         told = λ t i o.
             let p = position-at t (i + k) (omega (arith, ends t i o)) in
             let q = p .position in
-            sym (redex-at phase t (i + k) q r (s .clear t i o) (p .is)
-            (a-rule phase (q .subterm) r x (sym (fit-at t i o k q (p .is) a) ∙ e)));
+            sym (redex-at calls phase t (i + k) q r (s .clear t i o) (p .is)
+            (a-rule calls phase (q .subterm) r x (sym (fit-at t i o k q (p .is) a) ∙ e)));
       }
 
   -- after the last word
   pub scan-end : (k : ℕ) → Scanned k → length words ≤ k → FindsFirst phase calls words Nothing
   unfolding firstRedex
   scan-end k s ge = record {
-    told = λ t i o. sym (ap foundOf (clear-all allPure phase t
-        (clear-down allPure phase (size t) (omega (arith, ends t i o)) (s .clear t i o))));
+    told = λ t i o. sym (ap foundOf (clear-all (mayDrop calls) phase t
+        (clear-down (mayDrop calls) phase (size t) (omega (arith, ends t i o)) (s .clear t i o))));
   }

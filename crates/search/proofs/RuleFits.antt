@@ -9,7 +9,8 @@ use lib.ListN.{getD}
 use Rattle.syntax.specs.Maybe.{given, isSome}
 use Rattle.syntax.specs.Words.{kindOf}
 use Rattle.syntax.specs.Term.{Term}
-use Rattle.reduction.specs.Rules.{letInsertion, allPure, fire, rules}
+use Rattle.reduction.specs.MayDrop.{mayDrop}
+use Rattle.reduction.specs.Rules.{letInsertion, fire, rules}
 use Rattle.reduction.specs.FitByKinds.{ruleByKinds}
 use Rattle.reduction.specs.declared.Phase.{Phase}
 use Rattle.reduction.specs.declared.Phase.the-variants.{Insertion, Reduction, Dropping}
@@ -22,9 +23,9 @@ use Rattle.search.specs.Operands.{Finds}
 use Rattle.search.specs.Fits.{rootRedex, ruleOf, Scannable, Fits}
 use Rattle.search.specs.declared.fits.Operand.{Operand}
 
-rule-insertion : (t : Term) → given (isSome (letInsertion t)) LetInsertion ≡ ruleOf Insertion t
+rule-insertion : (calls : List ℕ) (t : Term) → given (isSome (letInsertion t)) LetInsertion ≡ ruleOf calls Insertion t
 unfolding ruleOf contract rules fire
-rule-insertion t = go (letInsertion t)
+rule-insertion calls t = go (letInsertion t)
   where
     go : (o : Option Term) → given (isSome o) LetInsertion
         ≡ Option·map (λ (c : Contraction). c .rule)
@@ -37,8 +38,8 @@ module _ {phase : Phase} (calls words : List ℕ) {r : Found} where
       → Fits phase calls words r
   fits-insertion e f d = record {
     told = λ t rest h ready.
-        d ∙ ap (λ (b : Bool). rootRedex (given b LetInsertion)) (f .told t rest h .found-is) ∙ ap rootRedex (rule-insertion t)
-        ∙ ap (λ (p : Phase). rootRedex (ruleOf p t)) (sym e);
+        d ∙ ap (λ (b : Bool). rootRedex (given b LetInsertion)) (f .told t rest h .found-is) ∙ ap rootRedex (rule-insertion calls t)
+        ∙ ap (λ (p : Phase). rootRedex (ruleOf calls p t)) (sym e);
   }
 
   pub fits-reduction : {k₀ k₁ k₂ : ℕ} → phase ≡ Reduction → k₀ ≡ kindOf (getD words 0 0) → k₁ ≡ kindOf (getD words 1 0)
@@ -48,9 +49,9 @@ module _ {phase : Phase} (calls words : List ℕ) {r : Found} where
     told = λ t rest h ready.
         d ∙ (λ i. rootRedex (ruleByKinds (e₀ i) (e₁ i) (e₂ i)))
         ∙ ap (λ (ws : List ℕ). rootRedex (ruleByKinds (kindOf (getD ws 0 0)) (kindOf (getD ws 1 0)) (kindOf (getD ws 2 0)))) (h .is)
-        ∙ ap rootRedex (sym (fit-by-kinds calls allPure t rest (h .shaped) (inserted allPure t (subst (λ p. Scannable p t) e ready))))
-        ∙ ap (λ (p : Phase). rootRedex (ruleOf p t)) (sym e);
+        ∙ ap rootRedex (sym (fit-by-kinds calls (mayDrop calls) t rest (h .shaped) (inserted (mayDrop calls) t (subst (λ p. Scannable calls p t) e ready))))
+        ∙ ap (λ (p : Phase). rootRedex (ruleOf calls p t)) (sym e);
   }
 
   pub fits-dropping : phase ≡ Dropping → Fits phase calls words r
-  fits-dropping e = record { told = λ t rest h ready. absurd (subst (λ p. Scannable p t) e ready) }
+  fits-dropping e = record { told = λ t rest h ready. absurd (subst (λ p. Scannable calls p t) e ready) }

@@ -6,7 +6,7 @@ use lib.ListN.{length, drop}
 use Rattle.syntax.specs.Term.{Term}
 use Rattle.syntax.specs.Encoding.{encode}
 use Rattle.syntax.specs.Shaped.{Shaped}
-use Rattle.reduction.specs.Rules.{allPure}
+use Rattle.reduction.specs.MayDrop.{mayDrop}
 use Rattle.reduction.specs.Redex.{firstRedex}
 use Rattle.reduction.specs.Clear.{Clear}
 use Rattle.reduction.specs.declared.Phase.{Phase}
@@ -18,8 +18,8 @@ use Rattle.search.specs.PhasePremise.{PhasePremise}
 pub record SearchAt (phase : Phase) (calls rest : List ℕ) (from : ℕ) (t : Term) : Type 0 where
   pub shaped : Shaped calls t
   pub is : rest ≡ drop from (encode t)
-  pub clear : Clear allPure phase t from
-  pub premise : PhasePremise phase t from
+  pub clear : Clear (mayDrop calls) phase t from
+  pub premise : PhasePremise calls phase t from
 
 -- the words are those of some term from some index on, and there is a mark for each
 pub record Searchable (phase : Phase) (calls rest marks : List ℕ) : Type 0 where
@@ -32,4 +32,4 @@ pub record Searchable (phase : Phase) (calls rest marks : List ℕ) : Type 0 whe
 
 -- for whatever term the words go on with, from whatever index on
 pub record Finds (phase : Phase) (calls rest : List ℕ) (r : Found) : Type 0 where
-  pub told : (t : Term) (from : ℕ) → SearchAt phase calls rest from t → movedBy from r ≡ firstRedex allPure phase t
+  pub told : (t : Term) (from : ℕ) → SearchAt phase calls rest from t → movedBy from r ≡ firstRedex (mayDrop calls) phase t

@@ -7,7 +7,8 @@ use mathlib.Core.Option.{Option, some, none, Option·map}
 use lib.Dec.{eqb}
 use Rattle.syntax.specs.Maybe.{given}
 use Rattle.syntax.specs.Term.{Term}
-use Rattle.reduction.specs.Rules.{allPure, rules}
+use Rattle.reduction.specs.MayDrop.{mayDrop}
+use Rattle.reduction.specs.Rules.{rules}
 use Rattle.reduction.specs.declared.Phase.{Phase}
 use Rattle.reduction.specs.declared.Phase.the-variants.{Insertion, Reduction, Dropping}
 use Rattle.reduction.specs.declared.Rule.{Rule}
@@ -26,16 +27,16 @@ rootRedex (some r) = Redex r 0
 unfoldable pub caseByKind : ℕ → Option Rule
 caseByKind k = cond (eqb k 8) (some LeftCase) (given (eqb k 9) RightCase)
 
--- the rule of a phase that fits a node
-unfoldable pub ruleOf : Phase → Term → Option Rule
-ruleOf phase t = Option·map (λ c. c .rule) (contract allPure (rules phase) t)
+-- the rule of a phase that fits a node, over a call table
+unfoldable pub ruleOf : List ℕ → Phase → Term → Option Rule
+ruleOf calls phase t = Option·map (λ c. c .rule) (contract (mayDrop calls) (rules phase) t)
 
 -- what a scan for the redexes of a phase takes as known of a term: in phase 2, that phase 1 is over. Phase 3 is not searched by a scan.
-abbrev pub Scannable : Phase → Term → Type 0
-Scannable Insertion t = Unit
-Scannable Reduction t = step allPure Insertion t ≡ none
-Scannable Dropping t = ⊥
+abbrev pub Scannable : List ℕ → Phase → Term → Type 0
+Scannable calls Insertion t = Unit
+Scannable calls Reduction t = step (mayDrop calls) Insertion t ≡ none
+Scannable calls Dropping t = ⊥
 
 -- for whatever term is at the front
 pub record Fits (phase : Phase) (calls words : List ℕ) (r : Found) : Type 0 where
-  pub told : (t : Term) (rest : List ℕ) → Holds calls words t rest → Scannable phase t → r ≡ rootRedex (ruleOf phase t)
+  pub told : (t : Term) (rest : List ℕ) → Holds calls words t rest → Scannable calls phase t → r ≡ rootRedex (ruleOf calls phase t)

@@ -6,7 +6,7 @@ use lib.ListN.{drop}
 use Rattle.syntax.specs.Term.{Term}
 use Rattle.syntax.specs.Encoding.{encode}
 use Rattle.syntax.specs.Shaped.{Shaped}
-use Rattle.reduction.specs.Rules.{allPure}
+use Rattle.reduction.specs.MayDrop.{mayDrop}
 use Rattle.reduction.specs.Clear.{Clear}
 use Rattle.reduction.specs.declared.Phase.{Phase}
 use Rattle.reduction.specs.declared.Found.{Found}
@@ -18,8 +18,8 @@ use Rattle.search.specs.Fits.{Scannable}
 pub record Onward (phase : Phase) (calls words : List ℕ) (t : Term) (i : ℕ) : Type 0 where
   pub shaped : Shaped calls t
   pub is : words ≡ drop i (encode t)
-  pub clear : Clear allPure phase t i
-  pub ready : Scannable phase t
+  pub clear : Clear (mayDrop calls) phase t i
+  pub ready : Scannable calls phase t
 
 -- the words are those of some term from some index on
 pub record Continues (phase : Phase) (calls words : List ℕ) : Type 0 where
@@ -34,4 +34,4 @@ movedBy i (Redex r k) = Redex r (i + k)
 
 -- for whatever term the words go on with, from whatever index on: its first redex
 pub record FindsFirst (phase : Phase) (calls words : List ℕ) (r : Found) : Type 0 where
-  pub told : (t : Term) (i : ℕ) → Onward phase calls words t i → movedBy i r ≡ firstRedex allPure phase t
+  pub told : (t : Term) (i : ℕ) → Onward phase calls words t i → movedBy i r ≡ firstRedex (mayDrop calls) phase t

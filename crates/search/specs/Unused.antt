@@ -15,7 +15,7 @@ use Rattle.words.specs.Fronts.{Holds, from}
 use Rattle.words.specs.Reach.{inner}
 use Rattle.reduction.specs.declared.Phase.the-variants.{Dropping}
 use Rattle.reduction.specs.declared.Found.{Found}
-use Rattle.reduction.specs.Rules.{allPure}
+use Rattle.reduction.specs.MayDrop.{mayDrop}
 use Rattle.reduction.specs.Redex.{firstRedex}
 use Rattle.search.specs.Marks.{Marked, Space}
 use Rattle.search.specs.declared.unused.Scan.{Scan}
@@ -78,4 +78,4 @@ pub record Scans (calls words : List ℕ) (base depth : ℕ) (old new : List ℕ
 
 -- the first redex of phase 3 in whatever term the words are
 pub record FindsUnused (calls words : List ℕ) (r : Found) : Type 0 where
-  pub told : (t : Term) → Shaped calls t → words ≡ encode t → r ≡ firstRedex allPure Dropping t
+  pub told : (t : Term) → Shaped calls t → words ≡ encode t → r ≡ firstRedex (mayDrop calls) Dropping t

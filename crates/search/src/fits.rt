@@ -10,11 +10,11 @@ ghost use Rattle.search.specs.Operands.{operandCount, Finds};
 ghost use Rattle.search.specs.Fits.{rootRedex, caseByKind, Fits};
 use crate::value::value_kind;
 use crate::value::value_test;
-use words::fields::kind;
-use words::shape::owed_count;
 use reduction::Found;
 use reduction::Phase;
 use reduction::Rule;
+use words::fields::kind;
+use words::shape::owed_count;
 
 // how many of a node's n parts are operands: the first ones
 fn operand_count(k: u64, n: usize) -> usize

@@ -7,12 +7,12 @@ ghost use Rattle.search.specs.Unused.{hasLet, Open, Opens, Least, LeastM
 use crate::marks::mark;
 use crate::value::value_kind;
 use crate::value::value_test;
+use reduction::Found;
+use reduction::Rule;
 use words::fields::kind;
 use words::fields::number;
 use words::shape::outer_count;
 use words::shape::owed_count;
-use reduction::Found;
-use reduction::Rule;
 
 // past every place: the mark of a binder that cannot be dropped, and what each use adds to a mark
 const NO_PLACE: u64 = 65536;

@@ -2,6 +2,7 @@
 use Prim.Native.Nat.{ℕ, _+_, _-_, _≤_, _<_}
 use native.Mathlib.Omega.{arith}
 use mathlib.Core.Path.{_≡_, refl, sym, _∙_, ap, subst}
+use mathlib.Core.Bool.{Bool}
 use mathlib.Core.List.{List, [], _∷_}
 use mathlib.Core.Option.{Option, some, none, Option·some-injective, Option·none-ne-some}
 use lib.ListN.{length, getElem?}
@@ -10,7 +11,8 @@ use Rattle.syntax.specs.Encoding.{size}
 use Rattle.syntax.specs.Positions.{positions}
 use Rattle.syntax.proofs.Nodes.{tail-part}
 use Rattle.syntax.proofs.Sites.{site, size-plugged, index-below}
-use Rattle.reduction.specs.Rules.{allPure, fire, rules}
+use Rattle.reduction.specs.MayDrop.{mayDrop}
+use Rattle.reduction.specs.Rules.{fire, rules}
 use Rattle.reduction.specs.Redex.{Contraction, contract, Step, step}
 use Rattle.reduction.specs.declared.Rule.{Rule}
 use Rattle.reduction.specs.declared.Phase.{Phase}
@@ -34,30 +36,30 @@ use Rattle.step.specs.declared.turn.Turn.the-variants.{Stop, Refused, St
 use Rattle.step.proofs.GapMoved.{gapped-size, gapped-behind, gapped-seekable, gapped-sought}
 
 -- what a phase makes of a node is what the rule it names makes of it
-contract-fires : (rs : List Rule) (t : Term) (c : Contraction) → contract allPure rs t ≡ some c
-    → fire allPure (c .rule) t ≡ some (c .contractum)
+contract-fires : (pure : Term → Bool) (rs : List Rule) (t : Term) (c : Contraction) → contract pure rs t ≡ some c
+    → fire pure (c .rule) t ≡ some (c .contractum)
 unfolding contract
-contract-fires [] t c e = absurd (Option·none-ne-some c e)
-contract-fires (r ∷ rs) t c e = go (fire allPure r t) refl e (contract-fires rs t c)
+contract-fires pure [] t c e = absurd (Option·none-ne-some c e)
+contract-fires pure (r ∷ rs) t c e = go (fire pure r t) refl e (contract-fires pure rs t c)
   where
-    go : (o : Option Term) → fire allPure r t ≡ o
-        → (elim o as (λ _. Option Contraction) [ some u ↦ some (record { rule = r; contractum = u }) | none ↦ contract allPure rs t ]) ≡
+    go : (o : Option Term) → fire pure r t ≡ o
+        → (elim o as (λ _. Option Contraction) [ some u ↦ some (record { rule = r; contractum = u }) | none ↦ contract pure rs t ]) ≡
         some c
-        → (contract allPure rs t ≡ some c → fire allPure (c .rule) t ≡ some (c .contractum))
-        → fire allPure (c .rule) t ≡ some (c .contractum)
+        → (contract pure rs t ≡ some c → fire pure (c .rule) t ≡ some (c .contractum))
+        → fire pure (c .rule) t ≡ some (c .contractum)
     go none d h k = k h
     go (some u) d h k =
         let q = Option·some-injective (record { rule = r; contractum = u }) c h in
-        subst (λ (x : Contraction). fire allPure (x .rule) t ≡ some (x .contractum)) q d
+        subst (λ (x : Contraction). fire pure (x .rule) t ≡ some (x .contractum)) q d
 
 -- where the search goes on is within the next term
-inside-next : (phase : Phase) (t : Term) (s : Step) → step allPure phase t ≡ some s → nextFrom phase (s .place) ≤ size (s .next)
+inside-next : (pure : Term → Bool) (phase : Phase) (t : Term) (s : Step) → step pure phase t ≡ some s → nextFrom phase (s .place) ≤ size (s .next)
 unfolding nextFrom
-inside-next phase t s e = below phase (place-inside t s e)
+inside-next pure phase t s e = below phase (place-inside t s e)
   where
-    place-inside : (t : Term) (s : Step) → step allPure phase t ≡ some s → s .place ≤ size (s .next)
+    place-inside : (t : Term) (s : Step) → step pure phase t ≡ some s → s .place ≤ size (s .next)
     place-inside t s e =
-        let f = step-at allPure phase t s e in
+        let f = step-at pure phase t s e in
         omega (arith, ap size (f .next), size-plugged (site t (s .place) (f .position) (f .at)) (f .contraction .contractum))
 
     below : (phase : Phase) → s .place ≤ size (s .next) → nextFrom phase (s .place) ≤ size (s .next)
@@ -89,13 +91,13 @@ module _ {phase : Phase} {calls before : List ℕ} {start end : ℕ} where
     -- nothing is found
     pub turned-stops : {left : ℕ} → r ≡ Nothing → Turns phase calls before start end left before Stop
     turned-stops e = record {
-      told = λ t a. stops (nothing-none allPure phase t (sym (ap (movedBy start) (sym e) ∙ f .told t start (search-at a)))) (a .current);
+      told = λ t a. stops (nothing-none (mayDrop calls) phase t (sym (ap (movedBy start) (sym e) ∙ f .told t start (search-at a)))) (a .current);
     }
 
     -- a redex is found
     module _ {rule : Rule} {ahead : ℕ} (e : r ≡ Redex rule ahead) where
-      step-of : (t : Term) → At phase calls before start end t → StepAt allPure phase t rule (start + ahead)
-      step-of t a = redex-step allPure phase t rule (start + ahead) (sym (ap (movedBy start) (sym e) ∙ f .told t start (search-at a)))
+      step-of : (t : Term) → At phase calls before start end t → StepAt (mayDrop calls) phase t rule (start + ahead)
+      step-of t a = redex-step (mayDrop calls) phase t rule (start + ahead) (sym (ap (movedBy start) (sym e) ∙ f .told t start (search-at a)))
 
       -- the budget is used up
       pub turned-spent : {left : ℕ} {after : List ℕ} → left ≡ 0 → Turns phase calls before start end left after (Refused 10)
@@ -106,7 +108,7 @@ module _ {phase : Phase} {calls before : List ℕ} {start end : ℕ} where
         pub place-below : start + ahead < size (d .term)
         place-below =
             let s = step-of (d .term) (d .at) in
-            let x = step-at allPure phase (d .term) (s .taken) (s .is) in
+            let x = step-at (mayDrop calls) phase (d .term) (s .taken) (s .is) in
             omega (arith, index-below (d .term) (s .taken .place) (x .position) (x .at), s .at)
 
         pub place-small : start + ahead ≤ 8192
@@ -119,16 +121,16 @@ module _ {phase : Phase} {calls before : List ℕ} {start end : ℕ} where
       module _ {sought : List ℕ} {behind : ℕ} (k : Seeks before start end (start + ahead) sought behind)
           (l : length sought ≡ length before) where
         redex-of : (t : Term) (a : At phase calls before start end t)
-            → let x = step-at allPure phase t (step-of t a .taken) (step-of t a .is) in
+            → let x = step-at (mayDrop calls) phase t (step-of t a .taken) (step-of t a .is) in
             RedexAt rule calls sought (start + ahead) behind t (x .position) (x .contraction .contractum)
         redex-of t a =
             let s = step-of t a in
-            let x = step-at allPure phase t (s .taken) (s .is) in
+            let x = step-at (mayDrop calls) phase t (s .taken) (s .is) in
             record {
               current = record { shaped = a .current .shaped; gapped = gapped-sought (a .current .gapped) k };
               at = subst (λ (i : ℕ). getElem? (positions t) i ≡ some (x .position)) (s .at) (x .at);
-              fires = subst (λ (r : Rule). fire allPure r (x .position .subterm) ≡ some (x .contraction .contractum)) (sym (x .rule) ∙ s .by)
-                  (contract-fires (rules phase) (x .position .subterm) (x .contraction) (x .fits));
+              fires = subst (λ (r : Rule). fire (mayDrop calls) r (x .position .subterm) ≡ some (x .contraction .contractum)) (sym (x .rule) ∙ s .by)
+                  (contract-fires (mayDrop calls) (rules phase) (x .position .subterm) (x .contraction) (x .fits));
             }
 
         pub turn-rewritable : {second : List ℕ} → Ready phase calls before start end second → (second′ : List ℕ)
@@ -147,7 +149,7 @@ module _ {phase : Phase} {calls before : List ℕ} {start end : ℕ} where
             → (a : At phase calls before start end t) → RewrittenTo (length sought) after (start + ahead) (step-of t a .taken .next) w
         rewritten-at {after} w x t a =
             let s = step-of t a in
-            let y = step-at allPure phase t (s .taken) (s .is) in
+            let y = step-at (mayDrop calls) phase t (s .taken) (s .is) in
             subst (λ (u : Term). RewrittenTo (length sought) after (start + ahead) u w) (sym (y .next)) (x .told t _ _ (redex-of t a))
 
         pub turned-full : {left : ℕ} {after : List ℕ} → 0 < left → Rewrites rule calls sought (start + ahead) behind after Full
@@ -173,7 +175,7 @@ module _ {phase : Phase} {calls before : List ℕ} {start end : ℕ} where
               → Seekable rewritten (start + ahead) n to
           next-seekable d to e =
               let s = step-of (d .term) (d .at) in
-              let i = inside-next phase (d .term) (s .taken) (s .is) in
+              let i = inside-next (mayDrop calls) phase (d .term) (s .taken) (s .is) in
               gapped-seekable (next-there (d .term) (d .at)) to (omega (arith, e, i, ap (nextFrom phase) (s .at)))
 
           pub turned-goes : {left to rest : ℕ} {after : List ℕ} → 0 < left → to ≡ nextFrom phase (start + ahead)

@@ -7,7 +7,8 @@ use lib.ListN.{length, getElem?}
 use Rattle.syntax.specs.Term.{Term}
 use Rattle.syntax.specs.Encoding.{size}
 use Rattle.syntax.specs.Positions.{Position, positions}
-use Rattle.reduction.specs.Rules.{allPure, fire}
+use Rattle.reduction.specs.MayDrop.{mayDrop}
+use Rattle.reduction.specs.Rules.{fire}
 use Rattle.reduction.specs.declared.Rule.{Rule}
 use Rattle.step.specs.Currents.{Gapped, Current}
 use Rattle.step.specs.declared.rewrite.Rewritten.{Rewritten}
@@ -17,7 +18,7 @@ use Rattle.step.specs.declared.rewrite.Rewritten.the-variants.{Full, Nex
 pub record RedexAt (rule : Rule) (calls words : List ℕ) (start end : ℕ) (t : Term) (p : Position Term) (y : Term) : Type 0 where
   pub current : Current calls words start end t
   pub at : getElem? (positions t) start ≡ some p
-  pub fires : fire allPure rule (p .subterm) ≡ some y
+  pub fires : fire (mayDrop calls) rule (p .subterm) ≡ some y
 
 -- there is such a redex, and the second buffer is as long as the first
 pub record Rewritable (rule : Rule) (calls words : List ℕ) (start end : ℕ) (second : List ℕ) : Type 0 where

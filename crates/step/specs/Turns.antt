@@ -6,7 +6,7 @@ use mathlib.Core.Option.{some, none}
 use lib.ListN.{length}
 use Rattle.syntax.specs.Term.{Term}
 use Rattle.syntax.specs.Encoding.{size}
-use Rattle.reduction.specs.Rules.{allPure}
+use Rattle.reduction.specs.MayDrop.{mayDrop}
 use Rattle.reduction.specs.Redex.{Step, step}
 use Rattle.reduction.specs.Clear.{Clear}
 use Rattle.reduction.specs.declared.Phase.{Phase}
@@ -19,8 +19,8 @@ use Rattle.step.specs.declared.turn.Turn.the-variants.{Stop, Refused, St
 -- the term t is current, and no redex of the phase stands before the gap
 pub record At (phase : Phase) (calls words : List ℕ) (start end : ℕ) (t : Term) : Type 0 where
   pub current : Current calls words start end t
-  pub clear : Clear allPure phase t start
-  pub premise : PhasePremise phase t start
+  pub clear : Clear (mayDrop calls) phase t start
+  pub premise : PhasePremise calls phase t start
 
 -- some term is, and the second buffer is as long as the first
 pub record Ready (phase : Phase) (calls words : List ℕ) (start end : ℕ) (second : List ℕ) : Type 0 where
@@ -32,11 +32,11 @@ pub record Ready (phase : Phase) (calls words : List ℕ) (start end : ℕ) (sec
 -- the outcome of a turn at the term t: no rule fits, the budget is used up, the next term is too long, or the step is taken and the
 -- gap is where the search goes on
 pub data Turned (phase : Phase) (calls after : List ℕ) (start end left capacity : ℕ) (t : Term) : Turn → Type 0 where
-  stops : step allPure phase t ≡ none → Current calls after start end t → Turned phase calls after start end left capacity t Stop
-  spent : (s : Step) → step allPure phase t ≡ some s → left ≡ 0 → Turned phase calls after start end left capacity t (Refused 10)
-  full : (s : Step) → step allPure phase t ≡ some s → 0 < left → capacity < size (s .next)
+  stops : step (mayDrop calls) phase t ≡ none → Current calls after start end t → Turned phase calls after start end left capacity t Stop
+  spent : (s : Step) → step (mayDrop calls) phase t ≡ some s → left ≡ 0 → Turned phase calls after start end left capacity t (Refused 10)
+  full : (s : Step) → step (mayDrop calls) phase t ≡ some s → 0 < left → capacity < size (s .next)
       → Turned phase calls after start end left capacity t (Refused 11)
-  goes : (s : Step) (n : ℕ) → step allPure phase t ≡ some s → 0 < left → Gapped after (nextFrom phase (s .place)) n (s .next)
+  goes : (s : Step) (n : ℕ) → step (mayDrop calls) phase t ≡ some s → 0 < left → Gapped after (nextFrom phase (s .place)) n (s .next)
       → Turned phase calls after start end left capacity t (Stepped (s .rule) (nextFrom phase (s .place)) n)
 
 -- for whatever term is current; the capacity is the buffer's length

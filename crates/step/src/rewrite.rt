@@ -2,10 +2,10 @@
 ghost use Prim.Native.Nat.{_≤_};
 ghost use lib.ListN.{length as lengthOf};
 ghost use Rattle.step.specs.Rewrites.{Rewritable, Rewrites};
-use words::moves::copy;
-use reduction::Rule;
 use contraction::plan::measure;
 use contraction::write::write;
+use reduction::Rule;
+use words::moves::copy;
 
 // the next term is longer than the capacity; or where the gap ends then
 pub enum Rewritten {

@@ -5,7 +5,7 @@ use Prim.Native.Nat.{_+_, _-_, _*_}
 use native.Mathlib.Omega.{arith}
 use mathlib.Core.Path.{sym, _∙_}
 use lib.ListN.{length, length-set}
-use Rattle.reduction.specs.Rules.{allPure}
+use Rattle.reduction.specs.MayDrop.{mayDrop}
 use Rattle.reduction.specs.Grammar.{inGrammar}
 use Rattle.words.proofs.Traversal.{not-empty, from-length, part-starts}
 use Rattle.normal_form.specs.NormalTest.{isNormalValue}
@@ -44,14 +44,14 @@ abbrev μ-value-test : Measures 3 value-test-kinds.ps ℕ
 
 abbrev normal-test-Inv-loop : normal-test-lts.InvT-loop
 normal-test-Inv-loop calls t used₀ depth w k n at₀ j₀ used at j =
-    Testing (inGrammar allPure) (partPasses k) calls t used₀ depth k used n at j
+    Testing (inGrammar (mayDrop calls)) (partPasses calls k) calls t used₀ depth k used n at j
 
 abbrev normal-test-μ-loop : normal-test-lts.MeasureT-loop
 normal-test-μ-loop calls t used₀ depth w k n at₀ j₀ used at j = n - j
 
 abbrev value-test-Inv-loop : value-test-lts.InvT-loop
 value-test-Inv-loop calls t used₀ depth w k n at₀ j₀ used at j =
-    Testing isNormalValue (λ j. isNormalValue) calls t used₀ depth k used n at j
+    Testing (isNormalValue calls) (λ j. isNormalValue calls) calls t used₀ depth k used n at j
 
 abbrev value-test-μ-loop : value-test-lts.MeasureT-loop
 value-test-μ-loop calls t used₀ depth w k n at₀ j₀ used at j = n - j
