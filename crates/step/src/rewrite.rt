@@ -2,10 +2,10 @@
 ghost use Prim.Native.Nat.{_≤_};
 ghost use lib.ListN.{length as lengthOf};
 ghost use Rattle.step.specs.Rewrites.{Rewritable, Rewrites};
-use words::moves::copy;
-use reduction::Rule;
 use contraction::plan::measure;
 use contraction::write::write;
+use reduction::Rule;
+use words::moves::copy;
 
 // the next term is longer than the capacity; or where the gap ends then
 pub enum Rewritten {
@@ -36,6 +36,6 @@ pub fn rewrite(
     }
     write(plan, calls, &current[end..], second, wrote, pending);
     let next = behind - wrote;
-    copy(second, wrote, current, next);
+    copy(second, 0, wrote, current, next);
     Rewritten::Next(next)
 }
