@@ -8,7 +8,7 @@ use mathlib.Core.Bool.{Bool, true, false, _&&_, cond}
 use mathlib.Core.List.{List, [], _∷_, _++_, append-nil}
 use lib.Dec.{ltb}
 use lib.ListN.{length, getD, set, take, drop, take-append-drop, List·getD-append}
-use lib.Seq.{sets, take-all, length-take-le}
+use lib.Seq.{sets, paste, take-all, length-take-le}
 use borrow.Rule.Slice.PartMut.{midOf, postOf, putMid, same-len-mid}
 use borrow.Author.Tests.{ltb-true, ltb-false, eq-eqb, ne-eqb}
 use Rattle.syntax.specs.Words.{kindOf, numberOf, pack}
@@ -26,6 +26,7 @@ use Rattle.words.specs.Reach.{outer, inner}
 use Rattle.words.specs.Depths.{Opens}
 use Rattle.words.specs.Fronts.{Holds, Whole}
 use Rattle.binding.specs.Writes.{Room, Renames, RoomFor, Substitutes, loweredWord, Raises}
+use Rattle.words.proofs.PastedWords.{pasted-sets}
 use Rattle.words.proofs.Rows.{march-within}
 use Rattle.syntax.proofs.ByKind.{by-kind}
 use Rattle.binding.proofs.TermWritten.{put, putAll, put-node, Trace, trace-begin, trace-end, put-room, trace-node, trace-leaf}
@@ -47,10 +48,11 @@ whole-room len w le = record {
 
 -- the value is copied, or raised
 module _ {calls value old new : List ℕ} {at by : ℕ} where
-  pub raises-copied : by ≡ 0 → new ≡ sets old at (take (length value) (drop 0 value)) → Raises calls value old new at by (length value)
+  pub raises-copied : by ≡ 0 → length new ≡ length old → new ≡ paste old at (drop 0 value) (length value)
+      → Raises calls value old new at by (length value)
   unfolding underBy
-  raises-copied z e = record {
-    told = λ v. e ∙ ap (sets old at) (take-all (length value) value (omega arith) ∙ v .is ∙ ap encode (sym (same v)));
+  raises-copied z kept e = record {
+    told = λ v. pasted-sets value old new 0 (length value) at kept e ∙ ap (sets old at) (take-all (length value) value (omega arith) ∙ v .is ∙ ap encode (sym (same v)));
     size-is = refl;
   }
     where

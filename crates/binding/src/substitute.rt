@@ -5,10 +5,10 @@ ghost use lib.ListN.{length};
 ghost use Rattle.words.specs.Fronts.{Whole};
 ghost use Rattle.binding.specs.Writes.{RoomFor, Substitutes, loweredWord, Raises};
 use crate::rename::rename_into;
-use words::copy::copy_into;
 use words::depths::open_parts;
 use words::fields::kind;
 use words::fields::number;
+use words::moves::copy;
 
 // words read of a part, and words written
 pub struct Moved {
@@ -43,7 +43,7 @@ fn put_value(
 {
     if by == 0 {
         let size = value.len();
-        copy_into(value, 0, size, dst, at);
+        copy(value, 0, size, dst, at);
         return size;
     }
     rename_into(calls, value, dst, at, 0, by, pending)

@@ -235,7 +235,7 @@ fn begin(calls: &[u64], inputs: &[u64], stack: &[u64], depth: usize, part: &[u64
         ⌝ }
 {
     let w = part[0];
-    let n = words::shape::owed_count(calls, w);
+    let n = words::shape::part_count(calls, w);
     if n == 0 {
         let r = leaf(calls, inputs, stack, depth, w);
         match r {
@@ -304,7 +304,7 @@ pub fn infer(
             let base = last - j;
             let outside = depth - words::shape::binders(words::fields::kind(w), j);
             nodes[last] = a;
-            if j + 1 < words::shape::owed_count(calls, w) {
+            if j + 1 < words::shape::part_count(calls, w) {
                 let first = nodes[base];
                 nodes[top] = head + 1;
                 top += 1;

@@ -4,12 +4,13 @@ use native.Mathlib.Omega.{arith}
 use mathlib.Core.Path.{_≡_, refl, sym, _∙_, ap, subst}
 use mathlib.Core.List.{List, _++_}
 use lib.ListN.{length, getD, set, take, drop}
-use lib.Seq.{sets}
+use lib.Seq.{sets, paste}
 use Rattle.syntax.specs.Term.{Term, var, bind, case, node}
 use Rattle.syntax.specs.Encoding.{wordOf, encode, size}
 use Rattle.syntax.specs.Substitution.{weakenBody}
 use Rattle.syntax.specs.Under.{underBy}
 use Rattle.syntax.proofs.Sizes.{size-positive, size-bind, size-case, size-var}
+use Rattle.words.proofs.PastedWords.{pasted-sets}
 use Rattle.words.specs.Fronts.{Holds, Whole, from}
 use Rattle.binding.specs.Writes.{RoomFor, Substitutes}
 use Rattle.binding.specs.declared.substitute.Moved.{Moved}
@@ -93,8 +94,8 @@ module _ (calls words : List ℕ) where
       d ∙ ap (sets old 0) (held-words words start h n (e ∙ same-size g h))
 
   pub copy-writes : (start n len : ℕ) (old new : List ℕ) (p : Planned calls words (Copy start) len) → n ≡ size (p .term)
-      → new ≡ sets old 0 (take n (drop start words)) → Writes calls words (Copy start) old new
-  copy-writes start n len old new p e d = record { told = λ y l. copied old (p .laid) l e d }
+      → length new ≡ length old → new ≡ paste old 0 (drop start words) n → Writes calls words (Copy start) old new
+  copy-writes start n len old new p e kept d = record { told = λ y l. copied old (p .laid) l e (pasted-sets words old new start n 0 kept d) }
 
   -- let of let
   pub record MovingLet (second third len : ℕ) : Type 0 where
@@ -134,10 +135,12 @@ module _ (calls words : List ℕ) where
       (de ∙ ap (sets (set old 0 4611686018427387904) 1) (held-words words 2 hp (second - 2) pe)) pe in
       write-last (encode z) (second - 1) n bound (omega (arith, se)) (w .new-is) (w .wrote-is) .0
 
-  pub let-writes : (second third n : ℕ) (old d new : List ℕ)
-      → d ≡ sets (set old 0 4611686018427387904) 1 (take (second - 2) (drop 2 words))
+  pub let-writes : (second third n : ℕ) (old d new : List ℕ) → length d ≡ length (set old 0 4611686018427387904)
+      → d ≡ paste (set old 0 4611686018427387904) 1 (drop 2 words) (second - 2)
       → WritesLet calls words second third third d new (second - 1) n → Writes calls words (MoveLet second third) old new
-  let-writes second third n old d new de f = record { told = λ y l. let-moved old l de f }
+  let-writes second third n old d new kept de f =
+      let se = pasted-sets words (set old 0 4611686018427387904) d 2 (second - 2) 1 kept de in
+      record { told = λ y l. let-moved old l se f }
 
   -- let of case
   pub record MovingCase (right third len : ℕ) : Type 0 where
@@ -216,7 +219,9 @@ module _ (calls words : List ℕ) where
       (de ∙ ap (sets (set old 0 4611686018427387904) 1) (held-words words start hp n ne)) ne in
       write-last (encode z) (1 + n) (size z) bound (omega arith) (f .told x z m hx i) refl .0
 
-  pub insert-writes : (index start n : ℕ) (old d new : List ℕ)
-      → d ≡ sets (set old 0 4611686018427387904) 1 (take n (drop start words)) → InsertsNode calls words index d new (1 + n)
+  pub insert-writes : (index start n : ℕ) (old d new : List ℕ) → length d ≡ length (set old 0 4611686018427387904)
+      → d ≡ paste (set old 0 4611686018427387904) 1 (drop start words) n → InsertsNode calls words index d new (1 + n)
       → Writes calls words (Insert index start n) old new
-  insert-writes index start n old d new de f = record { told = λ y l. let-inserted old l de f }
+  insert-writes index start n old d new kept de f =
+      let se = pasted-sets words (set old 0 4611686018427387904) d start n 1 kept de in
+      record { told = λ y l. let-inserted old l se f }

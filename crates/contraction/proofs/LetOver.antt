@@ -4,13 +4,14 @@ use native.Mathlib.Omega.{arith}
 use mathlib.Core.Path.{_≡_, refl, sym, _∙_, ap}
 use mathlib.Core.List.{List, _++_}
 use lib.ListN.{length, set, take, drop}
-use lib.Seq.{sets}
+use lib.Seq.{sets, paste}
 use Rattle.syntax.specs.Term.{Term, bind, node}
 use Rattle.syntax.specs.Encoding.{wordOf, encode, size}
 use Rattle.syntax.specs.Substitution.{under, renaming, rename, weakenBody}
 use Rattle.syntax.specs.Under.{raiseAt}
 use Rattle.syntax.proofs.Under.{weakenBody-raiseAt}
 use Rattle.syntax.proofs.Sizes.{size-positive, size-bind, size-rename}
+use Rattle.words.proofs.PastedWords.{pasted-sets}
 use Rattle.words.specs.Fronts.{Holds, Starts, from}
 use Rattle.binding.specs.Writes.{Room, Renames}
 use Rattle.words.proofs.PartsAt.{held-inside, held-words}
@@ -56,12 +57,12 @@ module _ (calls words : List ℕ) where
     let-fits old new p n f =
         omega (arith, let-size, r .room, size-let (r .bound) (r .under), f .told (r .under) _ (r .parts .under) .read-is)
 
-  pub let-written : (start end body at n : ℕ) (old d new : List ℕ)
-      → d ≡ sets (set old at 4611686018427387904) (at + 1) (take (end - start) (drop start words))
+  pub let-written : (start end body at n : ℕ) (old d new : List ℕ) → length d ≡ length (set old at 4611686018427387904)
+      → d ≡ paste (set old at 4611686018427387904) (at + 1) (drop start words) (end - start)
       → Renames calls (from words body) d new (at + 1 + (end - start)) 1 1 n
       → WritesLet calls words start end body old new at (1 + (end - start) + n)
   unfolding encode node size
-  let-written start end body at n old d new de f = record {
+  let-written start end body at n old d new kept de f = record {
     told = λ e c p.
         let y = bind e (weakenBody c) in
         let z : end - start ≡ size e = omega (arith, p .end-is) in
@@ -69,7 +70,7 @@ module _ (calls words : List ℕ) where
         let we : encode (rename c (raiseAt 1 1)) ≡ encode (weakenBody c) = ap encode (sym (weakenBody-raiseAt c)) in
         let first = write-word old at 4611686018427387904 (wordOf y) (encode y) (encode e ++ encode (weakenBody c)) refl refl in
         let second = write-next (encode e) (encode (weakenBody c)) (at + 1) (end - start) first refl
-        (de ∙ ap (sets (set old at 4611686018427387904) (at + 1)) (held-words words start (p .bound) (end - start) z)) z in
+        (pasted-sets words _ d start (end - start) (at + 1) kept de ∙ ap (sets (set old at 4611686018427387904) (at + 1)) (held-words words start (p .bound) (end - start) z)) z in
         let all = write-last (encode (weakenBody c)) (at + 1 + (end - start)) n second (omega arith)
         (w .new-is ∙ ap (sets d (at + 1 + (end - start))) we) (w .read-is ∙ sym (size-rename c (under renaming suc))) in
         record { new-is = all .0; wrote-is = all .1 };

@@ -14,7 +14,7 @@ use reduction::Rule;
 use search::fits::first_computation;
 use words::ends::part_size;
 use words::ends::parts_size;
-use words::shape::owed_count;
+use words::shape::part_count;
 
 // Substitute(body, value, size): where they start, and how many words the value has. Copy(start): one part stays. MoveLet(second, third):
 // where the inner and the outer body start; the inner bound part starts at 2. MoveCase(right, third): where the right branch and the outer
@@ -235,7 +235,7 @@ fn let_insertion(calls: &[u64], t: &[u64]) -> Measured
     let start = operand.start;
     let size = size_from(calls, t, start);
     let behind = start + size;
-    let n = owed_count(calls, t[0]);
+    let n = part_count(calls, t[0]);
     let end = behind + parts_size(calls, &t[behind..], n - 1 - operand.index);
     Measured {
         plan: Plan::Insert(operand.index, start, size),

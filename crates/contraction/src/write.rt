@@ -7,7 +7,7 @@ use crate::insert::insert_node;
 use crate::plan::Plan;
 use binding::rename::rename_into;
 use binding::substitute::substitute_into;
-use words::copy::copy_into;
+use words::moves::copy;
 
 // a let that binds the part from `start` to `end`, over the body of another let that moves under it; answers its size
 fn let_over(
@@ -25,7 +25,7 @@ fn let_over(
 {
     let size = end - start;
     dst[at] = 4611686018427387904;
-    copy_into(t, start, size, dst, at + 1);
+    copy(t, start, size, dst, at + 1);
     let moved = rename_into(calls, &t[body..], dst, at + 1 + size, 1, 1, pending);
     1 + size + moved
 }
@@ -60,7 +60,7 @@ fn move_let(
     ensures { λ r. ⌜ Writes (now (calls .entry)) (now (t .entry)) (MoveLet second third) (now (dst .entry)) (now (dst .exit)) ⌝ }
 {
     dst[0] = 4611686018427387904;
-    copy_into(t, 2, second - 2, dst, 1);
+    copy(t, 2, second - 2, dst, 1);
     let_over(calls, t, second, third, third, dst, second - 1, pending);
 }
 
@@ -97,7 +97,7 @@ fn insert_let(
     ensures { λ r. ⌜ Writes (now (calls .entry)) (now (t .entry)) (Insert index start size) (now (dst .entry)) (now (dst .exit)) ⌝ }
 {
     dst[0] = 4611686018427387904;
-    copy_into(t, start, size, dst, 1);
+    copy(t, start, size, dst, 1);
     insert_node(calls, t, index, size, dst, 1 + size, pending);
 }
 
@@ -123,7 +123,7 @@ pub fn write(
             dst,
             pending,
         ),
-        Plan::Copy(start) => copy_into(t, start, wrote, dst, 0),
+        Plan::Copy(start) => copy(t, start, wrote, dst, 0),
         Plan::MoveLet(second, third) => move_let(calls, t, second, third, dst, pending),
         Plan::MoveCase(right, third) => move_case(calls, t, right, third, dst, pending),
         Plan::Insert(index, start, size) => insert_let(calls, t, index, start, size, dst, pending),

@@ -50,7 +50,7 @@ fn settle(
         ⌝ }
 {
     let begin = first.len() - term.len();
-    copy(term, term.len(), first, begin);
+    copy(term, 0, term.len(), first, begin);
     let reduced = reduce(calls, first, begin, budget, second);
     let refusal = reduced.refusal;
     let counts = reduced.counts;
@@ -59,7 +59,7 @@ fn settle(
     }
     let last = reduced.begin;
     let length = first.len() - last;
-    copy(&first[last..], length, output, 0);
+    copy(&first[last..], 0, length, output, 0);
     Answer {
         refusal: 0,
         ty: ty,

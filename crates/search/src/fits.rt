@@ -14,7 +14,7 @@ use reduction::Found;
 use reduction::Phase;
 use reduction::Rule;
 use words::fields::kind;
-use words::shape::owed_count;
+use words::shape::part_count;
 
 // how many of a node's n parts are operands: the first ones
 fn operand_count(k: u64, n: usize) -> usize
@@ -41,7 +41,7 @@ pub fn first_computation(calls: &[u64], t: &[u64]) -> Operand
     ensures { λ r. ⌜ Finds (now (calls .entry)) (now (t .entry)) r ⌝ }
 {
     let w = t[0];
-    let n = owed_count(calls, w);
+    let n = part_count(calls, w);
     let m = operand_count(kind(w), n);
     let mut at: usize = 1;
     let mut j: usize = 0;

@@ -12,7 +12,7 @@ use reduction::Rule;
 use words::fields::kind;
 use words::fields::number;
 use words::shape::outer_count;
-use words::shape::owed_count;
+use words::shape::part_count;
 
 // past every place: the mark of a binder that cannot be dropped, and what each use adds to a mark
 const NO_PLACE: u64 = 65536;
@@ -91,7 +91,7 @@ fn scan_part(calls: &[u64], t: &[u64], used: &mut [u64], depth: usize, base: usi
                 at += 1;
                 owed -= 1;
             } else {
-                let n = owed_count(calls, w);
+                let n = part_count(calls, w);
                 let outer = outer_count(k, n);
                 if outer == n {
                     at += 1;

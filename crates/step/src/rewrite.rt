@@ -36,6 +36,6 @@ pub fn rewrite(
     }
     write(plan, calls, &current[end..], second, wrote, pending);
     let next = behind - wrote;
-    copy(second, wrote, current, next);
+    copy(second, 0, wrote, current, next);
     Rewritten::Next(next)
 }

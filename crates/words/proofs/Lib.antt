@@ -8,7 +8,7 @@ pub mod Rows
 pub mod PartDepths
 pub mod RowAtDepths
 pub mod Stretches
-pub mod CopiedWords
+pub mod PastedWords
 pub mod Sized
 pub mod PartsAt
 pub mod Pastes

@@ -30,11 +30,11 @@ getD-paste-before l at s n i h lt =
     ∙ getD-append-before (take at l) (take n s ++ drop (at + n) l) i (omega (arith, lt, length-take-le at l h)) ∙ getD-take at l i 0 lt
 
 -- one word more at the end: the next of the source
-pub paste-next : (l : List ℕ) (at from i v : ℕ) → at + i < length l → from + i < length l → v ≡ getD l (from + i) 0
-    → set (paste l at (drop from l) i) (at + i) v ≡ paste l at (drop from l) (i + 1)
-paste-next l at from i v h g e =
-    ap (λ (x : ℕ). set (paste l at (drop from l) i) (at + i) x) (e ∙ sym (getD-drop from l i 0))
-    ∙ paste-suc l at (drop from l) i 0 h (omega (arith, g, length-drop from l)) ∙ ap (paste l at (drop from l)) (sym (add-one i))
+pub paste-next : (l : List ℕ) (at : ℕ) (src : List ℕ) (start i v : ℕ) → at + i < length l → start + i < length src → v ≡ getD src (start + i) 0
+    → set (paste l at (drop start src) i) (at + i) v ≡ paste l at (drop start src) (i + 1)
+paste-next l at src start i v h g e =
+    ap (λ (x : ℕ). set (paste l at (drop start src) i) (at + i) x) (e ∙ sym (getD-drop start src i 0))
+    ∙ paste-suc l at (drop start src) i 0 h (omega (arith, g, length-drop start src)) ∙ ap (paste l at (drop start src)) (sym (add-one i))
 
 -- one word more at the front
 paste-before : (l : List ℕ) (at : ℕ) (s : List ℕ) (m v : ℕ) → at < length l → set (paste l (suc at) s m) at v ≡ paste l at (v ∷ s) (suc m)
@@ -49,17 +49,12 @@ paste-before l at s m v h =
     ∙ ap (λ (k : ℕ). take at l ++ (v ∷ take m s) ++ drop k l) (suc-add at m ∙ sym (add-suc at m))
 
 -- the one before of the source
-pub paste-previous : (l : List ℕ) (to from i m v : ℕ) → to + i < length l → from + i < length l → v ≡ getD l (from + i) 0
-    → set (paste l (to + i + 1) (drop (from + i + 1) l) m) (to + i) v ≡ paste l (to + i) (drop (from + i) l) (suc m)
-paste-previous l to from i m v h g e =
-    ap₂ {C = List ℕ} (λ (a b : ℕ). set (paste l a (drop b l) m) (to + i) v) (add-one (to + i)) (add-one (from + i))
-    ∙ paste-before l (to + i) (drop (suc (from + i)) l) m v h
-    ∙ ap (λ (x : List ℕ). paste l (to + i) x (suc m))
-    (ap {B = List ℕ} (λ (x : ℕ). x ∷ drop (suc (from + i)) l) e ∙ sym (drop-cons l (from + i) 0 g))
-
--- a copy of nothing, wherever it is from
-pub paste-none : (l : List ℕ) (at : ℕ) (s : List ℕ) → l ≡ paste l at s 0
-paste-none l at s = paste-zero l at s
+pub paste-previous : (l : List ℕ) (at : ℕ) (src : List ℕ) (start m v : ℕ) → at < length l → start < length src → v ≡ getD src start 0
+    → set (paste l (suc at) (drop (suc start) src) m) at v ≡ paste l at (drop start src) (suc m)
+paste-previous l at src start m v h g e =
+    paste-before l at (drop (suc start) src) m v h
+    ∙ ap (λ (x : List ℕ). paste l at x (suc m))
+    (ap {B = List ℕ} (λ (x : ℕ). x ∷ drop (suc start) src) e ∙ sym (drop-cons src start 0 g))
 
 -- a list set to zeros from the front
 pub zeros-next : (l₀ l : List ℕ) (i : ℕ) → i < length l₀ → l ≡ replicate i 0 ++ drop i l₀ → set l i 0 ≡ replicate (i + 1) 0

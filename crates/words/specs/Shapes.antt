@@ -1,6 +1,9 @@
 -- What a node's kind decides, as the code answers it, and a call word's argument types by place.
 use mathlib.Core.Path.{_≡_}
-use Prim.Native.Nat.{ℕ}
+use Prim.Native.Nat.{ℕ, _<_}
+use mathlib.Core.Bool.{cond, _||_}
+use mathlib.Core.List.{List}
+use lib.Dec.{eqb}
 use lib.ListN.{getD}
 use Rattle.syntax.specs.Words.{argumentFields}
 use Rattle.syntax.specs.Kinds.{partsOfKind, usesNumber, usesType, bindsOf, freeOf}
@@ -17,3 +20,16 @@ pub record Shaping (k : ℕ) (s : Shape) : Type 0 where
   pub ty : s .ty ≡ usesType k
   pub binds : s .binds ≡ bindsOf k
   pub free : s .free ≡ freeOf k
+
+-- how many of the n parts of a node of kind k are operands, the first ones: none of a function's and a let's, a case's subject, and all
+-- parts of any other node
+unfoldable pub operandCount : ℕ → ℕ → ℕ
+operandCount k n = cond (eqb k 2 || eqb k 4) 0 (cond (eqb k 10) 1 n)
+
+-- how many parts a value's node of a kind has; 4 if it is a function, whose body is any term; 5 if the kind is no value's
+abbrev pub valueParts : ℕ → ℕ
+valueParts k = cond (eqb k 2) 4 (cond (eqb k 0 || usesType k) (partsOfKind 0 k) 5)
+
+-- a table of the sixteen kinds
+pub record Tabled (f : ℕ → ℕ) (table : List ℕ) : Type 0 where
+  pub at-kind : (k : ℕ) → k < 16 → getD table k 0 ≡ f k

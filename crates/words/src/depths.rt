@@ -1,36 +1,13 @@
 // The depths of the parts still to come, in a buffer: the next part's stands last, behind those of the parts after it.
 ghost use mathlib.Core.Path.{_≡_};
 ghost use Prim.Native.Nat.{_+_, _≤_};
-ghost use lib.Dec.{eqb};
 ghost use lib.ListN.{length};
-ghost use Rattle.syntax.specs.Kinds.{bindsOf};
 ghost use Rattle.syntax.specs.Parts.{partCount};
-ghost use Rattle.syntax.specs.Values.{counts};
 ghost use Rattle.words.specs.Depths.{Filled, Opens};
 use crate::fields::kind;
-use crate::shape::owed_count;
-
-// whether a node's last part stands under its binder: 1 or 0
-fn last_binder(k: u64) -> u64
-    ensures { λ r. ⌜ (r ≡ counts (bindsOf k)) × (r ≤ 1) ⌝ }
-{
-    match k {
-        2 => 1,
-        4 => 1,
-        10 => 1,
-        _ => 0,
-    }
-}
-
-// the same of the part before it: a case's left branch does
-fn middle_binder(k: u64) -> u64
-    ensures { λ r. ⌜ (r ≡ counts (eqb k 10)) × (r ≤ 1) ⌝ }
-{
-    if k == 10 {
-        return 1;
-    }
-    0
-}
+use crate::shape::last_binder;
+use crate::shape::middle_binder;
+use crate::shape::part_count;
 
 // sets the words from an index to another
 fn fill(words: &mut [u64], start: usize, end: usize, w: u64)
@@ -51,7 +28,7 @@ pub fn open_parts(calls: &[u64], w: u64, depth: u64, pending: &mut [u64], last: 
     ensures { λ r. ⌜ Opens (now (calls .entry)) w depth (now (pending .entry)) (now (pending .exit)) last r ⌝ }
 {
     let k = kind(w);
-    let n = owed_count(calls, w);
+    let n = part_count(calls, w);
     if n == 0 {
         return last;
     }

@@ -8,6 +8,7 @@ ghost use Rattle.words.specs.Fronts.{Starts, StartsAll};
 use crate::fields::kind;
 use crate::fields::number;
 use crate::shape::arity;
+use crate::shape::part_counts;
 
 pub enum End {
     At(usize),
@@ -19,8 +20,7 @@ fn parts_end(calls: &[u64], t: &[u64], n: usize) -> End
     requires { ⌜ (length (now t) ≤ 8192) × (n ≤ 8192) ⌝ }
     ensures { λ r. ⌜ r ≡ endOf (extent (now (calls .entry)) (now (t .entry)) n) ⌝ }
 {
-    // how many parts a node of each kind has, but for a call
-    let counts: [u8; 16] = [0, 0, 1, 2, 2, 2, 1, 1, 1, 1, 3, 0, 0, 0, 0, 0];
+    let counts = part_counts();
     let mut owed = n;
     let mut i: usize = 0;
     while 0 < owed {

@@ -7,5 +7,4 @@ pub mod fields; // fields.rt: the fields of type, call and term words
 pub mod shape; // shape.rt: what a kind decides, by one match; the number of parts of a node
 pub mod ends; // ends.rt: where a part ends
 pub mod depths; // depths.rt: the depths of the parts still to come
-pub mod copy; // copy.rt: words copied
 pub mod moves; // moves.rt: words copied, moved and cleared

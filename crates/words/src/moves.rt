@@ -4,14 +4,14 @@ ghost use Prim.Native.Nat.{_+_, _≤_};
 ghost use lib.ListN.{length, drop, replicate};
 ghost use lib.Seq.{paste};
 
-// copies the first n words of src to dst, from `at` on
-pub fn copy(src: &[u64], n: usize, dst: &mut [u64], at: usize)
-    requires { ⌜ (n ≤ length (now src)) × (at + n ≤ length (now dst)) ⌝ }
-    ensures { λ _. ⌜ now (dst .exit) ≡ paste (now (dst .entry)) at (now (src .entry)) n ⌝ }
+// copies n words of src from `start` on to dst, from `at` on
+pub fn copy(src: &[u64], start: usize, n: usize, dst: &mut [u64], at: usize)
+    requires { ⌜ (start + n ≤ length (now src)) × (at + n ≤ length (now dst)) ⌝ }
+    ensures { λ _. ⌜ now (dst .exit) ≡ paste (now (dst .entry)) at (drop start (now (src .entry))) n ⌝ }
 {
     let mut i: usize = 0;
     while i < n {
-        dst[at + i] = src[i];
+        dst[at + i] = src[start + i];
         i += 1;
     }
 }

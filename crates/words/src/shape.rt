@@ -1,15 +1,17 @@
-// What a kind decides: the fields it uses, its parts, and which of them bind a variable.
+// What a kind decides: the fields it uses, its parts, and which of them bind a variable. Every table of the kinds stands here.
 ghost use mathlib.Core.Path.{_≡_};
 ghost use Prim.Native.Nat.{_≤_};
-ghost use Rattle.syntax.specs.Kinds.{bindersAt};
+ghost use lib.Dec.{eqb};
+ghost use Rattle.syntax.specs.Kinds.{bindersAt, bindsOf, partsOfKind};
 ghost use Rattle.syntax.specs.Tables.{arity as arityOf};
 ghost use Rattle.syntax.specs.Parts.{partCount};
-ghost use Rattle.words.specs.Shapes.{Shaping};
+ghost use Rattle.syntax.specs.Values.{counts};
+ghost use Rattle.words.specs.Shapes.{Shaping, Tabled, valueParts, operandCount};
 ghost use Rattle.words.specs.Reach.{outerCount};
 use crate::fields::kind;
 use crate::fields::number;
 
-// parts: how many (a call's are in the table); number, ty: whether these fields are used;
+// parts: how many, a call's aside; number, ty: whether these fields are used;
 // binds: whether it binds a variable; free: how many of its parts come before the binder
 pub struct Shape {
     pub parts: usize,
@@ -72,6 +74,55 @@ pub fn outer_count(k: u64, n: usize) -> usize
     n
 }
 
+// how many of the n parts of a node are operands: those that its binder does not reach, but none of a let
+pub fn operand_count(k: u64, n: usize) -> usize
+    ensures { λ r. ⌜ r ≡ operandCount k n ⌝ }
+{
+    if k == 4 {
+        return 0;
+    }
+    outer_count(k, n)
+}
+
+// whether a node's last part stands under its binder: 1 or 0. A table of its own is faster than the shape where depths are put down.
+pub fn last_binder(k: u64) -> u64
+    ensures { λ r. ⌜ (r ≡ counts (bindsOf k)) × (r ≤ 1) ⌝ }
+{
+    match k {
+        2 => 1,
+        4 => 1,
+        10 => 1,
+        _ => 0,
+    }
+}
+
+// the same of the part before it: a case's left branch does
+pub fn middle_binder(k: u64) -> u64
+    ensures { λ r. ⌜ (r ≡ counts (eqb k 10)) × (r ≤ 1) ⌝ }
+{
+    if k == 10 {
+        return 1;
+    }
+    0
+}
+
+// how many parts a node of each kind has, a call's aside: for a loop over words, where a load is faster than the shift in `part_count`
+pub fn part_counts() -> [u8; 16]
+    ensures { λ r. ⌜ Tabled (partsOfKind 0) r ⌝ }
+{
+    [0, 0, 1, 2, 2, 2, 1, 1, 1, 1, 3, 0, 0, 0, 0, 0]
+}
+
+// what the table of the value test says of a function
+pub const FUNCTION: usize = 4;
+
+// for the value test, a loop over words too: how many parts a value's node of each kind has; FUNCTION; 5 if the kind is no value's
+pub fn value_parts() -> [u8; 16]
+    ensures { λ r. ⌜ Tabled valueParts r ⌝ }
+{
+    [0, 5, 4, 5, 5, 2, 5, 5, 1, 1, 5, 5, 5, 5, 5, 5]
+}
+
 // how many arguments a call takes, 0 past the table
 pub fn arity(calls: &[u64], n: u64) -> usize
     ensures { λ r. ⌜ (r ≡ arityOf (now (calls .entry)) n) × (r ≤ 15) ⌝ }
@@ -83,7 +134,8 @@ pub fn arity(calls: &[u64], n: u64) -> usize
     0
 }
 
-// how many parts a word's node has
+// how many parts a word's node has: a call's are in the calls' table, any other's in a number, a hexadecimal digit for each kind,
+// the last for kind 0; that is faster than the match
 pub fn part_count(calls: &[u64], w: u64) -> usize
     ensures { λ r. ⌜ (r ≡ partCount (now (calls .entry)) w) × (r ≤ 15) ⌝ }
 {
@@ -91,18 +143,6 @@ pub fn part_count(calls: &[u64], w: u64) -> usize
     if k == 1 {
         return arity(calls, number(w));
     }
-    let s = shape_of(k);
-    s.parts
-}
-
-// the same by a table in a number, four bits a kind: faster where nothing else depends on the kind
-pub fn owed_count(calls: &[u64], w: u64) -> usize
-    ensures { λ r. ⌜ (r ≡ partCount (now (calls .entry)) w) × (r ≤ 15) ⌝ }
-{
-    let k = kind(w);
-    if k == 1 {
-        return arity(calls, number(w));
-    }
-    let table: u64 = 3371836776704;
+    let table: u64 = 0x31111222100;
     (table >> (k * 4)) as usize % 16
 }

@@ -14,9 +14,9 @@ put-value-spec =
     (omega arith, start .pre .0 .1))
     (λ c. search needs)
     (λ c.
-    let at-copy-into = c .before .before in
-    let at-if1 = at-copy-into .before .before in
-    raises-copied (at-if1 .if1 .taken) (at-copy-into .copy-into .ensures))
+    let at-copy = c .before .before in
+    let at-if1 = at-copy .before .before in
+    raises-copied (at-if1 .if1 .taken) (at-copy .copy .kept .1 .1 .1 .0) (at-copy .copy .ensures))
     (λ c κs.
     let start = c .before .before .before .before .before .before .before in
     (whole-room _ (start .pre .0 .0) (start .pre .0 .1), omega (arith, start .pre .0 .2), start .pre .0 .3, start .pre .1))

@@ -32,16 +32,16 @@ begin-spec =
     (λ c.
     let l = c .before .before .before in
     let t = l .before in
-    has _ _ _ _ (omega (arith, t .if1 .taken, t .before .owed-count .ensures .0)) _ (l .leaf .ensures) _ _ (c .before .r .given .1))
+    has _ _ _ _ (omega (arith, t .if1 .taken, t .before .part-count .ensures .0)) _ (l .leaf .ensures) _ _ (c .before .r .given .1))
     (λ c. search needs)
     (λ c.
     let l = c .before .before in
     let t = l .before in
-    fails _ _ _ _ (omega (arith, t .if1 .taken, t .before .owed-count .ensures .0)) _ (l .leaf .ensures) (c .enum-told .given .1))
+    fails _ _ _ _ (omega (arith, t .if1 .taken, t .before .part-count .ensures .0)) _ (l .leaf .ensures) (c .enum-told .given .1))
     (λ c.
     let o = c .before .before in
-    sym (many-is _ _ (omega (arith, c .if2 .taken, o .owed-count .ensures .0))))
+    sym (many-is _ _ (omega (arith, c .if2 .taken, o .part-count .ensures .0))))
     (λ c.
     let t = c .before in
-    let n = t .before .owed-count .ensures .0 in
+    let n = t .before .part-count .ensures .0 in
     sym (opens-is _ _ (omega (arith, t .if1 .left, n)) (omega (arith, c .if2 .left, n)))))

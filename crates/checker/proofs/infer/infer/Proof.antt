@@ -157,7 +157,7 @@ infer-spec =
     let w = length-set (l .nodes) (l .top - 1) (l .a) in (
       turn-next _ _ _ _ (having (d .before)) (g .first) _ _ _ refl (halves _) (quarter _) _ _ refl
           (ap (λ (b : ℕ). l .depth - b) (bound (o .before))) _ _ e
-          (omega (arith, t .if3 .taken, o .owed-count .ensures .0)) (omega (arith, g .noted)) (omega (arith, g .stacked)),
+          (omega (arith, t .if3 .taken, o .part-count .ensures .0)) (omega (arith, g .noted)) (omega (arith, g .stacked)),
       ap (λ (s : List ℕ). length s) (e .stacked) ∙ length-set (l .stack) _ _ ∙ l .inv .1,
       length-set (set (l .nodes) (l .top - 1) (l .a)) _ _ ∙ w ∙ l .inv .2,
     ))
@@ -177,7 +177,7 @@ infer-spec =
     let l = d .before .before .loop in
     let g = gave d in
     turn-untyped _ _ _ _ (having (d .before)) (g .first) _ _ _ refl (halves _) (quarter _) _ _ refl
-    (ap (λ (b : ℕ). l .depth - b) (bound (o .before))) (omega (arith, t .if3 .left, o .owed-count .ensures .0)) (omega (arith, g .noted)) _
+    (ap (λ (b : ℕ). l .depth - b) (bound (o .before))) (omega (arith, t .if3 .left, o .part-count .ensures .0)) (omega (arith, g .noted)) _
     (c .before .before .type-from .ensures) (c .enum-told .given .1))
     (λ c. search needs)
     (λ c.
@@ -192,7 +192,7 @@ infer-spec =
     let g = gave d in
     let h =
     turn-last _ _ _ _ (having (d .before)) (g .first) _ _ _ refl (halves _) (quarter _) _ _ refl
-    (ap (λ (b : ℕ). l .depth - b) (bound (o .before))) (omega (arith, t .if3 .left, o .owed-count .ensures .0)) (omega (arith, g .noted)) _
+    (ap (λ (b : ℕ). l .depth - b) (bound (o .before))) (omega (arith, t .if3 .left, o .part-count .ensures .0)) (omega (arith, g .noted)) _
     (c .before .before .before .type-from .ensures) _ _ (c .before .r .given .1) in
     (is-having _ _ _ _ _ _ _ _ _ _ _ (d .before .if1 .taken) h, l .inv .1, length-set (l .nodes) (l .top - 1) (l .a) ∙ l .inv .2))
     (λ c.

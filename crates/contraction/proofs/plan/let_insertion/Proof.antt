@@ -44,56 +44,56 @@ let-insertion-spec =
     bound-inside _ _ _ (at-first-computation .first-computation .ensures) (start .pre .0) _ (at-size-from .size-from .ensures))
     (λ c. search needs)
     (λ c.
-    let at-owed-count = c .before in
-    let at-size-from = at-owed-count .before .before in
+    let at-part-count = c .before in
+    let at-size-from = at-part-count .before .before in
     let at-first-computation = at-size-from .before in
     let start = at-first-computation .before .before .before in
-    let n = at-owed-count .owed-count .ensures .0 in
+    let n = at-part-count .part-count .ensures .0 in
     omega (arith, index-below _ _ _ (at-first-computation .first-computation .ensures) (start .pre .0) _ (at-size-from .size-from .ensures) _ n))
     (λ c.
-    let at-owed-count = c .before .before in
-    let at-size-from = at-owed-count .before .before in
+    let at-part-count = c .before .before in
+    let at-size-from = at-part-count .before .before in
     let at-first-computation = at-size-from .before in
     let start = at-first-computation .before .before .before in
-    let n = at-owed-count .owed-count .ensures .0 in
+    let n = at-part-count .part-count .ensures .0 in
     omega (arith, index-below _ _ _ (at-first-computation .first-computation .ensures) (start .pre .0) _ (at-size-from .size-from .ensures) _ n))
     (λ c κs.
-    let at-owed-count = c .before .before in
-    let at-size-from = at-owed-count .before .before in
+    let at-part-count = c .before .before in
+    let at-size-from = at-part-count .before .before in
     let at-first-computation = at-size-from .before in
     let start = at-first-computation .before .before .before in
     let t = start .args .t .now in
     let behind = at-first-computation .first-computation .result .start + at-size-from .size-from .result in
-    let n = at-owed-count .owed-count .ensures .0 in (
+    let n = at-part-count .part-count .ensures .0 in (
       later-starts _ _ _ (at-first-computation .first-computation .ensures) (start .pre .0) _ (at-size-from .size-from .ensures) _ n,
       omega (arith, from-length t behind, start .pre .1),
     ))
     (λ c.
-    let at-owed-count = c .before .before .before in
-    let at-size-from = at-owed-count .before .before in
+    let at-part-count = c .before .before .before in
+    let at-size-from = at-part-count .before .before in
     let at-first-computation = at-size-from .before in
     let start = at-first-computation .before .before .before in
     let f = at-first-computation .first-computation .ensures in
     let z = at-size-from .size-from .ensures in
-    let n = at-owed-count .owed-count .ensures .0 in
+    let n = at-part-count .part-count .ensures .0 in
     let e = end-inside _ _ _ f (start .pre .0) _ z _ n _ (c .parts-size .ensures) in
     omega (arith, e, start .pre .1))
     (λ c.
-    let at-owed-count = c .before .before .before in
-    let at-size-from = at-owed-count .before .before in
+    let at-part-count = c .before .before .before in
+    let at-size-from = at-part-count .before .before in
     let at-first-computation = at-size-from .before in
     let start = at-first-computation .before .before .before in
     let f = at-first-computation .first-computation .ensures in
     let z = at-size-from .size-from .ensures in
-    let n = at-owed-count .owed-count .ensures .0 in
+    let n = at-part-count .part-count .ensures .0 in
     let e = end-inside _ _ _ f (start .pre .0) _ z _ n _ (c .parts-size .ensures) in
     omega (arith, e, start .pre .1))
     (λ c.
-    let at-owed-count = c .before .before .before in
-    let at-size-from = at-owed-count .before .before in
+    let at-part-count = c .before .before .before in
+    let at-size-from = at-part-count .before .before in
     let at-first-computation = at-size-from .before in
     let start = at-first-computation .before .before .before in
     let f = at-first-computation .first-computation .ensures in
     let z = at-size-from .size-from .ensures in
-    let n = at-owed-count .owed-count .ensures .0 in
+    let n = at-part-count .part-count .ensures .0 in
     insertion-measures _ _ _ f (start .pre .0) _ z _ n _ (c .parts-size .ensures)))

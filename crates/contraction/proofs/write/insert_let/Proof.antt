@@ -27,17 +27,17 @@ insert-let-spec =
     omega (arith, inserting-let _ _ _ _ _ _ (pre .0) .room, good))
     (λ c κs.
     let pre = c .before .before .before .before .before .before .before .before .before .before .pre in
-    let copy-into = c .before .before .before .before .copy-into in
+    let copy = c .before .before .before .before .copy in
     let args = c .before .before .before .before .before .before .before .before .before .before .args in
-    (node-room (inserting-let _ _ _ _ _ _ (pre .0) .node) _ (copy-into .kept .1 .1 .1 .0 ∙ length-set (args .dst .now) 0 _), pre .1, pre .2))
+    (node-room (inserting-let _ _ _ _ _ _ (pre .0) .node) _ (copy .kept .1 .1 .1 .0 ∙ length-set (args .dst .now) 0 _), pre .1, pre .2))
     (λ c.
     let insert-node = c .before .before .before .before .insert-node in
-    let copy-into = c .before .before .before .before .before .before .before .before .before .copy-into in
+    let copy = c .before .before .before .before .before .before .before .before .before .copy in
     let args = c .before .before .before .before .before .before .before .before .before .before .before .before .before .before .before .args in
-    insert-node .kept .1 .1 .1 .1 .0 ∙ (copy-into .kept .1 .1 .1 .0 ∙ length-set (args .dst .now) 0 _))
+    insert-node .kept .1 .1 .1 .1 .0 ∙ (copy .kept .1 .1 .1 .0 ∙ length-set (args .dst .now) 0 _))
     (λ c. c .before .before .before .before .insert-node .kept .1 .1 .1 .1 .1 .1 .0)
     (λ c.
     let args = c .before .before .before .before .before .before .before .before .before .before .before .before .before .before .before .args in
-    let copy-into = c .before .before .before .before .before .before .before .before .before .copy-into in
+    let copy = c .before .before .before .before .before .before .before .before .before .copy in
     let insert-node = c .before .before .before .before .insert-node in
-    insert-writes _ _ _ _ _ (args .dst .now) _ _ (copy-into .ensures) (insert-node .ensures)))
+    insert-writes _ _ _ _ _ (args .dst .now) _ _ (copy .kept .1 .1 .1 .0) (copy .ensures) (insert-node .ensures)))

@@ -50,9 +50,9 @@ let-over-spec =
     omega (arith, let-words _ _ _ _ _ _ _ (pre .0), good))
     (λ c κs.
     let pre = c .before .before .before .before .before .before .before .before .before .before .before .pre in
-    let copy-into = c .before .before .before .before .before .copy-into in
+    let copy = c .before .before .before .before .before .copy in
     let args = c .before .before .before .before .before .before .before .before .before .before .before .args in (
-      let-under _ _ _ _ _ _ _ (pre .0) _ (copy-into .kept .1 .1 .1 .0 ∙ length-set (args .dst .now) (args .at) _),
+      let-under _ _ _ _ _ _ _ (pre .0) _ (copy .kept .1 .1 .1 .0 ∙ length-set (args .dst .now) (args .at) _),
       omega
           (arith, from-length (args .t .now) (args .body), pre .1),
       omega arith,
@@ -73,14 +73,14 @@ let-over-spec =
     omega (arith, let-fits _ _ _ _ _ _ _ (pre .0) _ _ _ _ (rename-into .ensures), good))
     (λ c.
     let rename-into = c .before .before .before .before .rename-into in
-    let copy-into = c .before .before .before .before .before .before .before .before .before .before .copy-into in
+    let copy = c .before .before .before .before .before .before .before .before .before .before .copy in
     let args = c .before .before .before .before .before .before .before .before .before .before .before .before .before .before
     .before .before .args in
-    rename-into .kept .1 .1 .0 ∙ (copy-into .kept .1 .1 .1 .0 ∙ length-set (args .dst .now) (args .at) _))
+    rename-into .kept .1 .1 .0 ∙ (copy .kept .1 .1 .1 .0 ∙ length-set (args .dst .now) (args .at) _))
     (λ c. c .before .before .before .before .rename-into .kept .1 .1 .1 .1 .1 .1 .0)
     (λ c.
     let args = c .before .before .before .before .before .before .before .before .before .before .before .before .before .before
     .before .before .args in
-    let copy-into = c .before .before .before .before .before .before .before .before .before .before .copy-into in
+    let copy = c .before .before .before .before .before .before .before .before .before .before .copy in
     let rename-into = c .before .before .before .before .rename-into in
-    let-written _ _ _ _ _ _ _ (args .dst .now) _ _ (copy-into .ensures) (rename-into .ensures)))
+    let-written _ _ _ _ _ _ _ (args .dst .now) _ _ (copy .kept .1 .1 .1 .0) (copy .ensures) (rename-into .ensures)))

@@ -29,21 +29,21 @@ move-let-spec =
     omega (arith, moving-let _ _ _ _ _ (pre .0) .low))
     (λ c κs.
     let pre = c .before .before .before .before .before .before .before .before .before .before .pre in
-    let copy-into = c .before .before .before .before .copy-into in
+    let copy = c .before .before .before .before .copy in
     let args = c .before .before .before .before .before .before .before .before .before .before .args in (
       let-room _ _ _ _ _ _ _ (moving-let _ _ _ _ _ (pre .0) .inner) _
-          (copy-into .kept .1 .1 .1 .0 ∙ length-set (args .dst .now) 0 _),
+          (copy .kept .1 .1 .1 .0 ∙ length-set (args .dst .now) 0 _),
       pre .1,
       pre .2,
     ))
     (λ c.
     let let-over = c .before .before .before .before .let-over in
-    let copy-into = c .before .before .before .before .before .before .before .before .before .copy-into in
+    let copy = c .before .before .before .before .before .before .before .before .before .copy in
     let args = c .before .before .before .before .before .before .before .before .before .before .before .before .before .before .before .args in
-    let-over .kept .1 .1 .1 .1 .1 .0 ∙ (copy-into .kept .1 .1 .1 .0 ∙ length-set (args .dst .now) 0 _))
+    let-over .kept .1 .1 .1 .1 .1 .0 ∙ (copy .kept .1 .1 .1 .0 ∙ length-set (args .dst .now) 0 _))
     (λ c. c .before .before .before .before .let-over .kept .1 .1 .1 .1 .1 .1 .1 .0)
     (λ c.
     let args = c .before .before .before .before .before .before .before .before .before .before .before .before .before .before .before .args in
-    let copy-into = c .before .before .before .before .before .before .before .before .before .copy-into in
+    let copy = c .before .before .before .before .before .before .before .before .before .copy in
     let let-over = c .before .before .before .before .let-over in
-    let-writes _ _ _ _ _ (args .dst .now) _ _ (copy-into .ensures) (let-over .ensures)))
+    let-writes _ _ _ _ _ (args .dst .now) _ _ (copy .kept .1 .1 .1 .0) (copy .ensures) (let-over .ensures)))

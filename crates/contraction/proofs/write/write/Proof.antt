@@ -43,9 +43,9 @@ write-spec =
     (λ c.
     let plan2 = c .before .before .before .before .before .plan2 in
     let pre = c .before .before .before .before .before .before .before .before .before .before .before .pre in
-    let copy-into = c .before .before .copy-into in
+    let copy = c .before .before .copy in
     let p = planned-at (plan2 .given .1) (pre .0)
-    in writes-at (plan2 .given .1) (copy-writes _ _ _ _ _ _ _ (p .planned) (p .wrote-is) (copy-into .ensures)))
+    in writes-at (plan2 .given .1) (copy-writes _ _ _ _ _ _ _ (p .planned) (p .wrote-is) (copy .kept .1 .1 .1 .0) (copy .ensures)))
     (λ c. search needs)
     (λ c. search needs)
     (λ c.

@@ -29,8 +29,8 @@ first-computation-spec =
     (λ c κs. search needs)
     (λ c.
     let pre = c .before .before .before .before .before .before .pre in
-    let owed-count = c .before .before .owed-count in
-    find-enter _ _ _ _ _ (pre .0) (c .before .kind .ensures) (owed-count .ensures .0) (c .operand-count .ensures))
+    let part-count = c .before .before .part-count in
+    find-enter _ _ _ _ _ (pre .0) (c .before .kind .ensures) (part-count .ensures .0) (c .operand-count .ensures))
     (λ c.
     let good = c .before .before .before .before .before .before .before .before .good in
     omega (arith, c .before .loop .inv .going .high, good))

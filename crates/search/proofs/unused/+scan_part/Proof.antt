@@ -17,7 +17,7 @@ use Rattle.search.proofs.unused.+scan_part.Lts-scan_part as scan-part-l
 use Rattle.words.proofs.fields.kind.Reads as kind-reads
 use Rattle.words.proofs.fields.number.Reads as number-reads
 use Rattle.words.proofs.shape.outer_count.Reads as outer-count-reads
-use Rattle.words.proofs.shape.owed_count.Reads as owed-count-reads
+use Rattle.words.proofs.shape.part_count.Reads as part-count-reads
 use Rattle.search.proofs.marks.mark.Reads as mark-reads
 use Rattle.search.proofs.unused.least_mark.Reads as least-mark-reads
 use Rattle.search.proofs.unused.lesser.Reads as lesser-reads
@@ -51,8 +51,8 @@ pub +scan-part-spec : {M : Type 1} → statement M
   number-reads.Learnt,
   mark-reads.Asked,
   mark-reads.Learnt,
-  owed-count-reads.Asked,
-  owed-count-reads.Learnt,
+  part-count-reads.Asked,
+  part-count-reads.Learnt,
   outer-count-reads.Asked,
   outer-count-reads.Learnt,
   open-mark-reads.Asked,
@@ -141,23 +141,23 @@ pub +scan-part-spec : {M : Type 1} → statement M
     let at-if1 = c .before .before .before .before .before .before in
     omega (arith, at-if1 .if1 .left))
     (λ c.
-    let at-owed-count = c .before .before in
-    let at-loop = at-owed-count .before .before .before .before .before .before in
+    let at-part-count = c .before .before in
+    let at-loop = at-part-count .before .before .before .before .before .before in
     let start = at-loop .before .before .before .before in
-    omega (arith, march-inside _ _ (at-loop .loop .inv .going), at-owed-count .owed-count .ensures .1, start .pre .1 .1 .0))
+    omega (arith, march-inside _ _ (at-loop .loop .inv .going), at-part-count .part-count .ensures .1, start .pre .1 .1 .0))
     (λ c.
     let at-if1 = c .before .before .before .before .before .before in
     let at-loop = at-if1 .before .before in
     omega (arith, march-inside _ _ (at-loop .loop .inv .going), at-if1 .if1 .left))
     (λ c.
     let at-outer-count = c .before in
-    let at-owed-count = at-outer-count .before in
-    let at-if2 = at-owed-count .before in
+    let at-part-count = at-outer-count .before in
+    let at-if2 = at-part-count .before in
     let at-kind = at-if2 .before in
     let at-if1 = at-kind .before .before in
     let at-loop = at-if1 .before .before in
     scan-flat (at-loop .loop .inv) (omega (arith, at-if1 .if1 .left)) _ (at-kind .kind .ensures) (at-if2 .if2 .left) _ _
-    (at-owed-count .owed-count .ensures .0) (at-outer-count .outer-count .ensures) (c .if3 .taken))
+    (at-part-count .part-count .ensures .0) (at-outer-count .outer-count .ensures) (c .if3 .taken))
     (λ c.
     let at-loop = c .before .before .before .before .before .before .before .before in
     let start = at-loop .before .before .before .before in
@@ -193,29 +193,29 @@ pub +scan-part-spec : {M : Type 1} → statement M
     omega (arith, march-inside _ _ (at-loop .loop .inv .going), start .pre .1 .1 .0))
     (λ c.
     let at-outer-count = c .before .before .before .before in
-    let at-owed-count = at-outer-count .before in
-    let at-if2 = at-owed-count .before in
+    let at-part-count = at-outer-count .before in
+    let at-if2 = at-part-count .before in
     let at-kind = at-if2 .before in
     let at-if1 = at-kind .before .before in
     let at-loop = at-if1 .before .before in
     outer-few (at-loop .loop .inv) (omega (arith, at-if1 .if1 .left)) _ (at-kind .kind .ensures) (at-if2 .if2 .left) _ _
-    (at-owed-count .owed-count .ensures .0) (at-outer-count .outer-count .ensures))
+    (at-part-count .part-count .ensures .0) (at-outer-count .outer-count .ensures))
     (λ c.
-    let at-owed-count = c .before .before .before .before .before in
-    let at-if1 = at-owed-count .before .before .before .before in
+    let at-part-count = c .before .before .before .before .before in
+    let at-if1 = at-part-count .before .before .before .before in
     let at-loop = at-if1 .before .before in
-    omega (arith, march-inside _ _ (at-loop .loop .inv .going), at-if1 .if1 .left, at-owed-count .owed-count .ensures .1))
+    omega (arith, march-inside _ _ (at-loop .loop .inv .going), at-if1 .if1 .left, at-part-count .part-count .ensures .1))
     (λ c.
     let at-if4 = c .before .before in
     let at-if3 = at-if4 .before in
     let at-outer-count = at-if3 .before in
-    let at-owed-count = at-outer-count .before in
-    let at-if2 = at-owed-count .before in
+    let at-part-count = at-outer-count .before in
+    let at-if2 = at-part-count .before in
     let at-kind = at-if2 .before in
     let at-if1 = at-kind .before .before in
     let at-loop = at-if1 .before .before in
     scan-enter (at-loop .loop .inv) (omega (arith, at-if1 .if1 .left)) _ (at-kind .kind .ensures) (at-if2 .if2 .left) _ _
-    (at-owed-count .owed-count .ensures .0) (at-outer-count .outer-count .ensures) _ (at-if3 .if3 .left) (at-if4 .if4 .taken)
+    (at-part-count .part-count .ensures .0) (at-outer-count .outer-count .ensures) _ (at-if3 .if3 .left) (at-if4 .if4 .taken)
     (c .open-mark .ensures))
     (λ c.
     let at-loop = c .before .before .before .before .before .before .before .before .before in

@@ -14,7 +14,7 @@ open-parts-spec =
     (tie.spec
     (λ c κs. search needs)
     (λ c κs. search needs)
-    (λ c. no-opens _ _ _ _ _ (sym (c .before .owed-count .ensures .0) ∙ c .if1 .taken))
+    (λ c. no-opens _ _ _ _ _ (sym (c .before .part-count .ensures .0) ∙ c .if1 .taken))
     (λ c κs. search needs)
     (λ c. search needs)
     (λ c. search needs)
@@ -45,13 +45,13 @@ open-parts-spec =
     let at-if2 = c .before in
     let at-middle-binder = at-if2 .before in
     let at-last-binder = at-middle-binder .before in
-    let at-owed-count = at-last-binder .before .before in
-    let start = at-owed-count .before .before .before .before in
+    let at-part-count = at-last-binder .before .before in
+    let start = at-part-count .before .before .before .before in
     let a = start .args in
     let x = a .depth + at-last-binder .last-binder .result in
     let y = a .depth + at-middle-binder .middle-binder .result in
     let e = three-length (a .pending .now) (a .last) x y (a .depth) in
-    (omega (arith, at-if2 .if2 .taken), omega (arith, start .pre .1, at-owed-count .owed-count .ensures .0, e)))
+    (omega (arith, at-if2 .if2 .taken), omega (arith, start .pre .1, at-part-count .part-count .ensures .0, e)))
     (λ c. search needs)
     (λ c.
     let at-fill = c .before .before in
@@ -66,12 +66,12 @@ open-parts-spec =
     let at-fill = c .before .before in
     let at-middle-binder = at-fill .before .before .before in
     let at-last-binder = at-middle-binder .before in
-    let at-owed-count = at-last-binder .before .before in
-    let at-kind = at-owed-count .before in
+    let at-part-count = at-last-binder .before .before in
+    let at-kind = at-part-count .before in
     let start = at-kind .before .before .before in
     let x = at-last-binder .last-binder .ensures .0 in
     let y = at-middle-binder .middle-binder .ensures .0 in
-    filled-opens _ _ _ _ _ _ _ _ _ _ (at-kind .kind .ensures) (at-owed-count .owed-count .ensures .0) x y (start .pre .0) (at-fill .fill .ensures))
+    filled-opens _ _ _ _ _ _ _ _ _ _ (at-kind .kind .ensures) (at-part-count .part-count .ensures .0) x y (start .pre .0) (at-fill .fill .ensures))
     (λ c. search needs)
     (λ c.
     let at-middle-binder = c .before in
@@ -84,10 +84,10 @@ open-parts-spec =
     (λ c.
     let at-middle-binder = c .before in
     let at-last-binder = at-middle-binder .before in
-    let at-owed-count = at-last-binder .before .before in
-    let at-kind = at-owed-count .before in
+    let at-part-count = at-last-binder .before .before in
+    let at-kind = at-part-count .before in
     let start = at-kind .before .before .before in
     let x = at-last-binder .last-binder .ensures .0 in
     let y = at-middle-binder .middle-binder .ensures .0 in
-    filled-opens _ _ _ _ _ _ _ _ _ _ (at-kind .kind .ensures) (at-owed-count .owed-count .ensures .0) x y (start .pre .0)
+    filled-opens _ _ _ _ _ _ _ _ _ _ (at-kind .kind .ensures) (at-part-count .part-count .ensures .0) x y (start .pre .0)
     (three-filled _ _ _ _ (omega (arith, c .if2 .left)))))

@@ -1,8 +1,15 @@
--- A call's parts are in the table, any other node's are decided by its kind.
+-- The number's digits to the base 16 are the part counts of the kinds.
+use mathlib.Core.Path.{_≡_, refl}
+use Prim.Native.Nat.{ℕ, _*_, _/_, _%_, _^_, _<_}
+use native.Mathlib.Omega.{arith}
 use borrow.Author.Needs.{needs}
-use Rattle.words.proofs.PartCounts.{of-call, of-kind}
+use Rattle.syntax.specs.Kinds.{partsOfKind}
+use Rattle.words.proofs.PartCounts.{of-call, of-kind, kinds-agree}
 use Rattle.words.proofs.shape.part_count.Statement.{statement}
 use Rattle.words.proofs.shape.part_count.Tie as tie
+
+agrees : (k : ℕ) → k < 16 → 3371836776704 / 2 ^ (k * 4) % 16 ≡ partsOfKind 0 k
+agrees = kinds-agree (λ j. 3371836776704 / 2 ^ (j * 4) % 16) (partsOfKind 0) refl
 
 pub part-count-spec : {M : Type 1} → statement M
 part-count-spec =
@@ -13,5 +20,6 @@ part-count-spec =
     (λ c κs. search needs)
     (λ c. of-call _ _ _ _ _ (c .before .before .before .kind .ensures) (c .before .before .if1 .taken) (c .before .number .ensures)
     (c .arity .ensures))
-    (λ c κs. search needs)
-    (λ c. of-kind _ _ _ _ (c .before .before .kind .ensures) (c .before .if1 .left) (c .shape-of .ensures .parts)))
+    (λ c. search needs)
+    (λ c. search needs)
+    (λ c. of-kind _ _ _ _ (c .before .kind .ensures) (c .if1 .left) (agrees _ (omega (arith, c .before .kind .ensures)))))

@@ -5,8 +5,8 @@ use native.Mathlib.Omega.{arith}
 use borrow.Author.Tests.{ne-eqb}
 use Rattle.syntax.specs.Kinds.{bindsOf}
 use Rattle.syntax.specs.Values.{counts}
-use Rattle.words.proofs.depths.last_binder.Statement.{statement}
-use Rattle.words.proofs.depths.last_binder.Tie as tie
+use Rattle.words.proofs.shape.last_binder.Statement.{statement}
+use Rattle.words.proofs.shape.last_binder.Tie as tie
 
 pub last-binder-spec : {M : Type 1} → statement M
 last-binder-spec = tie.close

@@ -3,8 +3,8 @@ use native.Mathlib.Omega.{arith}
 use mathlib.Core.Path.{sym, ap}
 use borrow.Author.Tests.{eq-eqb, ne-eqb}
 use Rattle.syntax.specs.Values.{counts}
-use Rattle.words.proofs.depths.middle_binder.Statement.{statement}
-use Rattle.words.proofs.depths.middle_binder.Tie as tie
+use Rattle.words.proofs.shape.middle_binder.Statement.{statement}
+use Rattle.words.proofs.shape.middle_binder.Tie as tie
 
 pub middle-binder-spec : {M : Type 1} → statement M
 middle-binder-spec = tie.close
