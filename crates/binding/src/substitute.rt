@@ -4,11 +4,11 @@ ghost use Prim.Native.Nat.{_+_, _≤_};
 ghost use lib.ListN.{length};
 ghost use Rattle.words.specs.Fronts.{Whole};
 ghost use Rattle.binding.specs.Writes.{RoomFor, Substitutes, loweredWord, Raises};
+use crate::rename::rename_into;
 use words::copy::copy_into;
 use words::depths::open_parts;
 use words::fields::kind;
 use words::fields::number;
-use crate::rename::rename_into;
 
 // words read of a part, and words written
 pub struct Moved {

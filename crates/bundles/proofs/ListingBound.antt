@@ -10,7 +10,7 @@ use Rattle.outcomes.specs.declared.Answer.{Answer}
 use Rattle.outcomes.specs.Listing.{decimal, decimalThen, lines, listingOf}
 use Rattle.bundles.specs.FirstLine.{acceptedLine}
 use Rattle.bundles.proofs.Decimal.{width, width-last, width-more}
-use Rattle.bundles.proofs.Fields.{sizeOf, fields-size}
+use Rattle.bundles.proofs.ListedFields.{sizeOf, fields-size}
 use Rattle.bundles.proofs.Lines.{length-lines}
 use Rattle.bundles.proofs.WholeListing.{length-refused, length-accepted}
 use Rattle.bundles.proofs.ListingOutcome.{listing-refused, listing-accepted}
