@@ -24,7 +24,7 @@ totalled : (c : tie.After-lengths-of)
     → Totalled (entry (header c) .args .bytes .now) (header c .word-at .result) (total (c .lengths-of .result))
 totalled c = record {
   headed = headed (header c);
-  low-zero = c .before .if3 .left;
+  low-zero = omega (arith, c .before .if3 .left);
   total-is = ap total (c .lengths-of .ensures .0);
 }
 
@@ -41,7 +41,7 @@ read-bundle-spec =
     (λ c. too-short _ _ _ (c .refused2 .ensures) (c .before .before .if1 .left) (c .before .if2 .taken))
     (λ c κs. search needs)
     (λ c κs. search needs)
-    (λ c. low-bits _ _ _ (c .refused3 .ensures) (headed (search)) (c .before .if3 .taken))
+    (λ c. low-bits _ _ _ (c .refused3 .ensures) (headed (search)) (omega (arith, c .before .if3 .taken)))
     (λ c κs. search needs)
     (λ c. omega (arith, few (search)))
     (λ c. omega (arith, few (search)))
@@ -49,13 +49,15 @@ read-bundle-spec =
     (λ c. omega (arith, few (search)))
     (λ c. omega (arith, few (search)))
     (λ c κs. search needs)
-    (λ c. wrong-length _ _ (totalled (search)) _ (c .refused4 .ensures) (c .before .if4 .taken))
+    (λ c. wrong-length _ _ (totalled (search)) _ (c .refused4 .ensures) (λ e. c .before .if4 .taken (omega (arith, e))))
     (λ c κs. search needs)
-    (λ c. no-room _ _ (totalled (search)) (c .before .before .if4 .left) _ (c .refused5 .ensures) (c .before .if5 .taken))
-    (λ c κs. (omega (arith, c .before .before .if4 .left), c .before .if5 .left))
+    (λ c. no-room _ _ (totalled (search)) (omega (arith, c .before .before .if4 .left)) _ (c .refused5 .ensures)
+    (omega (arith, c .before .if5 .taken)))
+    (λ c κs. (omega (arith, c .before .before .if4 .left), omega (arith, c .before .if5 .left)))
     (λ c. search needs)
     (λ c.
     let p : tie.After-copy-words = search in
     let passed : tie.Else5 = search in
     let l : tie.After-lengths-of = search in
-    all-read _ _ (totalled l) (passed .before .if4 .left) _ _ (l .lengths-of .ensures .0) (passed .if5 .left) (p .copy-words .ensures)))
+    all-read _ _ (totalled l) (omega (arith, passed .before .if4 .left)) _ _ (l .lengths-of .ensures .0) (omega (arith, passed .if5 .left))
+    (p .copy-words .ensures)))
