@@ -29,7 +29,7 @@ unfolding decimalThen
 width-short zero k n h = omega arith
 width-short (suc f) k n h = width-step f k n (n / 10) refl h (λ j. width-short f j (n / 10))
 
-pub decimal-short : (k n : ℕ) → n < 10 ^ suc k → length (decimal n) ≤ suc k
+decimal-short : (k n : ℕ) → n < 10 ^ suc k → length (decimal n) ≤ suc k
 unfolding decimal
 decimal-short k n h = width-short 20 k n h
 
