@@ -54,17 +54,17 @@ words-more (suc n) bytes = ap (_∷_ (fromBytes 0 (take 8 bytes)))
     (words-more n (drop 8 bytes) ∙ rw (drop-drop, mul-suc 8 n, add-comm 8 (8 * n)))
 
 -- the first i words are written, and behind them stands what stood there
-pub record Copying (bytes old new : List ℕ) (i n : ℕ) : Type 0 where
+pub record WordsCopied (bytes old new : List ℕ) (i n : ℕ) : Type 0 where
   pub within : i ≤ n
   pub new-is : new ≡ wordsOf i (drop 8 bytes) ++ drop i old
   pub len : length new ≡ length old
 
-pub copy-none : (bytes old : List ℕ) (n : ℕ) → Copying bytes old old 0 n
+pub copy-none : (bytes old : List ℕ) (n : ℕ) → WordsCopied bytes old old 0 n
 unfolding wordsOf
 copy-none bytes old n = record { within = omega arith; new-is = refl; len = refl }
 
-pub copy-word : (bytes old new : List ℕ) (i n w : ℕ) → n ≤ length old → Copying bytes old new i n → i < n
-    → w ≡ fromBytes 0 (take 8 (drop (8 * i + 8) bytes)) → Copying bytes old (set new i w) (i + 1) n
+pub copy-word : (bytes old new : List ℕ) (i n w : ℕ) → n ≤ length old → WordsCopied bytes old new i n → i < n
+    → w ≡ fromBytes 0 (take 8 (drop (8 * i + 8) bytes)) → WordsCopied bytes old (set new i w) (i + 1) n
 copy-word bytes old new i n w r c l e =
     let h : i < length old = omega arith in
     let p : 8 + 8 * i ≡ 8 * i + 8 = omega arith in
@@ -84,7 +84,7 @@ copy-word bytes old new i n w r c l e =
       len = length-set new i w ∙ c .len;
     }
 
-pub copy-all : (bytes old new : List ℕ) (i n : ℕ) → Copying bytes old new i n → n ≤ i
+pub copy-all : (bytes old new : List ℕ) (i n : ℕ) → WordsCopied bytes old new i n → n ≤ i
     → new ≡ overwrite (wordsOf n (drop 8 bytes)) old
 unfolding overwrite
 copy-all bytes old new i n c g =

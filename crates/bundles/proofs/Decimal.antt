@@ -62,18 +62,18 @@ unfolding decimal
 decimal-is n = then-lastDigits 20 n []
 
 -- the loop of `digit_count`: the digits counted, and those of what is left, which has one digit counted already
-pub record Counting (n count left : ℕ) : Type 0 where
+pub record DigitsCounted (n count left : ℕ) : Type 0 where
   pub fuel : ℕ
   pub all : count + fuel ≡ 20
   pub small : left < 10 ^ suc fuel
   pub same : length (decimal n) + 1 ≡ count + width (suc fuel) left
 
-pub count-start : (n : ℕ) → n < 2 ^ 64 → Counting n 1 n
+pub count-start : (n : ℕ) → n < 2 ^ 64 → DigitsCounted n 1 n
 unfolding decimal
 count-start n h = record { fuel = 19; all = refl; small = omega arith; same = omega arith }
 
 count-step : (n count left f : ℕ) → count + f ≡ 20 → left < 10 ^ suc f → length (decimal n) + 1 ≡ count + width (suc f) left → 9 < left
-    → Counting n (count + 1) (left / 10)
+    → DigitsCounted n (count + 1) (left / 10)
 count-step n count left zero a s e h = absurd (omega arith)
 count-step n count left (suc f) a s e h =
     record {
@@ -83,8 +83,8 @@ count-step n count left (suc f) a s e h =
       same = omega (arith, width-more (suc f) left h);
     }
 
-pub count-more : {n count left : ℕ} → Counting n count left → 9 < left → Counting n (count + 1) (left / 10)
+pub count-more : {n count left : ℕ} → DigitsCounted n count left → 9 < left → DigitsCounted n (count + 1) (left / 10)
 count-more {n} {count} {left} s h = count-step n count left (s .fuel) (s .all) (s .small) (s .same) h
 
-pub count-all : {n count left : ℕ} → Counting n count left → left ≤ 9 → (count ≡ length (decimal n)) × (count ≤ 20)
+pub count-all : {n count left : ℕ} → DigitsCounted n count left → left ≤ 9 → (count ≡ length (decimal n)) × (count ≤ 20)
 count-all {left = left} s h = (omega (arith, s .same, width-last (s .fuel) left h), omega (arith, s .all))

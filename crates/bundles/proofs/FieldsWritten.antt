@@ -1,5 +1,5 @@
 -- Numbers and what ends them, written one after the other.
-use Prim.Native.Nat.{ℕ, _+_}
+use Prim.Native.Nat.{ℕ, _+_, _^_, _≤_, _<_}
 use native.Mathlib.Omega.{arith}
 use mathlib.Core.Path.{_≡_, refl, sym, _∙_, ap}
 use mathlib.Core.List.{List, [], _∷_, _++_, append-nil}
@@ -8,16 +8,21 @@ use lib.Seq.{sets}
 use Rattle.words.proofs.Stretches.{sets-append}
 use Rattle.outcomes.specs.Listing.{decimal, hexadecimal, fields, newline}
 use Rattle.bundles.specs.Digits.{lastDigits}
-use Rattle.bundles.specs.Puts.{Puts}
-use Rattle.bundles.proofs.Digits.{hexadecimal-is}
+use Rattle.bundles.specs.BytesPut.{BytesPut}
+use Rattle.bundles.proofs.DigitsPut.{hexadecimal-is}
 use Rattle.bundles.proofs.Decimal.{decimal-is}
+
+-- n bytes fit into the text as it stands, whose length is a number of the machine
+pub record TextRoom (text : List ℕ) (n : ℕ) : Type 0 where
+  pub fits : n ≤ length text
+  pub small : length text < 2 ^ 64
 
 -- a byte behind a stretch
 set-behind : (old new xs : List ℕ) (at i b : ℕ) → new ≡ sets old at xs → i ≡ at + length xs → set new i b ≡ sets old at (xs ++ b ∷ [])
 set-behind old new xs at i b e p = ap (λ (l : List ℕ). set l i b) e ∙ rw (p) (sym (sets-append old at xs (b ∷ [])))
 
 pub field-put : (old new : List ℕ) (n end at count : ℕ) → count ≡ length (decimal n) → new ≡ sets old at (lastDigits 10 count n [])
-    → Puts (decimal n ++ end ∷ []) old (set new (at + count) end) at (count + 1)
+    → BytesPut (decimal n ++ end ∷ []) old (set new (at + count) end) at (count + 1)
 field-put old new n end at count c e = record {
   new-is =
       set-behind old new (decimal n) at (at + count) end
@@ -26,11 +31,11 @@ field-put old new n end at count c e = record {
   size-is = omega (arith, length-append (decimal n) (end ∷ []));
 }
 
-pub field-size : (n end : ℕ) {old new : List ℕ} {at size : ℕ} → Puts (decimal n ++ end ∷ []) old new at size
+pub field-size : (n end : ℕ) {old new : List ℕ} {at size : ℕ} → BytesPut (decimal n ++ end ∷ []) old new at size
     → size ≡ length (decimal n) + 1
 field-size n end p = p .size-is ∙ length-append (decimal n) (end ∷ [])
 
-pub line-size : (ns : List ℕ) {old new : List ℕ} {at size : ℕ} → Puts (fields ns ++ newline ∷ []) old new at size
+pub line-size : (ns : List ℕ) {old new : List ℕ} {at size : ℕ} → BytesPut (fields ns ++ newline ∷ []) old new at size
     → size ≡ length (fields ns) + 1
 line-size ns p = p .size-is ∙ length-append (fields ns) (newline ∷ [])
 

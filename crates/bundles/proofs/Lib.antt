@@ -1,10 +1,10 @@
 pub mod Bytes
 pub mod Readable
-pub mod Digits
+pub mod DigitsPut
 pub mod Decimal
 pub mod FieldsWritten
-pub mod Fields
-pub mod Counts
+pub mod ListedFields
+pub mod FieldsPut
 pub mod Lines
 pub mod WholeListing
 pub mod ListingOutcome

@@ -10,7 +10,7 @@ use Rattle.outcomes.specs.declared.Answer.{Answer}
 use Rattle.outcomes.specs.Listing.{decimal, decimalThen, lines, listingOf}
 use Rattle.bundles.specs.FirstLine.{acceptedLine}
 use Rattle.bundles.proofs.Decimal.{width, width-last, width-more}
-use Rattle.bundles.proofs.Fields.{sizeOf, fields-size}
+use Rattle.bundles.proofs.ListedFields.{sizeOf, fields-size}
 use Rattle.bundles.proofs.Lines.{length-lines}
 use Rattle.bundles.proofs.WholeListing.{length-refused, length-accepted}
 use Rattle.bundles.proofs.ListingOutcome.{listing-refused, listing-accepted}
@@ -29,7 +29,7 @@ unfolding decimalThen
 width-short zero k n h = omega arith
 width-short (suc f) k n h = width-step f k n (n / 10) refl h (λ j. width-short f j (n / 10))
 
-pub decimal-short : (k n : ℕ) → n < 10 ^ suc k → length (decimal n) ≤ suc k
+decimal-short : (k n : ℕ) → n < 10 ^ suc k → length (decimal n) ≤ suc k
 unfolding decimal
 decimal-short k n h = width-short 20 k n h
 

@@ -1,3 +1,3 @@
 pub mod Digits
-pub mod Puts
+pub mod BytesPut
 pub mod FirstLine

@@ -5,7 +5,7 @@ ghost use Prim.Native.Nat.{_+_, _*_, _≤_, _<_};
 ghost use lib.ListN.{length as len, take};
 ghost use lib.Seq.{sets};
 ghost use Rattle.outcomes.specs.Listing.{newline, fields, lines, writtenTo, listingOutcome};
-ghost use Rattle.bundles.specs.Puts.{Puts};
+ghost use Rattle.bundles.specs.BytesPut.{BytesPut};
 ghost use Rattle.bundles.specs.FirstLine.{refusedLine, acceptedLine};
 use crate::numerals::digit_count;
 use crate::numerals::put_field;
@@ -34,7 +34,7 @@ fn counts_size(counts: [u32; 10]) -> usize
 // writes the counts, a space after each but the last, which ends the line; answers how many bytes
 fn put_counts(counts: [u32; 10], text: &mut [u8], at: usize) -> usize
     requires { ⌜ at + (len (fields counts) + 1) ≤ len (now text) ⌝ }
-    ensures { λ r. ⌜ Puts (fields counts ++ newline ∷ []) (now (text .entry)) (now (text .exit)) at r ⌝ }
+    ensures { λ r. ⌜ BytesPut (fields counts ++ newline ∷ []) (now (text .entry)) (now (text .exit)) at r ⌝ }
 {
     let mut size: usize = 0;
     let mut i: usize = 0;

@@ -6,7 +6,7 @@ ghost use lib.ListN.{length};
 ghost use lib.Seq.{sets};
 ghost use Rattle.outcomes.specs.Listing.{decimal, hexadecimal, newline};
 ghost use Rattle.bundles.specs.Digits.{lastDigits};
-ghost use Rattle.bundles.specs.Puts.{Puts};
+ghost use Rattle.bundles.specs.BytesPut.{BytesPut};
 
 // how many decimal digits
 pub fn digit_count(n: u64) -> usize
@@ -41,7 +41,7 @@ fn put_digits(n: u64, base: u64, count: usize, text: &mut [u8], at: usize)
 // writes a number and the byte that ends its field; answers how many bytes
 pub fn put_field(n: u64, end: u8, text: &mut [u8], at: usize) -> usize
     requires { ⌜ at + (length (decimal n) + 1) ≤ length (now text) ⌝ }
-    ensures { λ r. ⌜ Puts (decimal n ++ end ∷ []) (now (text .entry)) (now (text .exit)) at r ⌝ }
+    ensures { λ r. ⌜ BytesPut (decimal n ++ end ∷ []) (now (text .entry)) (now (text .exit)) at r ⌝ }
 {
     let count = digit_count(n);
     put_digits(n, 10, count, text, at);

@@ -16,12 +16,12 @@ fn wide(n: u32) -> u64 {
     n as u64
 }
 
-fn put_number(n: u64) {
+fn write_number(n: u64) {
     io::print_decimal(STDOUT_FILENO, n);
 }
 
-fn put_field(n: u64) {
-    put_number(n);
+fn write_field(n: u64) {
+    write_number(n);
     io::write_all(STDOUT_FILENO, b" ");
 }
 
@@ -33,8 +33,8 @@ fn end_line() {
 pub fn check_line(types: &[u64], calls: &[u64], inputs: &[u64], term: &[u64]) {
     let r = check(types, calls, inputs, term);
     io::write_all(STDOUT_FILENO, b"check ");
-    put_field(wide(r.refusal));
-    put_number(r.ty);
+    write_field(wide(r.refusal));
+    write_number(r.ty);
     end_line();
 }
 
@@ -46,26 +46,26 @@ fn number_of(yes: bool) -> u64 {
 pub fn normal_line(types: &[u64], calls: &[u64], inputs: &[u64], term: &[u64]) {
     let r = is_normal(types, calls, inputs, term);
     io::write_all(STDOUT_FILENO, b"normal ");
-    put_field(wide(r.refusal));
-    put_number(number_of(r.normal));
+    write_field(wide(r.refusal));
+    write_number(number_of(r.normal));
     end_line();
 }
 
-fn put_counts(counts: [u32; 10]) {
+fn write_counts(counts: [u32; 10]) {
     let mut i: usize = 0;
     while i < 10 {
-        put_field(wide(counts[i]));
+        write_field(wide(counts[i]));
         i += 1;
     }
 }
 
-fn put_answer(answer: Answer, hash: u64) {
+fn write_answer(answer: Answer, hash: u64) {
     io::write_all(STDOUT_FILENO, b"normalize ");
-    put_field(wide(answer.refusal));
-    put_field(answer.ty);
-    put_field(answer.length as u64);
+    write_field(wide(answer.refusal));
+    write_field(answer.ty);
+    write_field(answer.length as u64);
     let counts = answer.counts;
-    put_counts(counts);
+    write_counts(counts);
     io::print_hex(STDOUT_FILENO, hash, 16);
     end_line();
 }
@@ -83,7 +83,7 @@ fn normalized(
 ) {
     let answer = normalize(types, calls, inputs, term, budget, output, first, second);
     let hash = digest(digest(digest(14695981039346656037, output), first), second);
-    put_answer(answer, hash);
+    write_answer(answer, hash);
 }
 
 // the buffers are fronts of these arrays

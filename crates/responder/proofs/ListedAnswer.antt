@@ -9,6 +9,7 @@ use lib.ListN.{length, take, drop, replicate, length-append}
 use borrow.Author.Tests.{le-leb}
 use Rattle.syntax.specs.Term.{Term}
 use Rattle.syntax.specs.Tables.{Tables, over}
+use Rattle.syntax.specs.Term.{Term}
 use Rattle.syntax.specs.Encoding.{size}
 use Rattle.typing.specs.Refusals.{Verdict, refused, accepted, TypedTerm, elaborate, normalizeLimit}
 use Rattle.reduction.specs.MayDrop.{mayDrop}
@@ -25,23 +26,25 @@ use Rattle.theory.proofs.ContractHolds.{take-front}
 use Rattle.bundles.proofs.Bytes.{length-words}
 
 -- the answer's length is that of the words
-abbrev Counted : Normalized → Type 0
-Counted r = r .answer .length ≡ length (r .words)
+abbrev WordsCounted : Normalized → Type 0
+WordsCounted r = r .answer .length ≡ length (r .words)
 
-reduced-counted : (A : ℕ) (p : Progress) → Counted (reducedTo A p)
+reduced-counted : (A : ℕ) (p : Progress) → WordsCounted (reducedTo A p)
 unfolding reducedTo size
 reduced-counted A (stopped n counts) = refl
 reduced-counted A (reached left u counts) = refl
 
-checked-counted : (pure : Term → Bool) (capacity : ℕ) (settings : Settings) (v : Verdict TypedTerm) → Counted (checkedTo pure capacity settings v)
+checked-counted : (pure : Term → Bool) (capacity : ℕ) (settings : Settings) (v : Verdict TypedTerm)
+    → WordsCounted (checkedTo pure capacity settings v)
 unfolding checkedTo
 checked-counted pure capacity settings (refused n) = refl
 checked-counted pure capacity settings (accepted x) = reduced-counted (x .type) (reduce pure capacity settings (x .term))
 
 normalized-counted : (capacity : ℕ) (settings : Settings) (tables : Tables) (words : List ℕ)
-    → Counted (normalizeWithin capacity settings tables words)
+    → WordsCounted (normalizeWithin capacity settings tables words)
 unfolding normalizeWithin
-normalized-counted capacity settings tables words = checked-counted (mayDrop (tables .calls)) capacity settings (elaborate normalizeLimit tables words)
+normalized-counted capacity settings tables words =
+    checked-counted (mayDrop (tables .calls)) capacity settings (elaborate normalizeLimit tables words)
 
 -- no more words are listed than counted
 listed-at-most : (a : Answer) → wordsListed a ≤ a .length
@@ -52,7 +55,7 @@ listed-at-most a = by-refusal (a .refusal) refl
     by-refusal (suc n) e = rw e (omega arith)
 
 -- listing from a buffer that starts with the words
-front-listed : (r : Normalized) (output text : List ℕ) → Counted r
+front-listed : (r : Normalized) (output text : List ℕ) → WordsCounted r
     → listingOutcome (r .answer) (overwrite (r .words) output) text ≡ writtenTo text (listed r)
 unfolding listingOutcome overwrite
 front-listed r output text e =
@@ -153,18 +156,18 @@ module _ (l : Lengths) (ws text : List ℕ) (told : Written) where
     read-responds h e = e ∙ ap (writtenTo text) (read-response h ∙ ap respondTo read)
 
 -- the words of a reading are all in the slice
-abbrev Fits : Reading → Type 0
-Fits r = total (r .lengths) ≤ length (r .words)
+abbrev ReadingFits : Reading → Type 0
+ReadingFits r = total (r .lengths) ≤ length (r .words)
 
 pub reading-fits : (bytes slice : List ℕ) (l : Lengths) (ws : List ℕ)
     → record { lengths = l; words = ws } ≡ readBundleOutcome bytes slice → total l ≤ length ws
 unfolding readBundleOutcome overwrite wordsAfter
-reading-fits bytes slice l ws e = subst Fits (sym e) (by-test (readable bytes (length slice)))
+reading-fits bytes slice l ws e = subst ReadingFits (sym e) (by-test (readable bytes (length slice)))
   where
     n : ℕ
     n = total (lengthsOf (headerOf bytes))
 
-    by-test : (b : Bool) → Fits (elim b [
+    by-test : (b : Bool) → ReadingFits (elim b [
       | false ↦ record { lengths = unreadable; words = slice }
       | true ↦ record { lengths = lengthsOf (headerOf bytes); words = overwrite (wordsAfter bytes) slice }
     ])

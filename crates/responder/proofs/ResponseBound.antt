@@ -27,7 +27,7 @@ use Rattle.theory.proofs.KnownTypes.{type-below}
 use Rattle.bundles.proofs.ListingBound.{listing-some, listing-fits}
 
 -- the numbers that are listed
-record Bounded (r : Normalized) : Type 0 where
+record BoundedAnswer (r : Normalized) : Type 0 where
   refusal : r .answer .refusal ≤ 12
   type : r .answer .ty < 1024
   length-answered : r .answer .length ≤ maxCapacity
@@ -35,12 +35,12 @@ record Bounded (r : Normalized) : Type 0 where
   ten : length (r .answer .counts) ≡ 10
   each : (i : ℕ) → getD (r .answer .counts) i 0 ≤ 1000000
 
-bounded-fits : (r : Normalized) → Bounded r → length (listed r) ≤ 139393
+bounded-fits : (r : Normalized) → BoundedAnswer r → length (listed r) ≤ 139393
 bounded-fits r b = listing-fits (r .answer) (r .words) (omega (arith, b .refusal)) (omega (arith, b .type)) (b .length-answered)
     (b .words) (b .ten) (λ i. omega (arith, b .each i))
 
 -- refused with counts of zero
-refused-bounded : (n : ℕ) → n ≤ 12 → Bounded (record { answer = unread n; words = [] })
+refused-bounded : (n : ℕ) → n ≤ 12 → BoundedAnswer (record { answer = unread n; words = [] })
 refused-bounded n h = record {
   refusal = h;
   type = omega arith;
@@ -50,40 +50,42 @@ refused-bounded n h = record {
   each = λ i. omega (arith, zeros 10 i);
 }
 
--- reduced, to a refusal or to a normal form
-reduced-bounded : (pure : Term → Bool) (A : ℕ) (t : Term) (p : Progress) → A < 1024 → Exact pure maxCapacity (programSettings .budget) t p
-    → length (countsOf p) ≡ 10 → ((i : ℕ) → getD (countsOf p) i 0 ≤ programSettings .budget) → Bounded (reducedTo A p)
-unfolding reducedTo size
-reduced-bounded pure A t (stopped n counts) h x ten each = record {
-  refusal = omega (arith, refusal-number pure maxCapacity x .1);
-  type = omega arith;
-  length-answered = omega arith;
-  words = omega arith;
-  ten = ten;
-  each = each;
-}
-reduced-bounded pure A t (reached left u counts) h x ten each = record {
-  refusal = omega arith;
-  type = h;
-  length-answered = reached-fits pure maxCapacity x;
-  words = reached-fits pure maxCapacity x;
-  ten = ten;
-  each = each;
-}
+module _ (pure : Term → Bool) where
+  -- reduced, to a refusal or to a normal form
+  reduced-bounded : (A : ℕ) (t : Term) (p : Progress) → A < 1024 → Exact pure maxCapacity (programSettings .budget) t p
+      → length (countsOf p) ≡ 10 → ((i : ℕ) → getD (countsOf p) i 0 ≤ programSettings .budget) → BoundedAnswer (reducedTo A p)
+  unfolding reducedTo size
+  reduced-bounded A t (stopped n counts) h x ten each = record {
+    refusal = omega (arith, refusal-number pure maxCapacity x .1);
+    type = omega arith;
+    length-answered = omega arith;
+    words = omega arith;
+    ten = ten;
+    each = each;
+  }
+  reduced-bounded A t (reached left u counts) h x ten each = record {
+    refusal = omega arith;
+    type = h;
+    length-answered = reached-fits pure maxCapacity x;
+    words = reached-fits pure maxCapacity x;
+    ten = ten;
+    each = each;
+  }
 
--- refused by a check, or reduced
-checked-bounded : (tables : Tables) (words : List ℕ) (v : Verdict TypedTerm) → Every (λ n. n ≤ 9) (refusalOf v)
-    → Verdicts (Passed normalizeLimit tables words) v → Bounded (checkedTo (mayDrop (tables .calls)) maxCapacity programSettings v)
-unfolding checkedTo
-checked-bounded tables words (refused n) h v = refused-bounded n (omega (arith, every-at n h refl))
-checked-bounded tables words (accepted x) h (passed p) = reduced-bounded (mayDrop (tables .calls)) (x .type) (x .term)
-    (reduce (mayDrop (tables .calls)) maxCapacity programSettings (x .term)) (type-below normalizeLimit tables words x p)
-    (reduce-exact (mayDrop (tables .calls)) maxCapacity programSettings (x .term)) (ten-counts (mayDrop (tables .calls)) maxCapacity programSettings (x .term))
-    (count-budget (mayDrop (tables .calls)) maxCapacity programSettings (x .term))
+  -- refused by a check, or reduced
+  checked-bounded : (tables : Tables) (words : List ℕ) (v : Verdict TypedTerm) → Every (λ n. n ≤ 9) (refusalOf v)
+      → Verdicts (Passed normalizeLimit tables words) v → BoundedAnswer (checkedTo pure maxCapacity programSettings v)
+  unfolding checkedTo
+  checked-bounded tables words (refused n) h v = refused-bounded n (omega (arith, every-at n h refl))
+  checked-bounded tables words (accepted x) h (passed p) =
+      let t = x .term in
+      reduced-bounded (x .type) t (reduce pure maxCapacity programSettings t) (type-below normalizeLimit tables words x p)
+      (reduce-exact pure maxCapacity programSettings t) (ten-counts pure maxCapacity programSettings t)
+      (count-budget pure maxCapacity programSettings t)
 
-normalized-bounded : (tables : Tables) (words : List ℕ) → Bounded (normalizeWithin maxCapacity programSettings tables words)
+normalized-bounded : (tables : Tables) (words : List ℕ) → BoundedAnswer (normalizeWithin maxCapacity programSettings tables words)
 unfolding normalizeWithin
-normalized-bounded tables words = checked-bounded tables words (elaborate normalizeLimit tables words)
+normalized-bounded tables words = checked-bounded (mayDrop (tables .calls)) tables words (elaborate normalizeLimit tables words)
     (refusal-below normalizeLimit tables words) (elaborated normalizeLimit tables words)
 
 -- a reading is refused with 12 or not at all
@@ -99,19 +101,19 @@ reading-refusal bytes slice = by-test (readable bytes (length slice))
     by-test true = omega arith
 
 -- what is written is the listing of an answer with bounded numbers
-record Lists (bytes : List ℕ) : Type 0 where
+record ListsAnswer (bytes : List ℕ) : Type 0 where
   result : Normalized
-  bounded : Bounded result
+  bounded : BoundedAnswer result
   is : bytes ≡ listed result
 
-reading-lists : (r : Reading) → r .lengths .refusal ≤ 12 → Lists (respondTo r)
+reading-lists : (r : Reading) → r .lengths .refusal ≤ 12 → ListsAnswer (respondTo r)
 unfolding respondTo
 reading-lists r h = by-refusal (r .lengths .refusal) h
   where
     normalized : Normalized
     normalized = normalizeWithin maxCapacity programSettings (tablesOf (r .lengths) (r .words)) (termOf (r .lengths) (r .words))
 
-    by-refusal : (n : ℕ) → n ≤ 12 → Lists (elim n [ zero ↦ listed normalized | suc m ↦ listingOf (unread (suc m)) [] ])
+    by-refusal : (n : ℕ) → n ≤ 12 → ListsAnswer (elim n [ zero ↦ listed normalized | suc m ↦ listingOf (unread (suc m)) [] ])
     by-refusal zero k = record {
       result = normalized;
       bounded = normalized-bounded (tablesOf (r .lengths) (r .words)) (termOf (r .lengths) (r .words));
@@ -123,7 +125,7 @@ reading-lists r h = by-refusal (r .lengths .refusal) h
       is = refl;
     }
 
-response-lists : (bytes : List ℕ) → Lists (response bytes)
+response-lists : (bytes : List ℕ) → ListsAnswer (response bytes)
 unfolding response
 response-lists bytes = reading-lists (readBundleOutcome bytes (replicate bundleWords 0)) (reading-refusal bytes (replicate bundleWords 0))
 

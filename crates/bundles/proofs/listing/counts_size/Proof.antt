@@ -4,7 +4,7 @@ use Prim.Native.Nat.{_-_}
 use native.Mathlib.Omega.{arith}
 use mathlib.Core.Path.{_≡_}
 use lib.ListN.{length}
-use Rattle.bundles.proofs.Fields.{Sizing, size-none, size-more, size-all}
+use Rattle.bundles.proofs.ListedFields.{Sizing, size-none, size-more, size-all}
 use Rattle.bundles.proofs.listing.counts_size.Statement.{statement}
 use Rattle.bundles.proofs.listing.counts_size.Tie as tie
 

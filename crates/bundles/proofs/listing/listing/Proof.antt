@@ -4,6 +4,9 @@ use borrow.Author.Needs.{needs}
 use Rattle.bundles.proofs.listing.listing.Statement.{statement}
 use Rattle.bundles.proofs.listing.listing.Tie as tie
 
+abbrev entry : tie.After-counts → tie.Start
+entry c = c .before .before .before
+
 pub listing-spec : {M : Type 1} → statement M
 listing-spec =
     tie.close
@@ -11,18 +14,13 @@ listing-spec =
     (λ c κs. search needs)
     (λ c. search needs)
     (λ c.
-    let args = c .before .before .before .before .before .before .before .before .args in
-    let if1 = c .before .before .before .before .if1 in
-    let list-refused = c .before .before .list-refused in
-    outcome-refused (args .answer) _ _ _ (if1 .taken) (list-refused .ensures))
-    (λ c.
-    let args = c .before .before .before .before .before .args in
-    outcome-short (args .answer) _ _ (c .before .if1 .left) (c .if2 .taken))
+    let p : tie.After-list-refused = search in
+    let t : tie.Then1 = search in
+    outcome-refused (entry (t .before) .args .answer) _ _ _ (t .if1 .taken) (p .list-refused .ensures))
+    (λ c. outcome-short (entry (c .before .before) .args .answer) _ _ (c .before .if1 .left) (c .if2 .taken))
     (λ c κs. search needs)
     (λ c. search needs)
     (λ c.
-    let args = c .before .before .before .before .before .before .before .before .before .args in
-    let if1 = c .before .before .before .before .before .if1 in
-    let if2 = c .before .before .before .before .if2 in
-    let list-accepted = c .before .before .list-accepted in
-    outcome-accepted (args .answer) _ _ _ (if1 .left) (if2 .left) (list-accepted .ensures)))
+    let p : tie.After-list-accepted = search in
+    let t : tie.Else2 = search in
+    outcome-accepted (entry (t .before .before) .args .answer) _ _ _ (t .before .if1 .left) (t .if2 .left) (p .list-accepted .ensures)))

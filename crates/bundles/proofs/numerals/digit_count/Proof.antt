@@ -1,12 +1,12 @@
 -- What is left after a division has one digit less.
 use borrow.Author.Needs.{needs}
 use Prim.Native.Nat.{_-_}
-use Rattle.bundles.proofs.Decimal.{Counting, count-start, count-more, count-all}
+use Rattle.bundles.proofs.Decimal.{DigitsCounted, count-start, count-more, count-all}
 use Rattle.bundles.proofs.numerals.digit_count.Statement.{statement}
 use Rattle.bundles.proofs.numerals.digit_count.Tie as tie
 
 abbrev Inv-loop : tie.InvT-loop
-Inv-loop n left₀ count₀ left count = Counting n count left
+Inv-loop n left₀ count₀ left count = DigitsCounted n count left
 
 abbrev μ-loop : tie.MeasureT-loop
 μ-loop n left₀ count₀ left count = left

@@ -8,16 +8,16 @@ use mathlib.Core.List.{List}
 use lib.ListN.{getD}
 use Rattle.outcomes.specs.Listing.{digit}
 use Rattle.words.proofs.PartCounts.{kinds-agree}
-use Rattle.bundles.proofs.Digits.{DigitsPut, digits-none, digits-more, digits-all}
+use Rattle.bundles.proofs.DigitsPut.{DigitsPut, digits-none, digits-more, digits-all}
 use Rattle.bundles.proofs.numerals.put_digits.Statement.{statement}
 use Rattle.bundles.proofs.numerals.put_digits.Tie as tie
 
 -- a table of the digits
-abbrev Tabled : List ℕ → Type 0
-Tabled table = (d : ℕ) → d < 16 → getD table d 0 ≡ digit d
+abbrev DigitTable : List ℕ → Type 0
+DigitTable table = (d : ℕ) → d < 16 → getD table d 0 ≡ digit d
 
 abbrev Inv-loop : tie.InvT-loop
-Inv-loop n base count text₀ at digits left₀ i₀ text left i = Tabled digits × DigitsPut base n count text₀ text at i left
+Inv-loop n base count text₀ at digits left₀ i₀ text left i = DigitTable digits × DigitsPut base n count text₀ text at i left
 
 abbrev μ-loop : tie.MeasureT-loop
 μ-loop n base count text₀ at digits left₀ i₀ text left i = i

@@ -1,12 +1,12 @@
 -- After i turns the first i words are written, and behind them stands what stood there.
 use borrow.Author.Needs.{needs}
 use Prim.Native.Nat.{_-_}
-use Rattle.bundles.proofs.Bytes.{Copying, copy-none, copy-word, copy-all}
+use Rattle.bundles.proofs.Bytes.{WordsCopied, copy-none, copy-word, copy-all}
 use Rattle.bundles.proofs.read.copy_words.Statement.{statement}
 use Rattle.bundles.proofs.read.copy_words.Tie as tie
 
 abbrev Inv-loop : tie.InvT-loop
-Inv-loop bytes words₀ n i₀ words i = Copying bytes words₀ words i n
+Inv-loop bytes words₀ n i₀ words i = WordsCopied bytes words₀ words i n
 
 abbrev μ-loop : tie.MeasureT-loop
 μ-loop bytes words₀ n i₀ words i = n - i

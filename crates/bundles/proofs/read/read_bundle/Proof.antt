@@ -1,11 +1,35 @@
--- Each test that fails is one conjunct of `readable`; after all five the words are copied.
+-- Each test that fails is one conjunct of `readable`, and refuses.
+--
+-- Why it is right: past the tests of the size the header is read (`headed`); past that of its low bits its lengths say how many words
+-- follow (`totalled`). After the two tests that are left these words are copied, and the lengths are the header's.
 use mathlib.Core.Path.{ap}
+use Prim.Native.Nat.{_≤_}
 use native.Mathlib.Omega.{arith}
 use Rattle.outcomes.specs.ReadBundle.{total}
-use Rattle.bundles.proofs.Readable.{too-long, too-short, low-bits, wrong-length, no-room, all-read}
+use Rattle.bundles.proofs.Readable.{Headed, Totalled, too-long, too-short, low-bits, wrong-length, no-room, all-read}
 use borrow.Author.Needs.{needs}
 use Rattle.bundles.proofs.read.read_bundle.Statement.{statement}
 use Rattle.bundles.proofs.read.read_bundle.Tie as tie
+
+abbrev entry : tie.After-word-at → tie.Start
+entry c = c .before .before .before .before .before
+
+abbrev header : tie.After-lengths-of → tie.After-word-at
+header c = c .before .before
+
+headed : (c : tie.After-word-at) → Headed (entry c .args .bytes .now) (c .word-at .result)
+headed c = record { few = c .before .before .if1 .left; some = c .before .if2 .left; header-is = c .word-at .ensures }
+
+totalled : (c : tie.After-lengths-of)
+    → Totalled (entry (header c) .args .bytes .now) (header c .word-at .result) (total (c .lengths-of .result))
+totalled c = record {
+  headed = headed (header c);
+  low-zero = omega (arith, c .before .if3 .left);
+  total-is = ap total (c .lengths-of .ensures .0);
+}
+
+few : (c : tie.After-lengths-of) → total (c .lengths-of .result) ≤ 32764
+few c = c .lengths-of .ensures .1
 
 pub read-bundle-spec : {M : Type 1} → statement M
 read-bundle-spec =
@@ -14,61 +38,26 @@ read-bundle-spec =
     (λ c κs. search needs)
     (λ c. too-long _ _ _ (c .refused .ensures) (c .before .if1 .taken))
     (λ c κs. search needs)
-    (λ c.
-    let if1 = c .before .before .if1 in
-    too-short _ _ (if1 .left) _ (c .refused2 .ensures) (c .before .if2 .taken))
+    (λ c. too-short _ _ _ (c .refused2 .ensures) (c .before .before .if1 .left) (c .before .if2 .taken))
     (λ c κs. search needs)
     (λ c κs. search needs)
-    (λ c.
-    let if1 = c .before .before .before .before .if1 in
-    let if2 = c .before .before .before .if2 in
-    let word-at = c .before .before .word-at in
-    low-bits _ _ (if1 .left) (if2 .left) _ (word-at .ensures) _ (c .refused3 .ensures) (c .before .if3 .taken))
+    (λ c. low-bits _ _ _ (c .refused3 .ensures) (headed (search)) (omega (arith, c .before .if3 .taken)))
     (λ c κs. search needs)
-    (λ c. omega (arith, c .before .lengths-of .ensures .1))
-    (λ c.
-    let lengths-of = c .before .before .lengths-of in
-    omega (arith, lengths-of .ensures .1))
-    (λ c.
-    let lengths-of = c .before .before .before .lengths-of in
-    omega (arith, lengths-of .ensures .1))
-    (λ c.
-    let lengths-of = c .before .before .before .lengths-of in
-    omega (arith, lengths-of .ensures .1))
-    (λ c.
-    let lengths-of = c .before .before .before .lengths-of in
-    omega (arith, lengths-of .ensures .1))
+    (λ c. omega (arith, few (search)))
+    (λ c. omega (arith, few (search)))
+    (λ c. omega (arith, few (search)))
+    (λ c. omega (arith, few (search)))
+    (λ c. omega (arith, few (search)))
     (λ c κs. search needs)
-    (λ c.
-    let if1 = c .before .before .before .before .before .before .before .before .before .if1 in
-    let if2 = c .before .before .before .before .before .before .before .before .if2 in
-    let word-at = c .before .before .before .before .before .before .before .word-at in
-    let if3 = c .before .before .before .before .before .before .if3 in
-    let lengths-of = c .before .before .before .before .before .lengths-of in
-    wrong-length _ _ (if1 .left) (if2 .left) _ (word-at .ensures) (if3 .left) _ (ap total (lengths-of .ensures .0)) _ (c .refused4 .ensures)
-    (c .before .if4 .taken))
+    (λ c. wrong-length _ _ (totalled (search)) _ (c .refused4 .ensures) (λ e. c .before .if4 .taken (omega (arith, e))))
     (λ c κs. search needs)
-    (λ c.
-    let if1 = c .before .before .before .before .before .before .before .before .before .before .if1 in
-    let if2 = c .before .before .before .before .before .before .before .before .before .if2 in
-    let word-at = c .before .before .before .before .before .before .before .before .word-at in
-    let if3 = c .before .before .before .before .before .before .before .if3 in
-    let lengths-of = c .before .before .before .before .before .before .lengths-of in
-    let if4 = c .before .before .if4 in
-    no-room _ _ (if1 .left) (if2 .left) _ (word-at .ensures) (if3 .left) _ (ap total (lengths-of .ensures .0)) (if4 .left) _
-    (c .refused5 .ensures) (c .before .if5 .taken))
-    (λ c κs.
-    let if4 = c .before .before .if4 in
-    (omega (arith, if4 .left), c .before .if5 .left))
+    (λ c. no-room _ _ (totalled (search)) (omega (arith, c .before .before .if4 .left)) _ (c .refused5 .ensures)
+    (omega (arith, c .before .if5 .taken)))
+    (λ c κs. (omega (arith, c .before .before .if4 .left), omega (arith, c .before .if5 .left)))
     (λ c. search needs)
     (λ c.
-    let if1 = c .before .before .before .before .before .before .before .before .before .before .before .before .before .if1 in
-    let if2 = c .before .before .before .before .before .before .before .before .before .before .before .before .if2 in
-    let word-at = c .before .before .before .before .before .before .before .before .before .before .before .word-at in
-    let if3 = c .before .before .before .before .before .before .before .before .before .before .if3 in
-    let lengths-of = c .before .before .before .before .before .before .before .before .before .lengths-of in
-    let if4 = c .before .before .before .before .before .if4 in
-    let if5 = c .before .before .before .before .if5 in
-    let copy-words = c .before .before .copy-words in
-    all-read _ _ (if1 .left) (if2 .left) _ (word-at .ensures) (if3 .left) _ (ap total (lengths-of .ensures .0)) (if4 .left) _ _
-    (lengths-of .ensures .0) (if5 .left) (copy-words .ensures)))
+    let p : tie.After-copy-words = search in
+    let passed : tie.Else5 = search in
+    let l : tie.After-lengths-of = search in
+    all-read _ _ (totalled l) (omega (arith, passed .before .if4 .left)) _ _ (l .lengths-of .ensures .0) (omega (arith, passed .if5 .left))
+    (p .copy-words .ensures)))

@@ -1,4 +1,5 @@
 -- Eight bytes are four pairs.
+use native.Mathlib.Omega.{arith}
 use Rattle.bundles.proofs.Bytes.{word-of-pairs}
 use borrow.Author.Needs.{needs}
 use Rattle.bundles.proofs.read.word_at.Statement.{statement}
@@ -22,7 +23,12 @@ word-at-spec =
     (λ c. search needs)
     (λ c. search needs)
     (λ c.
-    let pre = c .before .before .before .before .before .pre in
-    let pair-at2 = c .before .before .pair-at2 in
-    word-of-pairs _ _ pre _ _ _ _ (c .before .before .before .pair-at .ensures .0) (pair-at2 .ensures .0) (c .before .pair-at3 .ensures .0)
-    (c .pair-at4 .ensures .0)))
+    let third = c .before in
+    let second = third .before in
+    let first = second .before in
+    let s = first .before .before in
+    omega (
+      arith,
+      word-of-pairs (s .args .bytes .now) (s .args .at) (s .pre) _ _ _ _ (first .pair-at .ensures .0) (second .pair-at2 .ensures .0)
+          (third .pair-at3 .ensures .0) (c .pair-at4 .ensures .0),
+    )))

@@ -6,6 +6,6 @@ use lib.ListN.{length}
 use lib.Seq.{sets}
 
 -- these bytes are written from `at` on, so many
-pub record Puts (bytes old new : List ℕ) (at size : ℕ) : Type 0 where
+pub record BytesPut (bytes old new : List ℕ) (at size : ℕ) : Type 0 where
   pub new-is : new ≡ sets old at bytes
   pub size-is : size ≡ length bytes

@@ -23,7 +23,7 @@ size-cons : (n : ℕ) (ns : List ℕ) → sizeOf (n ∷ ns) ≡ length (decimal 
 unfolding sizeOf
 size-cons n ns = refl
 
-pub size-fields : (n : ℕ) (ns : List ℕ) → length (fields (n ∷ ns)) + 1 ≡ sizeOf (n ∷ ns)
+size-fields : (n : ℕ) (ns : List ℕ) → length (fields (n ∷ ns)) + 1 ≡ sizeOf (n ∷ ns)
 unfolding fields sizeOf
 size-fields n [] = omega arith
 size-fields n (m ∷ ns) =

@@ -7,8 +7,8 @@ use lib.ListN.{length, getD, drop, length-append}
 use lib.Seq.{sets, length-sets}
 use Rattle.words.proofs.Stretches.{Writing, write-none, write-next, write-all, write-room}
 use Rattle.outcomes.specs.Listing.{decimal, fields, space, newline}
-use Rattle.bundles.specs.Puts.{Puts}
-use Rattle.bundles.proofs.Fields.{fields-at, fields-last}
+use Rattle.bundles.specs.BytesPut.{BytesPut}
+use Rattle.bundles.proofs.ListedFields.{fields-at, fields-last}
 
 -- the line, and what is still to be written of it from the number at i on
 abbrev line : List ℕ → List ℕ
@@ -46,7 +46,7 @@ module _ {ns old new : List ℕ} {at size i : ℕ} (s : FieldsPut ns old new at 
         s .len,
       )
 
-  pub next-put : (new′ : List ℕ) (r : ℕ) → i + 1 < length ns → Puts (decimal n ++ space ∷ []) new new′ (at + size) r
+  pub next-put : (new′ : List ℕ) (r : ℕ) → i + 1 < length ns → BytesPut (decimal n ++ space ∷ []) new new′ (at + size) r
       → FieldsPut ns old new′ at (size + r) (i + 1)
   next-put new′ r h p = record {
     within = h;
@@ -70,8 +70,8 @@ module _ {ns old new : List ℕ} {at size i : ℕ} (s : FieldsPut ns old new at 
         s .len,
       )
 
-  pub last-put : (new′ : List ℕ) (r : ℕ) → i + 1 ≡ length ns → Puts (decimal n ++ newline ∷ []) new new′ (at + size) r
-      → Puts (line ns) old new′ at (size + r)
+  pub last-put : (new′ : List ℕ) (r : ℕ) → i + 1 ≡ length ns → BytesPut (decimal n ++ newline ∷ []) new new′ (at + size) r
+      → BytesPut (line ns) old new′ at (size + r)
   last-put new′ r h p =
       let w : (new′ ≡ sets old at (line ns)) × (size + r ≡ length (line ns)) =
       write-all (write-next (decimal n ++ newline ∷ []) [] (at + size) r (last h) refl (p .new-is) (p .size-is)) in
