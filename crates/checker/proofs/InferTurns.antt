@@ -1,5 +1,5 @@
 -- The turns of the inference, for whatever term the words begin with.
-use mathlib.Core.Path.{_≡_, refl, sym, _∙_, ap, ap₂, subst}
+use mathlib.Core.Path.{_≡_, refl, sym, _∙_, ap, subst}
 use mathlib.Core.Bool.{Bool, true, false}
 use mathlib.Core.List.{List, []}
 use mathlib.Core.Option.{Option, none}
@@ -10,18 +10,17 @@ use Rattle.syntax.specs.Words.{kindOf, numberOf, typeOf}
 use Rattle.syntax.specs.Kinds.{bindersAt}
 use Rattle.syntax.specs.Tables.{Tables, over}
 use Rattle.syntax.specs.Term.{Term}
-use Rattle.syntax.specs.Encoding.{size}
 use Rattle.syntax.specs.Parts.{partCount}
 use Rattle.words.specs.Fronts.{Holds, Starts, from}
 use Rattle.words.proofs.PartsAt.{first-from}
 use Rattle.typing.specs.Infer.{infer}
 use Rattle.checker.specs.Nodes.{nodeType, callType, leafType, typesTo, Enters}
-use Rattle.checker.specs.Answers.{scope, inferredOf, begunOf, Infers}
-use Rattle.checker.specs.declared.infer.Begun.{Begun}
-use Rattle.checker.specs.declared.infer.Begun.the-variants.{Has, Fails, Opens}
-use Rattle.checker.specs.declared.infer.Inferred.{Inferred}
-use Rattle.checker.specs.declared.infer.Inferred.the-variants.{Typed, Untyped}
-use Rattle.checker.proofs.InferredTypes.{untyped-if, typed-if, begun-has, begun-opens, begun-fails}
+use Rattle.checker.specs.Answers.{scope, inferredOf, startOf, Infers}
+use Rattle.checker.specs.declared.infer.PartStart.{PartStart}
+use Rattle.checker.specs.declared.infer.PartStart.the-variants.{Has, Fails, Node}
+use Rattle.checker.specs.declared.node_type.Inferred.{Inferred}
+use Rattle.checker.specs.declared.node_type.Inferred.the-variants.{Typed, Untyped}
+use Rattle.checker.proofs.InferredTypes.{untyped-if, typed-if, start-has, start-node, start-fails}
 use Rattle.checker.proofs.KeptNodes.{kept-depth}
 use Rattle.checker.proofs.TypeSoFar.{Waits, Ended, begins}
 use Rattle.checker.proofs.PartBegins.{waits-inside, waits-depth, begin-many, begin-fail, begin-has, begin-open}
@@ -69,7 +68,7 @@ module _ (types calls inputs words : List ℕ) where
     is-waiting e = subst (λ (x : Bool). Turn stack nodes at top depth x A) (sym e)
 
   untyped : ((t : Term) (rest : List ℕ) → Holds calls words t rest → infer tables t inputs ≡ none) → Infers tables inputs words Untyped
-  untyped e t rest h = ap (λ (o : Option ℕ). inferredOf o (size t)) (sym (e t rest h))
+  untyped e t rest h = ap inferredOf (sym (e t rest h))
 
   pub turn-first : (stack nodes : List ℕ) → Starts calls words → Waiting stack nodes 0 0 0
   turn-first stack nodes s = record { start = s; low = omega arith; stand = begins types calls inputs words stack nodes }
@@ -102,30 +101,30 @@ module _ (types calls inputs words : List ℕ) where
         }
 
     -- what `begin` answers of the slice that starts with the part
-    module _ (r : Begun) (e : r ≡ begunOf (partCount calls (getD (from words at) 0 0))
+    module _ (r : PartStart) (e : r ≡ startOf (partCount calls (getD (from words at) 0 0))
         (leafType (over [] calls []) (scope inputs stack depth) (getD (from words at) 0 0))) where
-      answer : r ≡ begunOf (partCount calls w) (leafType tables (scope inputs stack depth) w)
+      answer : r ≡ startOf (partCount calls w) (leafType tables (scope inputs stack depth) w)
       unfolding leafType callType
-      answer = e ∙ ap (λ (x : ℕ). begunOf (partCount calls x) (leafType tables (scope inputs stack depth) x)) (first-from words at)
+      answer = e ∙ ap (λ (x : ℕ). startOf (partCount calls x) (leafType tables (scope inputs stack depth) x)) (first-from words at)
 
       pub turn-fail : r ≡ Fails → Infers tables inputs words Untyped
-      turn-fail u = begun-fails _ _ r answer (Infers tables inputs words Untyped) u
+      turn-fail u = start-fails _ _ r answer (Infers tables inputs words Untyped) u
           (λ z n. untyped λ t rest h. begin-fail types calls inputs words (g .stand t rest h) z n)
           (λ l. untyped λ t rest h. begin-many types calls inputs words (g .stand t rest h) l)
 
       pub turn-leaf : (A : ℕ) → r ≡ Has A → Having stack nodes (at + 1) top depth A
       turn-leaf A u =
-          let (z, n) = begun-has _ _ r answer A u in
+          let (z, n) = start-has _ _ r answer A u in
           record {
             start = g .start;
             low = omega (arith, g .low);
             stand = λ t rest h. begin-has types calls inputs words (g .stand t rest h) z A n;
           }
 
-      pub turn-open : r ≡ Opens → (S : List ℕ) (d : ℕ) → Enters types w 0 0 stack S depth d → top < length nodes → depth < length stack
+      pub turn-open : r ≡ Node → (S : List ℕ) (d : ℕ) → Enters types w 0 0 stack S depth d → top < length nodes → depth < length stack
           → Waiting S (set nodes top (at * 4)) (at + 1) (top + 1) d
       turn-open u S d enters room deep =
-          let (l, m) = begun-opens _ _ r answer u in
+          let (l, m) = start-node _ _ r answer u in
           record {
             start = g .start;
             low = omega (arith, g .low);
@@ -133,10 +132,9 @@ module _ (types calls inputs words : List ℕ) where
           }
 
   module _ {stack nodes : List ℕ} {at top depth A : ℕ} (g : Having stack nodes at top depth A) where
-    pub turn-whole : top ≡ 0 → Infers tables inputs words (Typed A at)
+    pub turn-whole : top ≡ 0 → Infers tables inputs words (Typed A)
     turn-whole z t rest h =
-        let (e, n) = give-whole types calls inputs words stack nodes at top depth A t rest (g .stand t rest h) z in
-        ap₂ {C = Inferred} inferredOf (sym e) n
+        ap inferredOf (sym (give-whole types calls inputs words stack nodes at top depth A t rest (g .stand t rest h) z))
 
     -- where the word of the innermost open node is, with room in the buffers; h is its head
     pub record Given (h : ℕ) : Type 0 where
@@ -189,22 +187,21 @@ module _ (types calls inputs words : List ℕ) where
       -- no part is left, and what `type_from` answers
       module _ (no-more : partCount calls v ≤ j + 1) (room : last < length nodes) (r : Inferred)
           (e : r ≡ inferredOf (nodeType (over types calls []) (kindOf v) (numberOf v) (typeOf v)
-          (typesTo (set nodes last A) base j)) 0) where
-        answered : r ≡ inferredOf (nodeType tables (kindOf v) (numberOf v) (typeOf v)
-            (typesTo (set nodes last A) base j)) 0
+          (typesTo (set nodes last A) base j))) where
+        answered : r ≡ inferredOf (nodeType tables (kindOf v) (numberOf v) (typeOf v) (typesTo (set nodes last A) base j))
         unfolding nodeType callType
         answered = e
 
         pub turn-untyped : r ≡ Untyped → Infers tables inputs words Untyped
         turn-untyped u = untyped λ t rest h.
             give-last types calls inputs words stack nodes at top depth A t rest (g .stand t rest h) some-open last p j le he l base outside
-            be oe no-more room .1 (untyped-if _ 0 r answered u)
+            be oe no-more room .1 (untyped-if _ r answered u)
 
-        pub turn-last : (B m : ℕ) → r ≡ Typed B m → Having stack (set nodes last A) at base outside B
-        turn-last B m u = record {
+        pub turn-last : (B : ℕ) → r ≡ Typed B → Having stack (set nodes last A) at base outside B
+        turn-last B u = record {
           start = g .start;
           low = omega (arith, g .low, be, le);
           stand = λ t rest h.
               give-last types calls inputs words stack nodes at top depth A t rest (g .stand t rest h) some-open last p j le he l base
-              outside be oe no-more room .0 B (typed-if _ 0 B m r answered u);
+              outside be oe no-more room .0 B (typed-if _ B r answered u);
         }

@@ -193,7 +193,7 @@ infer-spec =
     let h =
     turn-last _ _ _ _ (having (d .before)) (g .first) _ _ _ refl (halves _) (quarter _) _ _ refl
     (ap (λ (b : ℕ). l .depth - b) (bound (o .before))) (omega (arith, t .if3 .left, o .owed-count .ensures .0)) (omega (arith, g .noted)) _
-    (c .before .before .before .type-from .ensures) _ _ (c .before .r .given .1) in
+    (c .before .before .before .type-from .ensures) _ (c .before .r .given .1) in
     (is-having _ _ _ _ _ _ _ _ _ _ _ (d .before .if1 .taken) h, l .inv .1, length-set (l .nodes) (l .top - 1) (l .a) ∙ l .inv .2))
     (λ c.
     let g = begun (c .before) in
@@ -231,7 +231,7 @@ infer-spec =
     let b = c .before .before .before in
     let d = b .before .before .before in
     let l = d .before .loop in
-    (turn-leaf _ _ _ _ (waiting d) _ (b .begin .ensures) _ (c .before .begun .given .1), l .inv .1, l .inv .2))
+    (turn-leaf _ _ _ _ (waiting d) _ (b .begin .ensures) _ (c .before .start .given .1), l .inv .1, l .inv .2))
     (λ c. search needs)
     (λ c.
     let g = begun (c .before .before .before .before .before) in
