@@ -11,7 +11,7 @@ RULES, ROOTS, FIRES = "reduction/specs/Rules", "reduction/proofs/Roots", "reduct
 ALL, DISJOINT, REDUCTION = RULES + " " + ROOTS + " " + FIRES, "reduction/proofs/Disjoint", "reduction/specs/Reduction"
 CHECKS, VALUES, RUN, NORMALIZE = "typing/specs/Refusals", "syntax/specs/Values", "semantics/specs/Run", "outcomes/specs/Normalize"
 CHECK_2, CHECK_3 = "  _ ← require 2 (wellFormedTypes 0 (tables .types))\n", "  _ ← require 3 (distinct (tables .types))\n"
-CHECK_8, CHECK_9 = "  _ ← require 8 (scoped tables t)\n", "  A ← provide 9 (infer tables t (tables .inputs))\n"
+CHECK_8, CHECK_9 = "  _ ← scopePlace tables t\n", "  A ← typePlace tables t\n"
 CAPACITY = "min (min (length (b .output)) (min (length (b .scratch₁)) (length (b .scratch₂)))) maxCapacity"
 
 # Name, the crate that refuses, edits (files, old, new). Laws of `reduction` state the rules twice more, as families; the first six mutants

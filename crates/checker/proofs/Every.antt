@@ -1,10 +1,11 @@
 -- A test of every member of a list, member by member: what a loop over a table keeps.
-use mathlib.Core.Path.{_≡_, refl, sym, _∙_, ap}
+use mathlib.Core.Path.{_≡_, refl, sym, _∙_, ap, subst}
 use mathlib.Core.Bool.{Bool, true, false, _&&_, not}
 use mathlib.Core.List.{List, [], _∷_}
 use Prim.Native.Nat.{ℕ, _+_, _≤_, _<_}
 use native.Mathlib.Omega.{arith}
 use native.Mathlib.Numerals.{add-one}
+use lib.Dec.{T}
 use lib.ListN.{length, getD, drop, drop-of-length-le}
 use lib.Seq.{drop-cons}
 use borrow.Author.Tests.{not-true, not-false}
@@ -16,6 +17,9 @@ told-true e f = sym e ∙ not-false _ f
 
 pub told-false : {a b : Bool} → b ≡ a → not b ≡ true → a ≡ false
 told-false e f = sym e ∙ not-true _ f
+
+pub told : {a b : Bool} → b ≡ a → not b ≡ false → T a
+told e f = subst T (sym (told-true e f)) tt
 
 pub and-false : (b : Bool) → (b && false) ≡ false
 and-false true = refl

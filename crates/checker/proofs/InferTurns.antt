@@ -1,43 +1,44 @@
 -- The turns of the inference, for whatever term the words begin with.
-use mathlib.Core.Path.{_≡_, refl, sym, _∙_, ap, ap₂, subst}
+use mathlib.Core.Path.{_≡_, refl, sym, _∙_, ap, subst}
 use mathlib.Core.Bool.{Bool, true, false}
 use mathlib.Core.List.{List, []}
 use mathlib.Core.Option.{Option, none}
 use Prim.Native.Nat.{ℕ, _+_, _-_, _*_, _/_, _%_, _≤_, _<_}
 use native.Mathlib.Omega.{arith}
-use lib.ListN.{length, getD, set}
+use lib.Dec.{T}
+use lib.ListN.{length, length-set, getD, set}
 use Rattle.syntax.specs.Words.{kindOf, numberOf, typeOf}
 use Rattle.syntax.specs.Kinds.{bindersAt}
-use Rattle.syntax.specs.Tables.{Tables, over}
+use Rattle.syntax.specs.Tables.{over}
 use Rattle.syntax.specs.Term.{Term}
-use Rattle.syntax.specs.Encoding.{size}
 use Rattle.syntax.specs.Parts.{partCount}
 use Rattle.words.specs.Fronts.{Holds, Starts, from}
 use Rattle.words.proofs.PartsAt.{first-from}
 use Rattle.typing.specs.Infer.{infer}
 use Rattle.checker.specs.Nodes.{nodeType, callType, leafType, typesTo, Enters}
-use Rattle.checker.specs.Answers.{scope, inferredOf, begunOf, Infers}
-use Rattle.checker.specs.declared.infer.Begun.{Begun}
-use Rattle.checker.specs.declared.infer.Begun.the-variants.{Has, Fails, Opens}
-use Rattle.checker.specs.declared.infer.Inferred.{Inferred}
-use Rattle.checker.specs.declared.infer.Inferred.the-variants.{Typed, Untyped}
-use Rattle.checker.proofs.InferredTypes.{untyped-if, typed-if, begun-has, begun-opens, begun-fails}
+use Rattle.checker.specs.Answers.{scope, inferredOf, startOf, Infers}
+use Rattle.checker.specs.declared.infer.PartStart.{PartStart}
+use Rattle.checker.specs.declared.infer.PartStart.the-variants.{Has, Fails, Node}
+use Rattle.checker.specs.declared.node_type.Inferred.{Inferred}
+use Rattle.checker.specs.declared.node_type.Inferred.the-variants.{Typed, Untyped}
+use Rattle.checker.proofs.InferredTypes.{untyped-if, typed-if, start-has, start-node, start-fails}
 use Rattle.checker.proofs.KeptNodes.{kept-depth}
 use Rattle.checker.proofs.TypeSoFar.{Waits, Ended, begins}
 use Rattle.checker.proofs.PartBegins.{waits-inside, waits-depth, begin-many, begin-fail, begin-has, begin-open}
 use Rattle.checker.proofs.PartHasType.{head-inside, give-next, give-last, give-whole}
 
 -- a head in its two parts
-pub halves : (h : ℕ) → h ≡ h / 4 * 4 + h % 4
+halves : (h : ℕ) → h ≡ h / 4 * 4 + h % 4
 halves h = omega arith
 
-pub quarter : (h : ℕ) → h % 4 ≤ 3
+quarter : (h : ℕ) → h % 4 ≤ 3
 quarter h = omega arith
 
-module _ (types calls inputs words : List ℕ) where
-  abbrev tables : Tables
-  tables = over types calls inputs
+pub entered-length : {types : List ℕ} {w j F : ℕ} {stack S : List ℕ} {depth r : ℕ} → Enters types w j F stack S depth r
+    → length S ≡ length stack
+entered-length {stack = stack} {depth = depth} e = ap length (e .stacked) ∙ length-set stack depth _
 
+module _ (types calls inputs words : List ℕ) where
   -- the next word begins a part that is to be typed
   pub record Waiting (stack nodes : List ℕ) (at top depth : ℕ) : Type 0 where
     pub start : Starts calls words
@@ -51,50 +52,61 @@ module _ (types calls inputs words : List ℕ) where
     pub stand : (t : Term) (rest : List ℕ) → Holds calls words t rest → Ended types calls inputs words stack nodes at top depth A t rest
 
   -- the loop's invariant, by whether a type is at hand
-  abbrev pub Turn : (stack nodes : List ℕ) (at top depth : ℕ) → Bool → ℕ → Type 0
-  Turn stack nodes at top depth false A = Waiting stack nodes at top depth
-  Turn stack nodes at top depth true A = Having stack nodes at top depth A
+  pub record Turn (stack nodes : List ℕ) (at top depth : ℕ) (typed : Bool) (A : ℕ) : Type 0 where
+    pub having : typed ≡ true → Having stack nodes at top depth A
+    pub waiting : typed ≡ false → Waiting stack nodes at top depth
 
-  module _ (stack nodes : List ℕ) (at top depth A : ℕ) (b : Bool) where
-    pub as-having : b ≡ true → Turn stack nodes at top depth b A → Having stack nodes at top depth A
-    as-having e = subst (λ (x : Bool). Turn stack nodes at top depth x A) e
+  untyped : ((t : Term) (rest : List ℕ) → Holds calls words t rest → infer (over types calls inputs) t inputs ≡ none)
+      → Infers (over types calls inputs) inputs words Untyped
+  untyped e t rest h = ap inferredOf (sym (e t rest h))
 
-    pub is-having : b ≡ true → Having stack nodes at top depth A → Turn stack nodes at top depth b A
-    is-having e = subst (λ (x : Bool). Turn stack nodes at top depth x A) (sym e)
+module _ (words : List ℕ) where
+  -- where the next word is, and room in the buffers
+  pub record Room (stack nodes : List ℕ) (at top depth : ℕ) : Type 0 where
+    pub inside : at < length words
+    pub low : top ≤ at
+    pub short : length words ≤ 65536
+    pub stacked : depth < length stack
+    pub noted : top < length nodes
 
-    pub as-waiting : b ≡ false → Turn stack nodes at top depth b A → Waiting stack nodes at top depth
-    as-waiting e = subst (λ (x : Bool). Turn stack nodes at top depth x A) e
+  -- where the word of the innermost open node is, which part of it has the type, and room in the buffers
+  pub record Given (stack nodes : List ℕ) (top depth : ℕ) : Type 0 where
+    pub first : 1 ≤ top
+    pub place : getD nodes (top - 1) 0 / 4 < length words
+    pub few : getD nodes (top - 1) 0 % 4 ≤ 2
+    pub low : getD nodes (top - 1) 0 % 4 + 1 ≤ top
+    pub binders : bindersAt (kindOf (getD words (getD nodes (top - 1) 0 / 4) 0)) (getD nodes (top - 1) 0 % 4) ≤ depth
+    pub short : length words ≤ 65536
+    pub near : top + 1 ≤ length words
+    pub stacked : depth < length stack
+    pub noted : top + 2 < length nodes
 
-    pub is-waiting : b ≡ false → Waiting stack nodes at top depth → Turn stack nodes at top depth b A
-    is-waiting e = subst (λ (x : Bool). Turn stack nodes at top depth x A) (sym e)
+module _ {types calls inputs words : List ℕ} where
+  module _ {stack nodes : List ℕ} {at top depth A : ℕ} {typed : Bool} where
+    pub with-type : typed ≡ true → Having types calls inputs words stack nodes at top depth A
+        → Turn types calls inputs words stack nodes at top depth typed A
+    with-type e g = record { having = λ _. g; waiting = λ f. absurd (subst T (sym e ∙ f) tt) }
 
-  untyped : ((t : Term) (rest : List ℕ) → Holds calls words t rest → infer tables t inputs ≡ none) → Infers tables inputs words Untyped
-  untyped e t rest h = ap (λ (o : Option ℕ). inferredOf o (size t)) (sym (e t rest h))
+    pub with-part : typed ≡ false → Waiting types calls inputs words stack nodes at top depth
+        → Turn types calls inputs words stack nodes at top depth typed A
+    with-part e g = record { having = λ f. absurd (subst T (sym f ∙ e) tt); waiting = λ _. g }
 
-  pub turn-first : (stack nodes : List ℕ) → Starts calls words → Waiting stack nodes 0 0 0
-  turn-first stack nodes s = record { start = s; low = omega arith; stand = begins types calls inputs words stack nodes }
+  pub turn-first : {stack nodes : List ℕ} {A : ℕ} → Starts calls words → Turn types calls inputs words stack nodes 0 0 0 false A
+  turn-first {stack} {nodes} s = with-part refl
+      (record { start = s; low = omega arith; stand = begins types calls inputs words stack nodes })
 
-  module _ {stack nodes : List ℕ} {at top depth : ℕ} (g : Waiting stack nodes at top depth) where
+  module _ {stack nodes : List ℕ} {at top depth : ℕ} (g : Waiting types calls inputs words stack nodes at top depth) where
     abbrev w : ℕ
     w = getD words at 0
 
-    -- where the next word is, and room in the buffers
-    pub record Room : Type 0 where
-      pub inside : at < length words
-      pub deep : depth ≤ top
-      pub low : top ≤ at
-      pub short : length words ≤ 65536
-      pub stacked : depth < length stack
-      pub noted : top < length nodes
-
-    pub turn-room : length words ≤ 65536 → length words + 2 ≤ length stack → length words + 2 ≤ length nodes → Room
+    pub turn-room : length words ≤ 65536 → length words + 2 ≤ length stack → length words + 2 ≤ length nodes
+        → Room words stack nodes at top depth
     turn-room short stacked noted =
         let s = g .stand _ _ (g .start .holds) in
         let i = waits-inside types calls inputs words s in
         let d = waits-depth types calls inputs words s in
         record {
           inside = i;
-          deep = d;
           low = g .low;
           short = short;
           stacked = omega (arith, i, d, g .low, stacked);
@@ -102,61 +114,61 @@ module _ (types calls inputs words : List ℕ) where
         }
 
     -- what `begin` answers of the slice that starts with the part
-    module _ (r : Begun) (e : r ≡ begunOf (partCount calls (getD (from words at) 0 0))
+    module _ (r : PartStart) (e : r ≡ startOf (partCount calls (getD (from words at) 0 0))
         (leafType (over [] calls []) (scope inputs stack depth) (getD (from words at) 0 0))) where
-      answer : r ≡ begunOf (partCount calls w) (leafType tables (scope inputs stack depth) w)
+      answer : r ≡ startOf (partCount calls w) (leafType (over types calls inputs) (scope inputs stack depth) w)
       unfolding leafType callType
-      answer = e ∙ ap (λ (x : ℕ). begunOf (partCount calls x) (leafType tables (scope inputs stack depth) x)) (first-from words at)
+      answer = e ∙ ap (λ (x : ℕ). startOf (partCount calls x) (leafType (over types calls inputs) (scope inputs stack depth) x)) (first-from words at)
 
-      pub turn-fail : r ≡ Fails → Infers tables inputs words Untyped
-      turn-fail u = begun-fails _ _ r answer (Infers tables inputs words Untyped) u
-          (λ z n. untyped λ t rest h. begin-fail types calls inputs words (g .stand t rest h) z n)
-          (λ l. untyped λ t rest h. begin-many types calls inputs words (g .stand t rest h) l)
+      pub turn-fail : r ≡ Fails → Infers (over types calls inputs) inputs words Untyped
+      turn-fail u = start-fails _ _ r answer (Infers (over types calls inputs) inputs words Untyped) u
+          (λ z n. untyped types calls inputs words λ t rest h. begin-fail types calls inputs words (g .stand t rest h) z n)
+          (λ l. untyped types calls inputs words λ t rest h. begin-many types calls inputs words (g .stand t rest h) l)
 
-      pub turn-leaf : (A : ℕ) → r ≡ Has A → Having stack nodes (at + 1) top depth A
+      pub turn-leaf : (A : ℕ) → r ≡ Has A → Having types calls inputs words stack nodes (at + 1) top depth A
       turn-leaf A u =
-          let (z, n) = begun-has _ _ r answer A u in
+          let (z, n) = start-has _ _ r answer A u in
           record {
             start = g .start;
             low = omega (arith, g .low);
             stand = λ t rest h. begin-has types calls inputs words (g .stand t rest h) z A n;
           }
 
-      pub turn-open : r ≡ Opens → (S : List ℕ) (d : ℕ) → Enters types w 0 0 stack S depth d → top < length nodes → depth < length stack
-          → Waiting S (set nodes top (at * 4)) (at + 1) (top + 1) d
-      turn-open u S d enters room deep =
-          let (l, m) = begun-opens _ _ r answer u in
+      pub turn-open : r ≡ Node → Room words stack nodes at top depth → (S : List ℕ) (d : ℕ) → Enters types w 0 0 stack S depth d
+          → Waiting types calls inputs words S (set nodes top (at * 4)) (at + 1) (top + 1) d
+      turn-open u room S d enters =
+          let (l, m) = start-node _ _ r answer u in
           record {
             start = g .start;
             low = omega (arith, g .low);
-            stand = λ t rest h. begin-open types calls inputs words (g .stand t rest h) S d enters l m room deep;
+            stand = λ t rest h.
+                begin-open types calls inputs words (g .stand t rest h) S d enters l m (room .noted) (room .stacked);
           }
 
-  module _ {stack nodes : List ℕ} {at top depth A : ℕ} (g : Having stack nodes at top depth A) where
-    pub turn-whole : top ≡ 0 → Infers tables inputs words (Typed A at)
+  module _ {stack nodes : List ℕ} {at top depth A : ℕ} (g : Having types calls inputs words stack nodes at top depth A) where
+    pub turn-whole : top ≡ 0 → Infers (over types calls inputs) inputs words (Typed A)
     turn-whole z t rest h =
-        let (e, n) = give-whole types calls inputs words stack nodes at top depth A t rest (g .stand t rest h) z in
-        ap₂ {C = Inferred} inferredOf (sym e) n
+        ap inferredOf (sym (give-whole types calls inputs words stack nodes at top depth A t rest (g .stand t rest h) z))
 
-    -- where the word of the innermost open node is, with room in the buffers; h is its head
-    pub record Given (h : ℕ) : Type 0 where
-      pub first : 1 ≤ top
-      pub place : h / 4 < length words
-      pub few : h % 4 ≤ 2
-      pub low : h % 4 + 1 ≤ top
-      pub binders : bindersAt (kindOf (getD words (h / 4) 0)) (h % 4) ≤ depth
-      pub short : length words ≤ 65536
-      pub near : top + 1 ≤ length words
-      pub stacked : depth < length stack
-      pub noted : top + 2 < length nodes
+    -- the innermost open node: the last word of the nodes is its head, with its place and the part that has the type
+    abbrev last : ℕ
+    last = top - 1
+
+    abbrev place : ℕ
+    place = getD nodes last 0 / 4
+
+    abbrev j : ℕ
+    j = getD nodes last 0 % 4
+
+    abbrev v : ℕ
+    v = getD words place 0
 
     pub turn-given : 1 ≤ top → length words ≤ 65536 → length words + 2 ≤ length stack → length words + 2 ≤ length nodes
-        → Given (getD nodes (top - 1) 0)
+        → Given words stack nodes top depth
     turn-given l short stacked noted =
         let s = g .stand _ _ (g .start .holds) in
-        let h = getD nodes (top - 1) 0 in
-        let i =
-        head-inside types calls inputs words stack nodes at top depth A _ _ s l (top - 1) (h / 4) (h % 4) refl (halves h) (quarter h) in
+        let h = getD nodes last 0 in
+        let i = head-inside types calls inputs words stack nodes at top depth A _ _ s l last place j refl (halves h) (quarter h) in
         let d = kept-depth calls inputs words stack nodes (s .around) top depth (s .kept) in
         record {
           first = l;
@@ -170,41 +182,39 @@ module _ (types calls inputs words : List ℕ) where
           noted = omega (arith, s .here .inside, g .low, noted);
         }
 
-    module _ (some-open : 1 ≤ top) (last p j : ℕ) (le : last ≡ top - 1) (he : getD nodes last 0 ≡ p * 4 + j) (l : j ≤ 3)
-        (base outside : ℕ) (be : base ≡ last - j) (oe : outside ≡ depth - bindersAt (kindOf (getD words p 0)) j) where
-      abbrev v : ℕ
-      v = getD words p 0
-
-      pub turn-next : (S : List ℕ) (r : ℕ) → Enters types v (j + 1) (getD (set nodes last A) base 0) stack S outside r
-          → j + 1 < partCount calls v → top < length nodes → outside < length stack
-          → Waiting S (set (set nodes last A) top (getD nodes last 0 + 1)) at (top + 1) r
-      turn-next S r enters more room deep = record {
+    module _ (i : Given words stack nodes top depth) (outside : ℕ) (oe : outside ≡ depth - bindersAt (kindOf v) j) where
+      pub turn-next : (S : List ℕ) (r : ℕ) → Enters types v (j + 1) (getD (set nodes last A) (last - j) 0) stack S outside r
+          → j + 1 < partCount calls v
+          → Waiting types calls inputs words S (set (set nodes last A) top (getD nodes last 0 + 1)) at (top + 1) r
+      turn-next S r enters more = record {
         start = g .start;
         low = g .low;
         stand = λ t rest h.
-            give-next types calls inputs words stack nodes at top depth A t rest (g .stand t rest h) some-open last p j le he l base outside
-            be oe S r enters more room deep;
+            let head = getD nodes last 0 in
+            give-next types calls inputs words stack nodes at top depth A t rest (g .stand t rest h) (i .first) last place j refl
+            (halves head) (quarter head) (last - j) outside refl oe S r enters more (omega (arith, i .noted)) (omega (arith, oe, i .stacked));
       }
 
       -- no part is left, and what `type_from` answers
-      module _ (no-more : partCount calls v ≤ j + 1) (room : last < length nodes) (r : Inferred)
-          (e : r ≡ inferredOf (nodeType (over types calls []) (kindOf v) (numberOf v) (typeOf v)
-          (typesTo (set nodes last A) base j)) 0) where
-        answered : r ≡ inferredOf (nodeType tables (kindOf v) (numberOf v) (typeOf v)
-            (typesTo (set nodes last A) base j)) 0
+      module _ (no-more : partCount calls v ≤ j + 1) (r : Inferred)
+          (e : r ≡ inferredOf (nodeType (over types calls []) (kindOf v) (numberOf v) (typeOf v) (typesTo (set nodes last A) (last - j) j)))
+          where
+        answered : r ≡ inferredOf (nodeType (over types calls inputs) (kindOf v) (numberOf v) (typeOf v) (typesTo (set nodes last A) (last - j) j))
         unfolding nodeType callType
         answered = e
 
-        pub turn-untyped : r ≡ Untyped → Infers tables inputs words Untyped
-        turn-untyped u = untyped λ t rest h.
-            give-last types calls inputs words stack nodes at top depth A t rest (g .stand t rest h) some-open last p j le he l base outside
-            be oe no-more room .1 (untyped-if _ 0 r answered u)
+        pub turn-untyped : r ≡ Untyped → Infers (over types calls inputs) inputs words Untyped
+        turn-untyped u = untyped types calls inputs words λ t rest h.
+            let head = getD nodes last 0 in
+            give-last types calls inputs words stack nodes at top depth A t rest (g .stand t rest h) (i .first) last place j refl
+            (halves head) (quarter head) (last - j) outside refl oe no-more (omega (arith, i .noted)) .1 (untyped-if _ r answered u)
 
-        pub turn-last : (B m : ℕ) → r ≡ Typed B m → Having stack (set nodes last A) at base outside B
-        turn-last B m u = record {
+        pub turn-last : (B : ℕ) → r ≡ Typed B → Having types calls inputs words stack (set nodes last A) at (last - j) outside B
+        turn-last B u = record {
           start = g .start;
-          low = omega (arith, g .low, be, le);
+          low = omega (arith, g .low);
           stand = λ t rest h.
-              give-last types calls inputs words stack nodes at top depth A t rest (g .stand t rest h) some-open last p j le he l base
-              outside be oe no-more room .0 B (typed-if _ 0 B m r answered u);
+              let head = getD nodes last 0 in
+              give-last types calls inputs words stack nodes at top depth A t rest (g .stand t rest h) (i .first) last place j refl
+              (halves head) (quarter head) (last - j) outside refl oe no-more (omega (arith, i .noted)) .0 B (typed-if _ B r answered u);
         }

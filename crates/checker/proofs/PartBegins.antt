@@ -13,9 +13,9 @@ use Rattle.syntax.specs.Tables.{Tables, over}
 use Rattle.syntax.specs.Term.{Term, Terms, done, arg, node}
 use Rattle.syntax.specs.Parts.{partCount}
 use Rattle.syntax.specs.Shaped.{count, Shaped}
-use Rattle.syntax.proofs.Sizes.{sizeAll, size-arg, size-done, size-node, size-positive}
+use Rattle.syntax.proofs.Sizes.{size-arg, size-positive}
 use Rattle.words.specs.Joined.{joined}
-use Rattle.words.proofs.Joined.{size-joined, none-left}
+use Rattle.words.proofs.Joined.{none-left}
 use Rattle.words.proofs.Traversal.{front-of}
 use Rattle.words.proofs.PartsAt.{PartsAt, part-here, parts-open, first-from}
 use Rattle.typing.specs.Infer.{Context, infer}
@@ -101,14 +101,6 @@ module _ (types calls inputs words : List ℕ) where
       kept = g .kept;
       here = subst (λ (ts : Terms). PartsAt calls words (at + 1) (joined ts (behind (g .around))) rest) none-there
           (parts-open calls words (g .here));
-      sized = omega (
-        arith,
-        g .sized,
-        size-arg (g .part) (behind (g .around)),
-        size-node (g .part),
-        ap (λ (l : Terms). sizeAll l) none-there,
-        size-done,
-      );
       same = g .same ∙ ap (climb tables words (g .around)) (begin-leaf z ∙ e);
     }
       where
@@ -161,16 +153,6 @@ module _ (types calls inputs words : List ℕ) where
           part = v;
           here = subst (λ (ts : Terms). PartsAt calls words (at + 1) (joined ts (behind (g .around))) rest) e
               (parts-open calls words (g .here));
-          sized = omega (
-            arith,
-            g .sized,
-            size-arg (g .part) (behind (g .around)),
-            size-node (g .part),
-            ap (λ (l : Terms). sizeAll l) e,
-            size-arg v us,
-            size-arg v (joined us (behind (g .around))),
-            size-joined us (behind (g .around)),
-          );
           same = g .same ∙ ap (climb tables words (g .around)) (as-node no-variable few
               ∙ ap (λ (ts : Terms). inferParts tables (kindOf w) (typeOf w) Γ ts 0 (0 ∷ 0 ∷ 0 ∷ [])
               >>= nodeType tables (kindOf w) (numberOf w) (typeOf w)) e

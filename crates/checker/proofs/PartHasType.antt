@@ -11,10 +11,8 @@ use Rattle.syntax.specs.Words.{kindOf, numberOf, typeOf}
 use Rattle.syntax.specs.Kinds.{bindersAt}
 use Rattle.syntax.specs.Tables.{Tables, over}
 use Rattle.syntax.specs.Term.{Term, Terms, done, arg}
-use Rattle.syntax.specs.Encoding.{size}
 use Rattle.syntax.specs.Parts.{partCount}
 use Rattle.syntax.specs.Shaped.{count}
-use Rattle.syntax.proofs.Sizes.{sizeAll, size-done}
 use Rattle.words.specs.Joined.{joined}
 use Rattle.words.proofs.Joined.{none-left}
 use Rattle.words.proofs.PartsAt.{PartsAt}
@@ -52,7 +50,7 @@ module _ (types calls inputs words : List ℕ) where
 
     module _ (f : Open) (fs : List Open) (k : Kept calls inputs words stack nodes f top depth)
         (ks : AllKept calls inputs words stack nodes fs (f .base) (f .depth))
-        (here : PartsAt calls words at (joined (f .later) (behind fs)) rest) (sized : at + sizeAll (joined (f .later) (behind fs)) ≡ size t)
+        (here : PartsAt calls words at (joined (f .later) (behind fs)) rest)
         (same : infer tables t inputs ≡ climb tables words (f ∷ fs) (some A)) where
       abbrev w : ℕ
       w = getD words (f .place) 0
@@ -116,7 +114,6 @@ module _ (types calls inputs words : List ℕ) where
             );
             part = v;
             here = subst (λ (ts : Terms). PartsAt calls words at (joined ts (behind fs)) rest) e here;
-            sized = ap (λ (ts : Terms). at + sizeAll (joined ts (behind fs))) (sym e) ∙ sized;
             same = same
                 ∙ ap (λ (ts : Terms). climb tables words fs (withPart tables words w (f .context) ts (f .part) (f .found) (some A))) e
                 ∙ ap (λ (Δ : Context). climb tables words fs
@@ -142,7 +139,6 @@ module _ (types calls inputs words : List ℕ) where
           around = fs;
           kept = kept-node calls inputs words stack nodes fs (f .base) (f .depth) last A (omega arith) ks;
           here = subst (λ (ts : Terms). PartsAt calls words at (joined ts (behind fs)) rest) all-typed here;
-          sized = ap (λ (ts : Terms). at + sizeAll (joined ts (behind fs))) (sym all-typed) ∙ sized;
           same = of-node ∙ ap (climb tables words fs) e;
         },
         λ e. of-node ∙ ap (climb tables words fs) e ∙ climb-none tables words fs,
@@ -163,17 +159,16 @@ module _ (types calls inputs words : List ℕ) where
       kept : Kept calls inputs words stack nodes self top depth
       all-kept : AllKept calls inputs words stack nodes others (self .base) (self .depth)
       here : PartsAt calls words at (joined (self .later) (behind others)) rest
-      sized : at + sizeAll (joined (self .later) (behind others)) ≡ size t
       same : infer tables t inputs ≡ climb tables words (self ∷ others) (some A)
 
     innermost : Ended types calls inputs words stack nodes at top depth A t rest → 1 ≤ top → Innermost
     unfolding AllKept behind climb
-    innermost g l = go (g .around) (g .kept) (g .here) (g .sized) (g .same)
+    innermost g l = go (g .around) (g .kept) (g .here) (g .same)
       where
         go : (fs : List Open) → AllKept calls inputs words stack nodes fs top depth → PartsAt calls words at (behind fs) rest
-            → at + sizeAll (behind fs) ≡ size t → infer tables t inputs ≡ climb tables words fs (some A) → Innermost
-        go [] k h z e = absurd (omega (arith, l, k .0))
-        go (f ∷ fs) (k, ks) h z e = record { self = f; others = fs; kept = k; all-kept = ks; here = h; sized = z; same = e }
+            → infer tables t inputs ≡ climb tables words fs (some A) → Innermost
+        go [] k h e = absurd (omega (arith, l, k .0))
+        go (f ∷ fs) (k, ks) h e = record { self = f; others = fs; kept = k; all-kept = ks; here = h; same = e }
 
     -- its head says where its word is and which part has the type
     module _ (g : Ended types calls inputs words stack nodes at top depth A t rest) (some-open : 1 ≤ top) (last p j : ℕ)
@@ -224,18 +219,17 @@ module _ (types calls inputs words : List ℕ) where
             (subst (λ (n : ℕ). P n (f .base) (f .place) (f .part) (f .depth)) last-is x))))
 
         pub give-next : Nexts last base p j outside
-        give-next = moved Nexts (nexts f (i .others) (i .kept) (i .all-kept) (i .here) (i .sized) (i .same))
+        give-next = moved Nexts (nexts f (i .others) (i .kept) (i .all-kept) (i .here) (i .same))
 
         pub give-last : Ends last base p j outside
-        give-last = moved Ends (ends f (i .others) (i .kept) (i .all-kept) (i .here) (i .sized) (i .same))
+        give-last = moved Ends (ends f (i .others) (i .kept) (i .all-kept) (i .here) (i .same))
 
     -- none is: the type is the whole term's
-    pub give-whole : Ended types calls inputs words stack nodes at top depth A t rest → top ≡ 0
-        → (infer tables t inputs ≡ some A) × (at ≡ size t)
-    unfolding AllKept behind climb
-    give-whole g z = go (g .around) (g .kept) (g .sized) (g .same)
+    pub give-whole : Ended types calls inputs words stack nodes at top depth A t rest → top ≡ 0 → infer tables t inputs ≡ some A
+    unfolding AllKept climb
+    give-whole g z = go (g .around) (g .kept) (g .same)
       where
-        go : (fs : List Open) → AllKept calls inputs words stack nodes fs top depth → at + sizeAll (behind fs) ≡ size t
-            → infer tables t inputs ≡ climb tables words fs (some A) → (infer tables t inputs ≡ some A) × (at ≡ size t)
-        go [] k s e = (e, omega (arith, s, size-done))
-        go (f ∷ fs) (k, ks) s e = absurd (omega (arith, k .ends, z))
+        go : (fs : List Open) → AllKept calls inputs words stack nodes fs top depth
+            → infer tables t inputs ≡ climb tables words fs (some A) → infer tables t inputs ≡ some A
+        go [] k e = e
+        go (f ∷ fs) (k, ks) e = absurd (omega (arith, k .ends, z))

@@ -1,6 +1,6 @@
 -- Variables in scope, node by node: while the nodes passed are in scope, the term is if the row ahead is.
 use mathlib.Core.Path.{_≡_, refl, sym, _∙_, ap, ap₂}
-use mathlib.Core.Bool.{Bool, true, false, _&&_, cond, and-true, and-assoc}
+use mathlib.Core.Bool.{Bool, true, false, _&&_, and-true, and-assoc}
 use mathlib.Core.List.{List}
 use Prim.Native.Nat.{ℕ, suc, _+_, _-_, _≤_}
 use native.Mathlib.Omega.{arith}
@@ -12,11 +12,8 @@ use lib.Dec.{eqb}
 use Rattle.syntax.specs.Maybe.{given}
 use Rattle.syntax.specs.Kinds.{bindersAt}
 use Rattle.syntax.specs.Term.{Term, Terms, var, call, lam, app, bind, pair, fst, snd, inl, inr, case, done, arg, node, asVar}
-use Rattle.syntax.specs.Encoding.{size}
 use Rattle.syntax.specs.Parts.{partCount}
 use Rattle.syntax.specs.Shaped.{count}
-use Rattle.syntax.proofs.Nodes.{words-of}
-use Rattle.syntax.proofs.Sizes.{size-arg, size-done}
 use Rattle.words.specs.Fronts.{Starts}
 use Rattle.words.specs.Reach.{outer, inner}
 use Rattle.words.specs.Depths.{Opens}
@@ -26,16 +23,6 @@ use Rattle.words.proofs.Rows.{one-starts, one-holds}
 use Rattle.typing.specs.TermChecks.{below, scopedAt}
 use Rattle.typing.proofs.ScopedNode.{scopedParts, scoped-node}
 use Rattle.checker.specs.Answers.{variableOf, Scopes}
-
--- what the answer for one term tells
-pub scoped-if : (b : Bool) (u : Term) (l : ℕ) → l ≡ cond b (size u) 0 → (l ≡ 0 → ⊥) → b ≡ true
-scoped-if true u l e z = refl
-scoped-if false u l e z = absurd (z e)
-
-pub unscoped-if : (b : Bool) (u : Term) (l : ℕ) → l ≡ cond b (size u) 0 → l ≡ 0 → b ≡ false
-unfolding size
-unscoped-if true u l e z = absurd (omega (arith, words-of u))
-unscoped-if false u l e z = refl
 
 -- the terms of a row under one number of binders and inputs
 unfoldable pub scopedAll : Terms → ℕ → Bool
@@ -108,12 +95,11 @@ module _ {calls words p : List ℕ} {m owed at : ℕ} (g : Scan calls words p m 
   scan-inside = march-inside calls words (g .going)
 
   -- no term is owed
-  pub scan-end : owed ≡ 0 → Scopes calls m words at
+  pub scan-end : owed ≡ 0 → Scopes calls m words true
   unfolding scopedAll ahead
   scan-end z t rest h =
       let e = march-end calls words (g .going) z (arg t done) rest (one-holds h) in
-      let l : at ≡ size t = omega (arith, e .0, size-arg t done, size-done) in
-      l ∙ ap (λ (b : Bool). cond b (size t) 0) (sym (sym (and-true (scopedAt m t)) ∙ e .1))
+      sym (sym (and-true (scopedAt m t)) ∙ e .1)
 
   module _ (lt : 1 ≤ owed) where
     abbrev under : ℕ
@@ -135,11 +121,11 @@ module _ {calls words p : List ℕ} {m owed at : ℕ} (g : Scan calls words p m 
         ∙ ap (λ (x : Bool). x && ahead inside p (v .later)) (scoped-binding under (v .term) ∙ ap (λ (x : Bool). x && parts) own)
 
     -- a variable is out of scope
-    pub scan-out : below under (variableOf (getD words at 0)) ≡ false → Scopes calls m words 0
+    pub scan-out : below under (variableOf (getD words at 0)) ≡ false → Scopes calls m words false
     unfolding scopedAll
     scan-out e t rest h =
         let v = visit calls words (g .going) lt (arg t done) rest (one-holds h) in
-        ap (λ (b : Bool). cond b (size t) 0) (sym (sym (and-true (scopedAt m t)) ∙ at-node v false e))
+        sym (sym (and-true (scopedAt m t)) ∙ at-node v false e)
 
     module _ (far : m + length words ≤ 65536) where
       -- the depths of the node's parts have room

@@ -9,9 +9,9 @@ use Rattle.syntax.specs.Words.{kindOf, typeOf}
 use Rattle.syntax.specs.Kinds.{bindersAt}
 use Rattle.syntax.specs.Tables.{Tables, over}
 use Rattle.syntax.specs.Term.{Term, done, arg}
-use Rattle.syntax.specs.Encoding.{encode, size}
+use Rattle.syntax.specs.Encoding.{encode}
 use Rattle.syntax.specs.Shaped.{Shaped}
-use Rattle.syntax.proofs.Sizes.{sizeAll, size-arg, size-done}
+use Rattle.syntax.proofs.Sizes.{size-arg, size-done}
 use Rattle.words.specs.Fronts.{Holds}
 use Rattle.words.proofs.Traversal.{fits}
 use Rattle.words.proofs.PartsAt.{PartsAt}
@@ -40,7 +40,6 @@ module _ (types calls inputs words : List ℕ) where
     pub kept : AllKept calls inputs words stack nodes around top depth
     pub part : Term
     pub here : PartsAt calls words at (arg part (behind around)) rest
-    pub sized : at + sizeAll (arg part (behind around)) ≡ size t
     pub same : infer tables t inputs ≡ climb tables words around (infer tables part (scope inputs stack depth))
 
   pub entered : (w j F : ℕ) (stack S : List ℕ) (depth r : ℕ) {nodes : List ℕ} {at top : ℕ} {t : Term} {rest : List ℕ}
@@ -56,7 +55,6 @@ module _ (types calls inputs words : List ℕ) where
     pub around : List Open
     pub kept : AllKept calls inputs words stack nodes around top depth
     pub here : PartsAt calls words at (behind around) rest
-    pub sized : at + sizeAll (behind around) ≡ size t
     pub same : infer tables t inputs ≡ climb tables words around (some A)
 
   -- at the start
@@ -71,6 +69,5 @@ module _ (types calls inputs words : List ℕ) where
       here = h .is ∙ ap (λ (l : List ℕ). l ++ rest) (sym (append-nil (encode t)));
       inside = omega (arith, fits h, size-arg t done, size-done);
     };
-    sized = omega (arith, size-arg t done, size-done);
     same = refl;
   }

@@ -19,7 +19,8 @@ pub record Accepts (P : TypedTerm → Type 0) (v : Verdict TypedTerm) (A : ℕ) 
   pub type : typed .type ≡ A
   pub passed : P typed
 
-accepts : {P : TypedTerm → Type 0} (v : Verdict TypedTerm) (r : Checked) → Verdicts P v → r ≡ checkedOf v → r .refusal ≡ 0 → Accepts P v (r .ty)
+accepts : {P : TypedTerm → Type 0} (v : Verdict TypedTerm) (r : Checked) → Verdicts P v → r ≡ checkedOf v → r .refusal ≡ 0
+    → Accepts P v (r .ty)
 accepts v r (refusal n) e z = absurd (omega (arith, ap (λ (x : Checked). x .refusal) e))
 accepts v r (passed {x = x} p) e z = record { typed = x; is = refl; type = sym (ap (λ (y : Checked). y .ty) e); passed = p }
 

@@ -10,14 +10,13 @@ use Rattle.syntax.specs.Maybe.{given}
 use Rattle.syntax.specs.Words.{kindOf, numberOf}
 use Rattle.syntax.specs.Tables.{Tables}
 use Rattle.syntax.specs.Term.{Term}
-use Rattle.syntax.specs.Encoding.{size}
 use Rattle.words.specs.Fronts.{Holds}
 use Rattle.typing.specs.Infer.{Context, infer}
 use Rattle.typing.specs.TermChecks.{scopedAt}
-use Rattle.checker.specs.declared.infer.Begun.{Begun}
-use Rattle.checker.specs.declared.infer.Begun.the-variants.{Has, Fails, Opens}
-use Rattle.checker.specs.declared.infer.Inferred.{Inferred}
-use Rattle.checker.specs.declared.infer.Inferred.the-variants.{Typed, Untyped}
+use Rattle.checker.specs.declared.infer.PartStart.{PartStart}
+use Rattle.checker.specs.declared.infer.PartStart.the-variants.{Has, Fails, Node}
+use Rattle.checker.specs.declared.node_type.Inferred.{Inferred}
+use Rattle.checker.specs.declared.node_type.Inferred.the-variants.{Typed, Untyped}
 
 -- 7: whether the first part is all of the words
 abbrev pub wholeOf : Option ℕ → ℕ → Bool
@@ -29,29 +28,29 @@ unfoldable pub scope : List ℕ → List ℕ → ℕ → Context
 scope inputs stack zero = inputs
 scope inputs stack (suc depth) = getD stack depth 0 ∷ scope inputs stack depth
 
--- 9: a type, with a number of words
-abbrev pub inferredOf : Option ℕ → ℕ → Inferred
-inferredOf none n = Untyped
-inferredOf (some A) n = Typed A n
+-- 9: a type, if there is one
+abbrev pub inferredOf : Option ℕ → Inferred
+inferredOf none = Untyped
+inferredOf (some A) = Typed A
 
 -- a part with no parts, from the type that it has
-abbrev pub knownOf : Option ℕ → Begun
+abbrev pub knownOf : Option ℕ → PartStart
 knownOf none = Fails
 knownOf (some A) = Has A
 
--- a part of n parts as it begins, from the type that it has if n is zero
-unfoldable pub begunOf : ℕ → Option ℕ → Begun
-begunOf n o = cond (eqb n 0) (knownOf o) (cond (leb n 3) Opens Fails)
+-- how a part of n parts starts, from the type that it has if n is zero
+unfoldable pub startOf : ℕ → Option ℕ → PartStart
+startOf n o = cond (eqb n 0) (knownOf o) (cond (leb n 3) Node Fails)
 
--- for whatever term the words begin with: its type in a context, with its number of words
+-- for whatever term the words begin with: its type in a context
 abbrev pub Infers : Tables → Context → List ℕ → Inferred → Type 0
 Infers tables Γ words r =
-    (t : Term) (rest : List ℕ) → Holds (tables .calls) words t rest → r ≡ inferredOf (infer tables t Γ) (size t)
+    (t : Term) (rest : List ℕ) → Holds (tables .calls) words t rest → r ≡ inferredOf (infer tables t Γ)
 
 -- the number in a word that is a variable's
 abbrev pub variableOf : ℕ → Option ℕ
 variableOf w = given (eqb (kindOf w) 0) (numberOf w)
 
--- for whatever term the words begin with: its number of words if its variables are in scope, and else 0
-abbrev pub Scopes : List ℕ → ℕ → List ℕ → ℕ → Type 0
-Scopes calls m words r = (t : Term) (rest : List ℕ) → Holds calls words t rest → r ≡ cond (scopedAt m t) (size t) 0
+-- for whatever term the words begin with: whether its variables are in scope
+abbrev pub Scopes : List ℕ → ℕ → List ℕ → Bool → Type 0
+Scopes calls m words r = (t : Term) (rest : List ℕ) → Holds calls words t rest → r ≡ scopedAt m t

@@ -11,8 +11,8 @@ use Rattle.syntax.specs.Words.{leftOf, rightOf, kindOf, numberOf, typeOf}
 use Rattle.syntax.specs.Tables.{Tables, arrow, product, sum, components, signature, arity}
 use Rattle.syntax.specs.Kinds.{usesType, bindersAt}
 use Rattle.typing.specs.Infer.{Context, equal}
-use Rattle.checker.specs.declared.infer.Components.{Components}
-use Rattle.checker.specs.declared.infer.Components.the-variants.{Of, Missing}
+use Rattle.checker.specs.declared.node_type.Components.{Components}
+use Rattle.checker.specs.declared.node_type.Components.the-variants.{Of, Missing}
 
 -- the two parts of a type, as the code answers them
 abbrev pub componentsOf : Option (ℕ × ℕ) → Components

@@ -1,27 +1,26 @@
--- The first six places of the checks, those asked before there is a term, by the number of the first that fails.
-use Prim.Native.Nat.{ℕ, suc}
-use mathlib.Core.Bool.{Bool, true, false}
-use mathlib.Core.List.{List, [], _∷_}
+-- What the functions of the places answer, from the verdicts of the places.
+use Prim.Native.Nat.{ℕ}
+use mathlib.Core.Path.{_≡_}
+use mathlib.Core.List.{List}
 use Rattle.syntax.specs.Tables.{Tables}
-use Rattle.typing.specs.TableChecks.{lengthsFit, wellFormedTypes, distinct, wellFormedCalls, wellFormedInputs}
-use Rattle.typing.specs.TermChecks.{wellFormedWords}
+use Rattle.syntax.specs.Term.{Term}
+use Rattle.words.specs.Fronts.{Holds}
+use Rattle.typing.specs.Refusals.{Verdict, refused, accepted, _>>=_, TypedTerm, scopePlace, typePlace}
+use Rattle.outcomes.specs.Check.{checkedOf}
+use Rattle.outcomes.specs.declared.Checked.{Checked}
 
--- the number of the first test that fails, counted from n; 0 if all pass
-abbrev pub firstFailed : ℕ → List Bool → ℕ
-firstFailed n [] = 0
-firstFailed n (true ∷ bs) = firstFailed (suc n) bs
-firstFailed n (false ∷ bs) = n
+-- the number of a refusal, 0 if there is none
+abbrev pub refusalNumber : {X : Type 0} → Verdict X → ℕ
+refusalNumber (refused n) = n
+refusalNumber (accepted x) = 0
 
--- the places 1 to 6, in the order of `elaborate`; law: `elaborate-screens`
-abbrev pub tableTests : ℕ → Tables → List ℕ → List Bool
-tableTests limit tables words =
-    lengthsFit limit tables words
-    ∷ wellFormedTypes 0 (tables .types)
-    ∷ distinct (tables .types)
-    ∷ wellFormedCalls tables
-    ∷ wellFormedInputs tables
-    ∷ wellFormedWords tables words
-    ∷ []
+-- the places 8 and 9, and the term with its type
+abbrev pub typedTerm : Tables → Term → Verdict TypedTerm
+typedTerm tables t = do
+  _ ← scopePlace tables t
+  A ← typePlace tables t
+  accepted (record { term = t; type = A })
 
-unfoldable pub tableRefusal : ℕ → Tables → List ℕ → ℕ
-tableRefusal limit tables words = firstFailed 1 (tableTests limit tables words)
+-- for whatever term the words begin with: the answer of the places 8 and 9
+abbrev pub Types : Tables → List ℕ → Checked → Type 0
+Types tables words r = (t : Term) (rest : List ℕ) → Holds (tables .calls) words t rest → r ≡ checkedOf (typedTerm tables t)

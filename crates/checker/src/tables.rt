@@ -7,7 +7,14 @@ ghost use Rattle.syntax.specs.Tables.{over};
 ghost use Rattle.typing.specs.TableChecks.{every, lengthsFit, wellFormedType, wellFormedTypes, distinct as distinctOf, wellFormedCall};
 ghost use Rattle.typing.specs.TableChecks.{wellFormedCalls, wellFormedInputs};
 ghost use Rattle.typing.specs.TermChecks.{fieldFits};
+ghost use Rattle.typing.specs.Refusals.{tablesPlace};
+ghost use Rattle.checker.specs.Places.{refusalNumber};
 ghost use Rattle.checker.specs.Residues.{residueOf, Noted};
+use words::fields::argument;
+use words::fields::kind;
+use words::fields::number;
+use words::fields::result;
+use words::fields::ty;
 
 // 1: the lengths of the tables and of the term
 pub fn lengths_fit(limit: usize, types: &[u64], calls: &[u64], inputs: &[u64], term: &[u64]) -> bool
@@ -29,25 +36,25 @@ pub fn lengths_fit(limit: usize, types: &[u64], calls: &[u64], inputs: &[u64], t
 }
 
 // 2: a type word at its index
-pub fn type_fits(i: usize, w: u64) -> bool
+fn type_fits(i: usize, w: u64) -> bool
     ensures { λ r. ⌜ r ≡ wellFormedType i w ⌝ }
 {
-    let k = words::fields::kind(w);
-    let right = words::fields::ty(w) as usize;
+    let k = kind(w);
+    let right = ty(w) as usize;
     if k == 0 {
         return right == 0;
     }
     if 3 < k {
         return false;
     }
-    let left = words::fields::number(w) as usize;
+    let left = number(w) as usize;
     if left < i {
         return right < i;
     }
     false
 }
 
-pub fn types_fit(types: &[u64]) -> bool
+fn types_fit(types: &[u64]) -> bool
     ensures { λ r. ⌜ r ≡ wellFormedTypes 0 (now (types .entry)) ⌝ }
 {
     let mut i: usize = 0;
@@ -61,7 +68,7 @@ pub fn types_fit(types: &[u64]) -> bool
 }
 
 // 3: whether a word does not stand among others
-pub fn absent(words: &[u64], w: u64) -> bool
+fn absent(words: &[u64], w: u64) -> bool
     ensures { λ r. ⌜ r ≡ every (λ x. not (eqb w x)) (now (words .entry)) ⌝ }
 {
     let mut i: usize = 0;
@@ -95,7 +102,7 @@ fn absent_marked(marks: &[u8; RESIDUES], words: &[u64], w: u64) -> bool
 }
 
 // from the last word to the first, each against those behind it
-pub fn distinct(types: &[u64]) -> bool
+fn distinct(types: &[u64]) -> bool
     ensures { λ r. ⌜ r ≡ distinctOf (now (types .entry)) ⌝ }
 {
     let mut marks: [u8; RESIDUES] = [0; RESIDUES];
@@ -123,26 +130,26 @@ pub fn field_fits(used: bool, bound: usize, x: u64) -> bool
 }
 
 // 4: a call word over so many types
-pub fn call_fits(types: usize, w: u64) -> bool
+fn call_fits(types: usize, w: u64) -> bool
     ensures { λ r. ⌜ r ≡ wellFormedCall types w ⌝ }
 {
-    let n = words::fields::kind(w);
+    let n = kind(w);
     if 3 < n {
         return false;
     }
-    if types <= words::fields::result(w) as usize {
+    if types <= result(w) as usize {
         return false;
     }
-    if !field_fits(0 < n, types, words::fields::argument(w, 0)) {
+    if !field_fits(0 < n, types, argument(w, 0)) {
         return false;
     }
-    if !field_fits(1 < n, types, words::fields::argument(w, 1)) {
+    if !field_fits(1 < n, types, argument(w, 1)) {
         return false;
     }
-    field_fits(2 < n, types, words::fields::argument(w, 2))
+    field_fits(2 < n, types, argument(w, 2))
 }
 
-pub fn calls_fit(types: &[u64], calls: &[u64]) -> bool
+fn calls_fit(types: &[u64], calls: &[u64]) -> bool
     ensures { λ r. ⌜ r ≡ wellFormedCalls (over (now (types .entry)) (now (calls .entry)) []) ⌝ }
 {
     let mut i: usize = 0;
@@ -156,7 +163,7 @@ pub fn calls_fit(types: &[u64], calls: &[u64]) -> bool
 }
 
 // 5: each input is a known type
-pub fn inputs_fit(types: &[u64], inputs: &[u64]) -> bool
+fn inputs_fit(types: &[u64], inputs: &[u64]) -> bool
     ensures { λ r. ⌜ r ≡ wellFormedInputs (over (now (types .entry)) [] (now (inputs .entry))) ⌝ }
 {
     let mut i: usize = 0;
@@ -167,4 +174,23 @@ pub fn inputs_fit(types: &[u64], inputs: &[u64]) -> bool
         i += 1;
     }
     true
+}
+
+// 2 to 5: the number of the first test that fails, 0 if none does
+pub fn table_refusal(types: &[u64], calls: &[u64], inputs: &[u64]) -> u32
+    ensures { λ r. ⌜ r ≡ refusalNumber (tablesPlace (over (now (types .entry)) (now (calls .entry)) (now (inputs .entry)))) ⌝ }
+{
+    if !types_fit(types) {
+        return 2;
+    }
+    if !distinct(types) {
+        return 3;
+    }
+    if !calls_fit(types, calls) {
+        return 4;
+    }
+    if !inputs_fit(types, inputs) {
+        return 5;
+    }
+    0
 }

@@ -9,27 +9,33 @@ ghost use Rattle.typing.specs.TermChecks.{wellFormedWord, wellFormedWords};
 ghost use Rattle.checker.specs.Answers.{wholeOf};
 use crate::tables::field_fits;
 use words::ends::End;
+use words::ends::part_end;
+use words::fields::kind;
+use words::fields::number;
+use words::fields::ty;
+use words::shape::shape_of;
 
-// 6: a term word
-pub fn word_fits(types: &[u64], calls: &[u64], w: u64) -> bool
+// a term word
+fn word_fits(types: &[u64], calls: &[u64], w: u64) -> bool
     ensures { λ r. ⌜ r ≡ wellFormedWord (over (now (types .entry)) (now (calls .entry)) []) w ⌝ }
 {
-    let k = words::fields::kind(w);
+    let k = kind(w);
     if 10 < k {
         return false;
     }
-    let s = words::shape::shape_of(k);
-    let fits = field_fits(s.ty, types.len(), words::fields::ty(w));
-    // a variable's number is looked at in 8
+    let s = shape_of(k);
+    let fits = field_fits(s.ty, types.len(), ty(w));
+    // a variable's number is checked in 8
     if k == 0 {
         return fits;
     }
-    if field_fits(s.number, calls.len(), words::fields::number(w)) {
+    if field_fits(s.number, calls.len(), number(w)) {
         return fits;
     }
     false
 }
 
+// 6: every term word
 pub fn words_fit(types: &[u64], calls: &[u64], term: &[u64]) -> bool
     ensures { λ r. ⌜ r ≡ wellFormedWords (over (now (types .entry)) (now (calls .entry)) []) (now (term .entry)) ⌝ }
 {
@@ -43,12 +49,12 @@ pub fn words_fit(types: &[u64], calls: &[u64], term: &[u64]) -> bool
     true
 }
 
-// 7: whether the words are one part, neither more nor less
+// 7: whether the words are one part, neither more nor less. Those that pass 6 then stand for a term: laws `whole-decoded`, `not-whole`.
 pub fn is_whole(calls: &[u64], term: &[u64]) -> bool
     requires { ⌜ length (now term) ≤ 8192 ⌝ }
     ensures { λ r. ⌜ r ≡ wholeOf (partEnd (now (calls .entry)) (now (term .entry))) (length (now (term .entry))) ⌝ }
 {
-    let e = words::ends::part_end(calls, term);
+    let e = part_end(calls, term);
     match e {
         End::At(n) => n == term.len(),
         End::Short => false,

@@ -7,7 +7,7 @@ ghost use Rattle.outcomes.specs.Contract.{Normalizes};
 ghost use Rattle.normalizer.specs.Runs.{Runs, Settleable, Settles};
 use crate::reduce::reduce;
 use checker::check::NORMALIZE_LIMIT;
-use checker::check::verdict;
+use checker::check::check_within;
 use outcomes::Answer;
 use words::moves::clear;
 use words::moves::copy;
@@ -85,7 +85,7 @@ fn run(
         ⌝ }
 {
     let none: [u32; 10] = [0; 10];
-    let checked = verdict(NORMALIZE_LIMIT, types, calls, inputs, term);
+    let checked = check_within(NORMALIZE_LIMIT, types, calls, inputs, term);
     let refusal = checked.refusal;
     if refusal != 0 {
         return refused(refusal, none);

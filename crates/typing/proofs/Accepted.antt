@@ -10,22 +10,45 @@ use Rattle.syntax.specs.Decoding.{decode}
 use Rattle.typing.specs.Infer.{infer}
 use Rattle.typing.specs.TableChecks.{lengthsFit, wellFormedTypes, distinct, wellFormedCalls, wellFormedInputs}
 use Rattle.typing.specs.TermChecks.{wellFormedWords, scoped}
-use Rattle.typing.specs.Refusals.{Verdict, refused, accepted, _>>=_, require, provide, TypedTerm, elaborate}
+use Rattle.typing.specs.Refusals.{Verdict, refused, accepted, _>>=_, require, provide, TypedTerm, tablesPlace, elaborate}
 
 -- an accepted verdict is of what passed
 pub data Verdicts {X : Type 0} (P : X → Type 0) : Verdict X → Type 0 where
   refusal : (n : ℕ) → Verdicts P (refused (suc n))
   passed : {x : X} → P x → Verdicts P (accepted x)
 
-required : {Y : Type 0} {P : Y → Type 0} (n : ℕ) (b : Bool) (f : Bool → Verdict Y) → (T b → Verdicts P (f true))
-    → Verdicts P (require (suc n) b >>= f)
-required n true f h = h tt
-required n false f h = refusal n
+-- what follows is asked of what passed
+after : {X Y : Type 0} {P : X → Type 0} {Q : Y → Type 0} {v : Verdict X} (f : X → Verdict Y) → Verdicts P v
+    → ((x : X) → P x → Verdicts Q (f x)) → Verdicts Q (v >>= f)
+after f (refusal n) h = refusal n
+after f (passed p) h = h _ p
 
-provided : {X Y : Type 0} {P : Y → Type 0} (n : ℕ) (o : Option X) (f : X → Verdict Y) → ((x : X) → o ≡ some x → Verdicts P (f x))
-    → Verdicts P (provide (suc n) o >>= f)
-provided n none f h = refusal n
-provided n (some x) f h = h x refl
+required : (n : ℕ) (b : Bool) → Verdicts (λ _. T b) (require (suc n) b)
+required n true = passed tt
+required n false = refusal n
+
+provided : {X : Type 0} (n : ℕ) (o : Option X) → Verdicts (λ x. o ≡ some x) (provide (suc n) o)
+provided n none = refusal n
+provided n (some x) = passed refl
+
+-- what passed the places 2 to 5
+pub record Formed (tables : Tables) : Type 0 where
+  pub types : T (wellFormedTypes 0 (tables .types))
+  pub no-twice : T (distinct (tables .types))
+  pub calls : T (wellFormedCalls tables)
+  pub inputs : T (wellFormedInputs tables)
+
+pub tables-formed : (tables : Tables) → Verdicts (λ _. Formed tables) (tablesPlace tables)
+tables-formed tables =
+    after _ (required 1 (wellFormedTypes 0 (tables .types))) λ _ a.
+    after _ (required 2 (distinct (tables .types))) λ _ b.
+    after _ (required 3 (wellFormedCalls tables)) λ _ c.
+    formed-by a b c (required 4 (wellFormedInputs tables))
+  where
+    formed-by : T (wellFormedTypes 0 (tables .types)) → T (distinct (tables .types)) → T (wellFormedCalls tables)
+        → {v : Verdict Bool} → Verdicts (λ _. T (wellFormedInputs tables)) v → Verdicts (λ _. Formed tables) v
+    formed-by a b c (refusal n) = refusal n
+    formed-by a b c (passed d) = passed (record { types = a; no-twice = b; calls = c; inputs = d })
 
 -- what passed: each check
 pub record Passed (limit : ℕ) (tables : Tables) (words : List ℕ) (x : TypedTerm) : Type 0 where
@@ -40,15 +63,22 @@ pub record Passed (limit : ℕ) (tables : Tables) (words : List ℕ) (x : TypedT
   pub type : infer tables (x .term) (tables .inputs) ≡ some (x .type)
 
 pub elaborated : (limit : ℕ) (tables : Tables) (words : List ℕ) → Verdicts (Passed limit tables words) (elaborate limit tables words)
-unfolding elaborate
+unfolding elaborate wellFormedWords
 elaborated limit tables words =
-    required 0 (lengthsFit limit tables words) _ λ a.
-    required 1 (wellFormedTypes 0 (tables .types)) _ λ b.
-    required 2 (distinct (tables .types)) _ λ c.
-    required 3 (wellFormedCalls tables) _ λ d.
-    required 4 (wellFormedInputs tables) _ λ e.
-    required 5 (wellFormedWords tables words) _ λ f.
-    provided 6 (decode (tables .calls) words) _ λ t g.
-    required 7 (scoped tables t) _ λ h.
-    provided 8 (infer tables t (tables .inputs)) _ λ A i.
-    passed (record { lengths = a; types = b; no-twice = c; calls = d; inputs = e; words′ = f; term = g; in-scope = h; type = i })
+    after _ (required 0 (lengthsFit limit tables words)) λ _ a.
+    after _ (tables-formed tables) λ _ f.
+    after _ (required 5 (wellFormedWords tables words)) λ _ w.
+    after _ (provided 6 (decode (tables .calls) words)) λ t g.
+    after _ (required 7 (scoped tables t)) λ _ h.
+    after _ (provided 8 (infer tables t (tables .inputs))) λ A i.
+    passed (record {
+      lengths = a;
+      types = f .types;
+      no-twice = f .no-twice;
+      calls = f .calls;
+      inputs = f .inputs;
+      words′ = w;
+      term = g;
+      in-scope = h;
+      type = i;
+    })

@@ -54,18 +54,24 @@ required : {X : Type 0} (n : ℕ) (b : Bool) (f : Bool → Verdict X) {bs : List
 required n true f h = record { told = h .told }
 required n false f h = record { told = refl }
 
+-- the same of the first test of a longer place
+begun : {X Y : Type 0} (n : ℕ) (b : Bool) (g : Bool → Verdict X) (f : X → Verdict Y) {bs : List Bool}
+    → Ordered (suc n) bs (g true >>= f) → Ordered n (b ∷ bs) (require n b >>= g >>= f)
+begun n true g f h = record { told = h .told }
+begun n false g f h = record { told = refl }
+
 provided : {X Y : Type 0} (n : ℕ) (o : Option X) (f : X → Verdict Y) (bs : Option X → List Bool)
     → ((x : X) → Ordered (suc n) (bs (some x)) (f x)) → Ordered n (isSome o ∷ bs o) (provide n o >>= f)
 provided n none f bs h = record { told = refl }
 provided n (some x) f bs h = record { told = h x .told }
 
 pub refusal-order : (limit : ℕ) (tables : Tables) (words : List ℕ) → Ordered 1 (places limit tables words) (elaborate limit tables words)
-unfolding elaborate
+unfolding elaborate wellFormedWords
 refusal-order limit tables words =
     required 1 (lengthsFit limit tables words) _
-    (required 2 (wellFormedTypes 0 (tables .types)) _
-    (required 3 (distinct (tables .types)) _
-    (required 4 (wellFormedCalls tables) _
+    (begun 2 (wellFormedTypes 0 (tables .types)) _ _
+    (begun 3 (distinct (tables .types)) _ _
+    (begun 4 (wellFormedCalls tables) _ _
     (required 5 (wellFormedInputs tables) _
     (required 6 (wellFormedWords tables words) _
     (provided 7 (decode (tables .calls) words) _

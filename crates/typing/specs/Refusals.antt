@@ -1,4 +1,4 @@
--- Refusals 1 to 9 in their order, as one definition; what is accepted is a term and its type.
+-- Refusals 1 to 9 in their order, as a sequence of places; what is accepted is a term and its type.
 use Prim.Native.Nat.{ℕ}
 use mathlib.Core.Bool.{Bool, true, false}
 use mathlib.Core.List.{List}
@@ -7,8 +7,8 @@ use Rattle.syntax.specs.Tables.{Tables}
 use Rattle.syntax.specs.Term.{Term}
 use Rattle.syntax.specs.Decoding.{decode}
 use Rattle.typing.specs.Infer.{infer}
-use Rattle.typing.specs.TableChecks.{lengthsFit, wellFormedTypes, distinct, wellFormedCalls, wellFormedInputs}
-use Rattle.typing.specs.TermChecks.{wellFormedWords, scoped}
+use Rattle.typing.specs.TableChecks.{every, lengthsFit, wellFormedTypes, distinct, wellFormedCalls, wellFormedInputs}
+use Rattle.typing.specs.TermChecks.{wellFormedWord, scoped}
 
 -- an answer, or the number of a refusal
 pub data Verdict (X : Type 0) : Type 0 where
@@ -36,18 +36,45 @@ pub record TypedTerm : Type 0 where
   pub term : Term
   pub type : ℕ
 
--- The checks in order; `limit` is the largest number of term words. Each is asked of a whole table before the next.
-unfoldable pub elaborate : ℕ → Tables → List ℕ → Verdict TypedTerm
-elaborate limit tables words = do
-  _ ← require 1 (lengthsFit limit tables words)
+-- The places where the checks refuse, in their order. A call with tests of its own may put them between any two.
+
+-- 1: the lengths; `limit` is the largest number of term words
+abbrev pub lengthsPlace : ℕ → Tables → List ℕ → Verdict Bool
+lengthsPlace limit tables words = require 1 (lengthsFit limit tables words)
+
+-- 2 to 5: the tables, each test asked of a whole table before the next
+abbrev pub tablesPlace : Tables → Verdict Bool
+tablesPlace tables = do
   _ ← require 2 (wellFormedTypes 0 (tables .types))
   _ ← require 3 (distinct (tables .types))
   _ ← require 4 (wellFormedCalls tables)
-  _ ← require 5 (wellFormedInputs tables)
-  _ ← require 6 (wellFormedWords tables words)
-  t ← provide 7 (decode (tables .calls) words)
-  _ ← require 8 (scoped tables t)
-  A ← provide 9 (infer tables t (tables .inputs))
+  require 5 (wellFormedInputs tables)
+
+-- 6: every term word, by a test of one
+abbrev pub wordsPlace : (ℕ → Bool) → List ℕ → Verdict Bool
+wordsPlace test words = require 6 (every test words)
+
+-- 7: the term that the words stand for
+abbrev pub termPlace : Tables → List ℕ → Verdict Term
+termPlace tables words = provide 7 (decode (tables .calls) words)
+
+-- 8: its variables
+abbrev pub scopePlace : Tables → Term → Verdict Bool
+scopePlace tables t = require 8 (scoped tables t)
+
+-- 9: its type
+abbrev pub typePlace : Tables → Term → Verdict ℕ
+typePlace tables t = provide 9 (infer tables t (tables .inputs))
+
+-- the checks: every place in order
+unfoldable pub elaborate : ℕ → Tables → List ℕ → Verdict TypedTerm
+elaborate limit tables words = do
+  _ ← lengthsPlace limit tables words
+  _ ← tablesPlace tables
+  _ ← wordsPlace (wellFormedWord tables) words
+  t ← termPlace tables words
+  _ ← scopePlace tables t
+  A ← typePlace tables t
   accepted (record { term = t; type = A })
 
 -- the term words a call that normalizes takes, and any other

@@ -6,4 +6,4 @@ use Rattle.checker.proofs.check.check.Tie as tie
 
 pub check-spec : {M : Type 1} → statement M
 unfolding checkOutcome
-check-spec = tie.close (tie.spec (λ c κs. search needs) (λ c. c .verdict .ensures))
+check-spec = tie.close (tie.spec (λ c κs. search needs) (λ c. c .check-within .ensures))

@@ -6,20 +6,20 @@ use borrow.Author.Needs.{needs}
 use Rattle.syntax.specs.Tables.{Tables}
 use Rattle.typing.specs.Infer.{Context}
 use Rattle.checker.specs.Nodes.{leafType}
-use Rattle.checker.specs.Answers.{inferredOf, knownOf, begunOf}
-use Rattle.checker.specs.declared.infer.Begun.the-variants.{Has, Fails}
-use Rattle.checker.specs.declared.infer.Inferred.{Inferred}
-use Rattle.checker.specs.declared.infer.Inferred.the-variants.{Typed, Untyped}
-use Rattle.checker.proofs.InferredTypes.{untyped-if, typed-if, known-is, many-is, opens-is}
+use Rattle.checker.specs.Answers.{inferredOf, knownOf, startOf}
+use Rattle.checker.specs.declared.infer.PartStart.the-variants.{Has, Fails}
+use Rattle.checker.specs.declared.node_type.Inferred.{Inferred}
+use Rattle.checker.specs.declared.node_type.Inferred.the-variants.{Typed, Untyped}
+use Rattle.checker.proofs.InferredTypes.{untyped-if, typed-if, known-is, many-is, node-is}
 use Rattle.checker.proofs.infer.begin.Statement.{statement}
 use Rattle.checker.proofs.infer.begin.Tie as tie
 
-module _ (tables : Tables) (Γ : Context) (w n : ℕ) (z : n ≡ 0) (r : Inferred) (e : r ≡ inferredOf (leafType tables Γ w) 1) where
-  has : (A m : ℕ) → r ≡ Typed A m → Has A ≡ begunOf n (leafType tables Γ w)
-  has A m u = sym (known-is n (leafType tables Γ w) z ∙ ap knownOf (typed-if (leafType tables Γ w) 1 A m r e u))
+module _ (tables : Tables) (Γ : Context) (w n : ℕ) (z : n ≡ 0) (r : Inferred) (e : r ≡ inferredOf (leafType tables Γ w)) where
+  has : (A : ℕ) → r ≡ Typed A → Has A ≡ startOf n (leafType tables Γ w)
+  has A u = sym (known-is n (leafType tables Γ w) z ∙ ap knownOf (typed-if (leafType tables Γ w) A r e u))
 
-  fails : r ≡ Untyped → Fails ≡ begunOf n (leafType tables Γ w)
-  fails u = sym (known-is n (leafType tables Γ w) z ∙ ap knownOf (untyped-if (leafType tables Γ w) 1 r e u))
+  fails : r ≡ Untyped → Fails ≡ startOf n (leafType tables Γ w)
+  fails u = sym (known-is n (leafType tables Γ w) z ∙ ap knownOf (untyped-if (leafType tables Γ w) r e u))
 
 pub begin-spec : {M : Type 1} → statement M
 begin-spec =
@@ -32,7 +32,7 @@ begin-spec =
     (λ c.
     let l = c .before .before .before in
     let t = l .before in
-    has _ _ _ _ (omega (arith, t .if1 .taken, t .before .part-count .ensures .0)) _ (l .leaf .ensures) _ _ (c .before .r .given .1))
+    has _ _ _ _ (omega (arith, t .if1 .taken, t .before .part-count .ensures .0)) _ (l .leaf .ensures) _ (c .before .r .given .1))
     (λ c. search needs)
     (λ c.
     let l = c .before .before in
@@ -44,4 +44,4 @@ begin-spec =
     (λ c.
     let t = c .before in
     let n = t .before .part-count .ensures .0 in
-    sym (opens-is _ _ (omega (arith, t .if1 .left, n)) (omega (arith, c .if2 .left, n)))))
+    sym (node-is _ _ (omega (arith, t .if1 .left, n)) (omega (arith, c .if2 .left, n)))))

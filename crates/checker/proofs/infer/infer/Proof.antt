@@ -1,82 +1,115 @@
--- A turn of the loop begins a node, or gives the type at hand to the innermost open one.
+-- The open nodes make the whole term's type of the type of the part that is being typed: the invariant `Turn`. A turn with no type at hand
+-- begins the next part (`Waits`): it has its type, or it has none and then the term has none, or it is one more open node (`Opened`).
+-- A turn with a type at hand gives it to the innermost open node (`Inner`), and where none is open it is the term's (`Gives`). The node's
+-- next part is to be typed then (`Next`, `Entered`), or none is left and the node has its own type (`Last`, `Closed`).
+mod Places
 use borrow.Author.Needs.{needs}
-use Prim.Native.Nat.{ℕ, _+_, _-_, _*_, _/_, _%_}
+use Prim.Native.Nat.{ℕ, _+_, _-_, _/_, _%_, _≤_}
 use native.Mathlib.Omega.{arith}
 use mathlib.Core.Path.{_≡_, refl, _∙_, ap}
-use mathlib.Core.Bool.{Bool, cond}
-use mathlib.Core.List.{List}
 use lib.ListN.{length, length-set, getD, set}
 use Rattle.syntax.specs.Words.{kindOf}
 use Rattle.syntax.specs.Kinds.{bindersAt}
+use Rattle.syntax.specs.Parts.{partCount}
 use Rattle.words.proofs.Traversal.{from-length}
-use Rattle.checker.proofs.InferTurns.{Turn, Waiting, Having, Room, Given, as-having, as-waiting, is-having, is-waiting, halves, quarter}
+use Rattle.checker.proofs.InferTurns.{Waiting, Having, Room, Given, with-type, with-part, entered-length}
 use Rattle.checker.proofs.InferTurns.{turn-first, turn-room, turn-fail, turn-leaf, turn-open}
 use Rattle.checker.proofs.InferTurns.{turn-given, turn-whole, turn-next, turn-untyped, turn-last}
 use Rattle.checker.proofs.infer.infer.Statement.{statement}
 use Rattle.checker.proofs.infer.infer.Tie as tie
+use Rattle.checker.proofs.infer.infer.Proof.Places.{weight, Inv-loop, μ-loop, place, Entry, Head, entry, Gives, giving}
+use Rattle.checker.proofs.infer.infer.Proof.Places.{Inner, inner, Bound, bound, Counted, counted, Next, next, Entered, entered}
+use Rattle.checker.proofs.infer.infer.Proof.Places.{Last, last, Closed, closed, Waits, waits, Begun, begun, Opened, opened}
 
--- a type at hand weighs more than a word of the open nodes, and a word of the term more than that
-abbrev weight : Bool → ℕ
-weight typed = cond typed 2 0
+-- the buffers have room for the term, as long as they were at the entry
+room : (c : Head) → let s = entry c .args in let l = c .loop in
+    (length (s .term .now) + 2 ≤ length (l .stack)) × (length (s .term .now) + 2 ≤ length (l .nodes))
+room c = let pre = entry c .pre .1 .0 in (omega (arith, pre .0, c .loop .inv .1), omega (arith, pre .1, c .loop .inv .2))
 
-abbrev Inv-loop : tie.InvT-loop
-Inv-loop types calls inputs stack₀ nodes₀ term at₀ top₀ depth₀ typed₀ a₀ stack nodes at top depth typed a =
-    Turn types calls inputs term stack nodes at top depth typed a × (length stack ≡ length stack₀) × (length nodes ≡ length nodes₀)
+-- a type at hand
+having : (c : Gives) → let s = entry (giving c) .args in let l = giving c .loop in
+    Having (s .types .now) (s .calls .now) (s .inputs .now) (s .term .now) (l .stack) (l .nodes) (l .at) (l .top) (l .depth) (l .a)
+having c = giving c .loop .inv .0 .having (c .if1 .taken)
 
-abbrev μ-loop : tie.MeasureT-loop
-μ-loop types calls inputs stack₀ nodes₀ term at₀ top₀ depth₀ typed₀ a₀ stack nodes at top depth typed a =
-    3 * (length term - at) + top + weight typed
+weighs : (c : Gives) → weight (giving c .loop .typed) ≡ 2
+weighs c = ap weight (c .if1 .taken)
 
--- before a turn that gives a type
-having : (c : tie.Then1 Inv-loop μ-loop)
-    → (let s = c .before .before .before .before .before .before .before .before .args in
-    let l = c .before .loop in
-    Having (s .types .now) (s .calls .now) (s .inputs .now) (s .term .now) (l .stack) (l .nodes) (l .at) (l .top) (l .depth) (l .a))
-having c =
-    let s = c .before .before .before .before .before .before .before .before .args in
-    let l = c .before .loop in
-    as-having (s .types .now) (s .calls .now) (s .inputs .now) (s .term .now) (l .stack) (l .nodes) (l .at) (l .top) (l .depth) (l .a)
-    (l .typed) (c .if1 .taken) (l .inv .0)
+-- the word that is overwritten leaves the nodes as long as they were
+kept : (c : Gives) → let l = giving c .loop in length (set (l .nodes) (l .top - 1) (l .a)) ≡ length (l .nodes)
+kept c = let l = giving c .loop in length-set (l .nodes) (l .top - 1) (l .a)
 
-gave : (c : tie.Else2 Inv-loop μ-loop)
-    → (let s = c .before .before .before .before .before .before .before .before .before .args in
-    let l = c .before .before .loop in
-    Given (s .types .now) (s .calls .now) (s .inputs .now) (s .term .now) (having (c .before)) (getD (l .nodes) (l .top - 1) 0))
-gave c =
-    let l = c .before .before .loop in
-    let pre = c .before .before .before .before .before .before .before .before .before .pre in
-    turn-given _ _ _ _ (having (c .before)) (omega (arith, c .if2 .left)) (pre .0) (omega (arith, pre .1 .0 .0, l .inv .1))
-    (omega (arith, pre .1 .0 .1, l .inv .2))
-
--- before a turn that begins a node
-waiting : (c : tie.Else1 Inv-loop μ-loop)
-    → (let s = c .before .before .before .before .before .before .before .before .args in
-    let l = c .before .loop in
-    Waiting (s .types .now) (s .calls .now) (s .inputs .now) (s .term .now) (l .stack) (l .nodes) (l .at) (l .top) (l .depth))
-waiting c =
-    let s = c .before .before .before .before .before .before .before .before .args in
-    let l = c .before .loop in
-    as-waiting (s .types .now) (s .calls .now) (s .inputs .now) (s .term .now) (l .stack) (l .nodes) (l .at) (l .top) (l .depth) (l .a)
-    (l .typed) (c .if1 .left) (l .inv .0)
-
-begun : (c : tie.Else1 Inv-loop μ-loop)
-    → (let s = c .before .before .before .before .before .before .before .before .args in
-    Room (s .types .now) (s .calls .now) (s .inputs .now) (s .term .now) (waiting c))
-begun c =
-    let l = c .before .loop in
-    let pre = c .before .before .before .before .before .before .before .before .pre in
-    turn-room _ _ _ _ (waiting c) (pre .0) (omega (arith, pre .1 .0 .0, l .inv .1)) (omega (arith, pre .1 .0 .1, l .inv .2))
-
-of-kind : (b k w j : ℕ) → k ≡ kindOf w → b ≡ bindersAt k j → b ≡ bindersAt (kindOf w) j
-of-kind b k w j e h = h ∙ ap (λ (n : ℕ). bindersAt n j) e
+given : (c : Inner) → let l = giving (inner c) .loop in
+    Given (entry (giving (inner c)) .args .term .now) (l .stack) (l .nodes) (l .top) (l .depth)
+given c =
+    let h = giving (inner c) in
+    turn-given (having (inner c)) (omega (arith, c .if2 .left)) (entry h .pre .0) (room h .0) (room h .1)
 
 -- the binders of the part that has the type
-bound : (c : tie.After-binders Inv-loop μ-loop)
-    → (let l = c .before .before .before .before .before .before .loop in
-    let s = c .before .before .before .before .before .before .before .before .before .before .before .before .before .args in
-    let h = getD (l .nodes) (l .top - 1) 0 in
-    c .binders .result ≡ bindersAt (kindOf (getD (s .term .now) (h / 4) 0)) (h % 4))
-bound c = of-kind _ _ _ _ (c .before .kind .ensures) (c .binders .ensures .0)
+binders : (c : Bound) → let h = giving (inner (bound c)) in let n = getD (h .loop .nodes) (h .loop .top - 1) 0 in
+    c .binders .result ≡ bindersAt (kindOf (getD (entry h .args .term .now) (n / 4) 0)) (n % 4)
+binders c = cc
+
+outside : (c : Bound) → let h = giving (inner (bound c)) in let n = getD (h .loop .nodes) (h .loop .top - 1) 0 in
+    h .loop .depth - c .binders .result ≡ h .loop .depth - bindersAt (kindOf (getD (entry h .args .term .now) (n / 4) 0)) (n % 4)
+outside c = ap (λ (b : ℕ). giving (inner (bound c)) .loop .depth - b) (binders c)
+
+-- a part begins
+waiting : (c : Waits) → let s = entry (waits c) .args in let l = waits c .loop in
+    Waiting (s .types .now) (s .calls .now) (s .inputs .now) (s .term .now) (l .stack) (l .nodes) (l .at) (l .top) (l .depth)
+waiting c = waits c .loop .inv .0 .waiting (c .if1 .left)
+
+weightless : (c : Waits) → weight (waits c .loop .typed) ≡ 0
+weightless c = ap weight (c .if1 .left)
+
+begins : (c : Waits) → let l = waits c .loop in
+    Room (entry (waits c) .args .term .now) (l .stack) (l .nodes) (l .at) (l .top) (l .depth)
+begins c = let h = waits c in turn-room (waiting c) (entry h .pre .0) (room h .0) (room h .1)
+
+-- the next part is to be typed
+next-turn : place tie.Need-loop-again
+next-turn c =
+    let e : Entered = search in
+    let n = entered e in
+    let o = counted (next n) in
+    let l = giving (inner (bound o)) .loop in
+    let after = e .enter .ensures in (
+      with-part refl
+          (turn-next (having (inner (bound o))) (given (bound o)) _ (outside o) _ _ after
+          (omega (arith, n .if3 .taken, next n .part-count .ensures .0))),
+      entered-length after ∙ l .inv .1,
+      length-set (set (l .nodes) (l .top - 1) (l .a)) _ _ ∙ kept (inner (bound o)) ∙ l .inv .2,
+    )
+
+-- no part is left
+no-more : (c : Last) → let o = counted (last c) in let h = giving (inner (bound o)) in
+    let n = getD (h .loop .nodes) (h .loop .top - 1) 0 in
+    partCount (entry h .args .calls .now) (getD (entry h .args .term .now) (n / 4) 0) ≤ n % 4 + 1
+no-more c = omega (arith, c .if3 .left, last c .part-count .ensures .0)
+
+last-turn : place tie.Need-loop-again-2
+last-turn c =
+    let e : Closed = search in
+    let o = counted (last (closed e)) in
+    let g = inner (bound o) in
+    let l = giving g .loop in (
+      with-type (g .if1 .taken)
+          (turn-last (having g) (given (bound o)) _ (outside o) (no-more (closed e)) _ (e .type-from .ensures) _ (c .before .r .given .1)),
+      l .inv .1,
+      kept g ∙ l .inv .2,
+    )
+
+open-turn : place tie.Need-loop-again-4
+open-turn c =
+    let e : Opened = search in
+    let b = opened e in
+    let w = begun b in
+    let l = waits w .loop in
+    let after = e .enter2 .ensures in (
+      with-part (w .if1 .left)
+          (turn-open (waiting w) _ (b .begin .ensures) (e .before .before .before .enum-told3 .given .1) (begins w) _ _ after),
+      entered-length after ∙ l .inv .1,
+      length-set (l .nodes) _ _ ∙ l .inv .2,
+    )
 
 pub infer-spec : {M : Type 1} → statement M
 infer-spec =
@@ -84,186 +117,72 @@ infer-spec =
     (tie.spec
     Inv-loop
     μ-loop
-    (λ c. (turn-first _ _ _ _ _ _ (c .before .before .before .before .before .before .pre .1 .1), refl, refl))
-    (λ c. c .before .before .loop .inv .1)
-    (λ c. c .before .before .loop .inv .2)
-    (λ c. turn-whole _ _ _ _ (having (c .before)) (c .if2 .taken))
-    (λ c. gave c .first)
-    (λ c.
-    let g = gave c in
-    omega (arith, g .first, g .short, g .near, g .noted))
-    (λ c.
-    let g = gave (c .before) in
-    omega (arith, g .first, g .short, g .near, g .noted))
-    (λ c.
-    let g = gave (c .before) in
-    omega (arith, g .place, g .short))
-    (λ c. gave (c .before .before) .place)
-    (λ c.
-    let g = gave (c .before .before) in
-    omega (arith, g .low))
+    (λ c. let s : Entry = search in (turn-first (s .pre .1 .1), refl, refl))
+    (λ c. let h : Head = search in h .loop .inv .1)
+    (λ c. let h : Head = search in h .loop .inv .2)
+    (λ c. turn-whole (having (search)) (c .if2 .taken))
+    (λ c. given c .first)
+    (λ c. omega (arith, given c))
+    (λ c. omega (arith, given (search)))
+    (λ c. omega (arith, given (search)))
+    (λ c. given (search) .place)
+    (λ c. omega (arith, given (search)))
     (λ c κs. search needs)
     (λ c κs. search needs)
-    (λ c.
-    let g = gave (c .before .before .before .before) in
-    omega (arith, g .binders, bound c))
-    (λ c.
-    let g = gave (c .before .before .before .before) in
-    omega (arith, g .first, g .short, g .near, g .noted))
-    (λ c.
-    let g = gave (c .before .before .before .before) in
-    omega (arith, g .first, g .short, g .near, g .noted))
-    (λ c.
-    let g = gave (c .before .before .before .before) in
-    omega (arith, g .few))
+    (λ c. omega (arith, given (search), binders c))
+    (λ c. omega (arith, given (search)))
+    (λ c. omega (arith, given (search)))
+    (λ c. omega (arith, given (search)))
     (λ c κs. search needs)
+    (λ c. omega (arith, given (search)))
+    (λ c. omega (arith, given (search), kept (search)))
+    (λ c. omega (arith, given (search)))
+    (λ c. omega (arith, given (search)))
+    (λ c. omega (arith, given (search), kept (search)))
+    (λ c. omega (arith, given (search)))
+    (λ c. omega (arith, given (search)))
+    (λ c κs. omega (arith, given (search) .stacked))
+    (λ c. omega (arith, given (search), weighs (search)))
+    next-turn
+    (λ c κs. omega (arith, given (search), kept (search)))
+    (λ c. search needs)
+    (λ c. let h : Head = search in h .loop .inv .1)
+    (λ c. let h : Head = search in kept (search) ∙ h .loop .inv .2)
     (λ c.
-    let g = gave (c .before .before .before .before .before .before) in
-    omega (arith, g .short, g .near))
-    (λ c.
-    let g = gave (c .before .before .before .before .before .before .before) in
-    let l = c .before .before .before .before .before .before .before .before .before .loop in
-    omega (arith, g .noted, length-set (l .nodes) (l .top - 1) (l .a)))
-    (λ c.
-    let g = gave (c .before .before .before .before .before .before .before) in
-    omega (arith, g .place, g .short))
-    (λ c.
-    let g = gave (c .before .before .before .before .before .before .before) in
-    omega (arith, g .short, g .near))
-    (λ c.
-    let g = gave (c .before .before .before .before .before .before .before) in
-    let l = c .before .before .before .before .before .before .before .before .before .loop in
-    omega (arith, g .noted, length-set (l .nodes) (l .top - 1) (l .a)))
-    (λ c.
-    let g = gave (c .before .before .before .before .before .before .before) in
-    omega (arith, g .short, g .near))
-    (λ c.
-    let g = gave (c .before .before .before .before .before .before .before) in
-    omega (arith, g .few))
+    let e : Closed = search in
+    let o = counted (last (closed e)) in
+    turn-untyped (having (inner (bound o))) (given (bound o)) _ (outside o) (no-more (closed e)) _ (e .type-from .ensures)
+    (c .enum-told .given .1))
+    (λ c. search needs)
+    (λ c. omega (arith, given (search), weighs (search)))
+    last-turn
+    (λ c. omega (arith, begins (search)))
+    (λ c. omega (arith, begins (search)))
+    (λ c. omega (arith, begins (search)))
+    (λ c. omega (arith, begins (search)))
     (λ c κs.
-    let g = gave (c .before .before .before .before .before .before .before .before) in
-    omega (arith, g .stacked))
-    (λ c.
-    let d = c .before .before .before .before .before .before .before .before .before .before .before in
-    let g = gave d in
-    omega (arith, g .first, g .low, ap weight (d .before .if1 .taken)))
-    (λ c.
-    let t = c .before .before .before .before .before in
-    let o = t .before in
-    let d = o .before .before .before .before .before in
-    let l = d .before .before .loop in
-    let g = gave d in
-    let e = c .before .before .enter .ensures in
-    let w = length-set (l .nodes) (l .top - 1) (l .a) in (
-      turn-next _ _ _ _ (having (d .before)) (g .first) _ _ _ refl (halves _) (quarter _) _ _ refl
-          (ap (λ (b : ℕ). l .depth - b) (bound (o .before))) _ _ e
-          (omega (arith, t .if3 .taken, o .part-count .ensures .0)) (omega (arith, g .noted)) (omega (arith, g .stacked)),
-      ap (λ (s : List ℕ). length s) (e .stacked) ∙ length-set (l .stack) _ _ ∙ l .inv .1,
-      length-set (set (l .nodes) (l .top - 1) (l .a)) _ _ ∙ w ∙ l .inv .2,
-    ))
-    (λ c κs.
-    let g = gave (c .before .before .before .before .before .before .before) in
-    let l = c .before .before .before .before .before .before .before .before .before .loop in
-    omega (arith, g .low, g .noted, length-set (l .nodes) (l .top - 1) (l .a)))
+    let h : Head = search in
+    let b = begins (search) in
+    (omega (arith, b .stacked), omega (arith, b .inside, from-length (entry h .args .term .now) (h .loop .at))))
     (λ c. search needs)
-    (λ c. c .before .before .before .before .before .before .before .before .before .before .before .before .loop .inv .1)
-    (λ c.
-    let l = c .before .before .before .before .before .before .before .before .before .before .before .before .loop in
-    length-set (l .nodes) (l .top - 1) (l .a) ∙ l .inv .2)
-    (λ c.
-    let t = c .before .before .before .before in
-    let o = t .before in
-    let d = o .before .before .before .before .before in
-    let l = d .before .before .loop in
-    let g = gave d in
-    turn-untyped _ _ _ _ (having (d .before)) (g .first) _ _ _ refl (halves _) (quarter _) _ _ refl
-    (ap (λ (b : ℕ). l .depth - b) (bound (o .before))) (omega (arith, t .if3 .left, o .part-count .ensures .0)) (omega (arith, g .noted)) _
-    (c .before .before .type-from .ensures) (c .enum-told .given .1))
+    (λ c. let h : Head = search in h .loop .inv .1)
+    (λ c. let h : Head = search in h .loop .inv .2)
+    (λ c. let b : Begun = search in turn-fail (waiting (begun b)) _ (b .begin .ensures) (c .enum-told2 .given .1))
     (λ c. search needs)
+    (λ c. omega (arith, begins (search)))
+    (λ c. omega (arith, begins (search), weightless (search)))
     (λ c.
-    let d = c .before .before .before .before .before .before .before .before .before .before .before in
-    let g = gave d in
-    omega (arith, g .first, g .low, ap weight (d .before .if1 .taken)))
-    (λ c.
-    let t = c .before .before .before .before .before in
-    let o = t .before in
-    let d = o .before .before .before .before .before in
-    let l = d .before .before .loop in
-    let g = gave d in
-    let h =
-    turn-last _ _ _ _ (having (d .before)) (g .first) _ _ _ refl (halves _) (quarter _) _ _ refl
-    (ap (λ (b : ℕ). l .depth - b) (bound (o .before))) (omega (arith, t .if3 .left, o .part-count .ensures .0)) (omega (arith, g .noted)) _
-    (c .before .before .before .type-from .ensures) _ _ (c .before .r .given .1) in
-    (is-having _ _ _ _ _ _ _ _ _ _ _ (d .before .if1 .taken) h, l .inv .1, length-set (l .nodes) (l .top - 1) (l .a) ∙ l .inv .2))
-    (λ c.
-    let g = begun (c .before) in
-    omega (arith, g .inside, g .short))
-    (λ c.
-    let g = begun (c .before) in
-    omega (arith, g .inside, g .short))
-    (λ c.
-    let g = begun (c .before) in
-    omega (arith, g .inside))
-    (λ c.
-    let g = begun (c .before) in
-    omega (arith, g .inside))
-    (λ c κs.
-    let d = c .before .before in
-    let g = begun d in
-    let w = d .before .before .before .before .before .before .before .before .args .term .now in
-    (omega (arith, g .stacked), omega (arith, g .inside, from-length w (d .before .loop .at))))
+    let b : Begun = search in
+    let l = waits (begun b) .loop in
+    (with-type refl (turn-leaf (waiting (begun b)) _ (b .begin .ensures) _ (c .before .start .given .1)), l .inv .1, l .inv .2))
     (λ c. search needs)
-    (λ c. c .before .before .before .before .before .before .loop .inv .1)
-    (λ c. c .before .before .before .before .before .before .loop .inv .2)
-    (λ c.
-    let b = c .before .before in
-    let d = b .before .before .before in
-    turn-fail _ _ _ _ (waiting d) _ (b .begin .ensures) (c .enum-told2 .given .1))
-    (λ c. search needs)
-    (λ c.
-    let g = begun (c .before .before .before .before .before .before) in
-    omega (arith, g .inside, g .short))
-    (λ c.
-    let d = c .before .before .before .before .before .before in
-    let g = begun d in
-    omega (arith, g .inside, ap weight (d .if1 .left)))
-    (λ c.
-    let b = c .before .before .before in
-    let d = b .before .before .before in
-    let l = d .before .loop in
-    (turn-leaf _ _ _ _ (waiting d) _ (b .begin .ensures) _ (c .before .begun .given .1), l .inv .1, l .inv .2))
-    (λ c. search needs)
-    (λ c.
-    let g = begun (c .before .before .before .before .before) in
-    omega (arith, g .inside, g .low, g .short))
-    (λ c.
-    let g = begun (c .before .before .before .before .before) in
-    omega (arith, g .inside, g .low, g .short))
-    (λ c. begun (c .before .before .before .before .before) .noted)
-    (λ c.
-    let g = begun (c .before .before .before .before .before) in
-    omega (arith, g .inside, g .low, g .short))
-    (λ c.
-    let g = begun (c .before .before .before .before .before) in
-    omega (arith, g .inside, g .short))
-    (λ c. begun (c .before .before .before .before .before .before) .inside)
-    (λ c κs. begun (c .before .before .before .before .before .before .before) .stacked)
-    (λ c.
-    let g = begun (c .before .before .before .before .before .before .before .before .before .before) in
-    omega (arith, g .inside, g .short))
-    (λ c.
-    let d = c .before .before .before .before .before .before .before .before .before .before in
-    let g = begun d in
-    omega (arith, g .inside, ap weight (d .if1 .left)))
-    (λ c.
-    let b = c .before .before .before .before .before .before .before in
-    let d = b .before .before .before in
-    let l = d .before .loop in
-    let g = begun d in
-    let e = c .before .before .enter2 .ensures in
-    let u = c .before .before .before .before .before .enum-told3 .given .1 in
-    let h = turn-open _ _ _ _ (waiting d) _ (b .begin .ensures) u _ _ e (g .noted) (g .stacked) in (
-      is-waiting _ _ _ _ _ _ _ _ _ (l .a) _ (d .if1 .left) h,
-      ap (λ (s : List ℕ). length s) (e .stacked) ∙ length-set (l .stack) _ _ ∙ l .inv .1,
-      length-set (l .nodes) _ _ ∙ l .inv .2,
-    )))
+    (λ c. omega (arith, begins (search)))
+    (λ c. omega (arith, begins (search)))
+    (λ c. begins (search) .noted)
+    (λ c. omega (arith, begins (search)))
+    (λ c. omega (arith, begins (search)))
+    (λ c. begins (search) .inside)
+    (λ c κs. begins (search) .stacked)
+    (λ c. omega (arith, begins (search)))
+    (λ c. omega (arith, begins (search), weightless (search)))
+    open-turn)

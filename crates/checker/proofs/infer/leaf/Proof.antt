@@ -11,21 +11,21 @@ use Rattle.syntax.specs.Tables.{Tables}
 use Rattle.typing.specs.Infer.{Context}
 use Rattle.checker.specs.Nodes.{leafType, callType}
 use Rattle.checker.specs.Answers.{inferredOf}
-use Rattle.checker.specs.declared.infer.Inferred.{Inferred}
+use Rattle.checker.specs.declared.node_type.Inferred.{Inferred}
 use Rattle.checker.proofs.infer.leaf.Statement.{statement}
 use Rattle.checker.proofs.infer.leaf.Tie as tie
 
 module _ (tables : Tables) (Γ : Context) (w n k : ℕ) (ne : n ≡ numberOf w) (ke : k ≡ kindOf w) (r : Inferred) where
   abbrev answer : ℕ → Bool → Inferred
-  answer m b = inferredOf (cond b (getElem? Γ m) (callType tables m (0 ∷ 0 ∷ 0 ∷ []))) 1
+  answer m b = inferredOf (cond b (getElem? Γ m) (callType tables m (0 ∷ 0 ∷ 0 ∷ [])))
 
-  of-variable : k ≡ 0 → r ≡ inferredOf (getElem? Γ n) 1 → r ≡ inferredOf (leafType tables Γ w) 1
+  of-variable : k ≡ 0 → r ≡ inferredOf (getElem? Γ n) → r ≡ inferredOf (leafType tables Γ w)
   unfolding leafType
-  of-variable z h = h ∙ ap (λ (m : ℕ). inferredOf (getElem? Γ m) 1) ne ∙ ap (answer (numberOf w)) (sym (eq-eqb (kindOf w) 0 (sym ke ∙ z)))
+  of-variable z h = h ∙ ap (λ (m : ℕ). inferredOf (getElem? Γ m)) ne ∙ ap (answer (numberOf w)) (sym (eq-eqb (kindOf w) 0 (sym ke ∙ z)))
 
-  of-call : (k ≡ 0 → ⊥) → r ≡ inferredOf (callType tables n (0 ∷ 0 ∷ 0 ∷ [])) 1 → r ≡ inferredOf (leafType tables Γ w) 1
+  of-call : (k ≡ 0 → ⊥) → r ≡ inferredOf (callType tables n (0 ∷ 0 ∷ 0 ∷ [])) → r ≡ inferredOf (leafType tables Γ w)
   unfolding leafType
-  of-call z h = h ∙ ap (λ (m : ℕ). inferredOf (callType tables m (0 ∷ 0 ∷ 0 ∷ [])) 1) ne
+  of-call z h = h ∙ ap (λ (m : ℕ). inferredOf (callType tables m (0 ∷ 0 ∷ 0 ∷ []))) ne
       ∙ ap (answer (numberOf w)) (sym (ne-eqb (kindOf w) 0 (λ y. z (ke ∙ y))))
 
 pub leaf-spec : {M : Type 1} → statement M

@@ -21,7 +21,7 @@ run-spec =
     let at-if1 = c .before in
     let at-verdict = at-if1 .before in
     let args = at-verdict .before .before .before .before .before .before .before .before .args in
-    run-refused _ _ _ _ (args .output .now) (args .first .now) (args .second .now) (args .budget) _ (at-verdict .verdict .ensures)
+    run-refused _ _ _ _ (args .output .now) (args .first .now) (args .second .now) (args .budget) _ (at-verdict .check-within .ensures)
     (at-if1 .if1 .taken) _ (c .refused .ensures))
     (λ c κs. search needs)
     (λ c κs. search needs)
@@ -35,7 +35,7 @@ run-spec =
     let at-if1 = at-smaller .before in
     let at-verdict = at-if1 .before in
     let args = at-verdict .before .before .before .before .before .before .before .before .args in
-    run-too-long _ _ _ _ (args .output .now) (args .first .now) (args .second .now) (args .budget) _ (at-verdict .verdict .ensures)
+    run-too-long _ _ _ _ (args .output .now) (args .first .now) (args .second .now) (args .budget) _ (at-verdict .check-within .ensures)
     _ (capacity-of _ _ _ _ _ _ (at-smaller .smaller .ensures) (at-smaller2 .smaller2 .ensures) (at-smaller3 .smaller3 .ensures))
     (at-if1 .if1 .left) (at-if2 .if2 .taken) _ (c .refused2 .ensures))
     (λ c. search needs)
@@ -75,7 +75,7 @@ run-spec =
     let at-verdict = at-if1 .before in
     let args = at-verdict .before .before .before .before .before .before .before .before .args in
     run-settleable _ _ _ _ (args .output .now) (args .first .now) (args .second .now) (args .budget) _
-    (at-verdict .verdict .ensures) _ (capacity-of _ _ _ _ _ _ (at-smaller .smaller .ensures) (at-smaller2 .smaller2 .ensures)
+    (at-verdict .check-within .ensures) _ (capacity-of _ _ _ _ _ _ (at-smaller .smaller .ensures) (at-smaller2 .smaller2 .ensures)
     (at-smaller3 .smaller3 .ensures)) (at-if1 .if1 .left) (at-if2 .if2 .left))
     (λ c. search needs)
     (λ c. search needs)
@@ -89,6 +89,6 @@ run-spec =
     let at-if1 = at-smaller .before in
     let at-verdict = at-if1 .before in
     let args = at-verdict .before .before .before .before .before .before .before .before .args in
-    run-settled _ _ _ _ (args .output .now) (args .first .now) (args .second .now) (args .budget) _ (at-verdict .verdict .ensures) _
+    run-settled _ _ _ _ (args .output .now) (args .first .now) (args .second .now) (args .budget) _ (at-verdict .check-within .ensures) _
     (capacity-of _ _ _ _ _ _ (at-smaller .smaller .ensures) (at-smaller2 .smaller2 .ensures) (at-smaller3 .smaller3 .ensures))
     (at-if1 .if1 .left) (at-if2 .if2 .left) _ _ (at-settle .settle .ensures)))

@@ -8,10 +8,10 @@ use borrow.Author.Tests.{eq-eqb, ne-eqb}
 use Rattle.syntax.specs.Maybe.{given}
 use Rattle.checker.specs.Nodes.{judge}
 use Rattle.checker.specs.Answers.{inferredOf}
-use Rattle.checker.specs.declared.infer.Inferred.{Inferred}
-use Rattle.checker.specs.declared.infer.Inferred.the-variants.{Untyped}
-use Rattle.checker.proofs.infer.judge.Statement.{statement}
-use Rattle.checker.proofs.infer.judge.Tie as tie
+use Rattle.checker.specs.declared.node_type.Inferred.{Inferred}
+use Rattle.checker.specs.declared.node_type.Inferred.the-variants.{Untyped}
+use Rattle.checker.proofs.node_type.judge.Statement.{statement}
+use Rattle.checker.proofs.node_type.judge.Tie as tie
 
 module _ (s : tie.Start) where
   abbrev a : ℕ
@@ -25,12 +25,12 @@ module _ (s : tie.Start) where
 
   -- the definition at a kind
   abbrev answer : ℕ → Inferred
-  answer k = inferredOf (judge k (s .args .ty) (a ∷ b ∷ s .args .c ∷ []) x (s .args .y)) (s .args .words)
+  answer k = inferredOf (judge k (s .args .own) (a ∷ b ∷ s .args .c ∷ []) x (s .args .y))
 
   at : (j : ℕ) (r : Inferred) → s .args .k ≡ j → r ≡ answer j → r ≡ answer (s .args .k)
   at j r e h = h ∙ ap answer (sym e)
 
-  pair-yes : (r : Inferred) → a ≡ x → r ≡ inferredOf (given (eqb b (s .args .y)) (s .args .ty)) (s .args .words) → r ≡ answer 5
+  pair-yes : (r : Inferred) → a ≡ x → r ≡ inferredOf (given (eqb b (s .args .y)) (s .args .own)) → r ≡ answer 5
   unfolding judge
   pair-yes r e h = h ∙ simp (eq-eqb a x e)
 
@@ -39,7 +39,7 @@ module _ (s : tie.Start) where
   pair-no e = simp (ne-eqb a x e)
 
   other : (k : ℕ) (r : Inferred) → (k ≡ 2 → ⊥) → (k ≡ 3 → ⊥) → (k ≡ 5 → ⊥) → (k ≡ 6 → ⊥) → (k ≡ 7 → ⊥) → (k ≡ 8 → ⊥) → (k ≡ 9 → ⊥)
-      → r ≡ inferredOf (given (eqb (s .args .c) b) b) (s .args .words) → r ≡ answer k
+      → r ≡ inferredOf (given (eqb (s .args .c) b) b) → r ≡ answer k
   unfolding judge
   other k r h2 h3 h5 h6 h7 h8 h9 h =
       h ∙ simp (ne-eqb k 2 h2, ne-eqb k 3 h3, ne-eqb k 5 h5, ne-eqb k 6 h6, ne-eqb k 7 h7, ne-eqb k 8 h8, ne-eqb k 9 h9)

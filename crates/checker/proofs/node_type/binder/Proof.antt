@@ -7,8 +7,8 @@ use borrow.Author.Tests.{eq-eqb, ne-eqb, le-leb, lt-leb}
 use lib.ListN.{getD}
 use Rattle.syntax.specs.Words.{kindOf, typeOf, numberOf, leftOf, rightOf}
 use Rattle.checker.specs.Nodes.{binderType}
-use Rattle.checker.proofs.infer.binder.Statement.{statement}
-use Rattle.checker.proofs.infer.binder.Tie as tie
+use Rattle.checker.proofs.node_type.binder.Statement.{statement}
+use Rattle.checker.proofs.node_type.binder.Tie as tie
 
 module _ (types : List ℕ) (w j F k : ℕ) (e : k ≡ kindOf w) where
   abbrev Answer : ℕ → Type 0

@@ -10,8 +10,8 @@ use borrow.Author.Tests.{eq-eqb, ne-eqb}
 use Rattle.syntax.specs.Words.{countOf, argumentFields}
 use Rattle.words.specs.Shapes.{argumentOf}
 use Rattle.typing.specs.Infer.{equal}
-use Rattle.checker.proofs.infer.arguments_agree.Statement.{statement}
-use Rattle.checker.proofs.infer.arguments_agree.Tie as tie
+use Rattle.checker.proofs.node_type.arguments_agree.Statement.{statement}
+use Rattle.checker.proofs.node_type.arguments_agree.Tie as tie
 
 module _ (w a b c : ℕ) where
   -- the first n of three

@@ -9,12 +9,12 @@ use borrow.Author.Tests.{eq-eqb, ne-eqb}
 use Rattle.syntax.specs.Words.{kindOf, numberOf, typeOf, leftOf, rightOf}
 use Rattle.syntax.specs.Tables.{over, components}
 use Rattle.checker.specs.Nodes.{componentsOf}
-use Rattle.checker.specs.declared.infer.Components.{Components}
-use Rattle.checker.specs.declared.infer.Components.the-variants.{Of, Missing}
+use Rattle.checker.specs.declared.node_type.Components.{Components}
+use Rattle.checker.specs.declared.node_type.Components.the-variants.{Of, Missing}
 use Rattle.checker.proofs.Lookups.{there, not-there}
 use Rattle.checker.proofs.TypeParts.{fieldsOf}
-use Rattle.checker.proofs.infer.parts_of_type.Statement.{statement}
-use Rattle.checker.proofs.infer.parts_of_type.Tie as tie
+use Rattle.checker.proofs.node_type.parts_of_type.Statement.{statement}
+use Rattle.checker.proofs.node_type.parts_of_type.Tie as tie
 
 module _ (types : List ℕ) (kind A : ℕ) where
   abbrev answer : Components
@@ -53,10 +53,10 @@ parts-of-type-spec =
     let k = c .before .before .before in
     let d = k .before .before in
     let a = d .before .before .args in
-    of-kind (a .types .now) (a .kind) (a .a) (d .if1 .taken) _ (k .kind .ensures) _ _ (c .before .before .if2 .taken)
+    of-kind (a .types .now) (a .wanted) (a .a) (d .if1 .taken) _ (k .kind .ensures) _ _ (c .before .before .if2 .taken)
     (c .before .number .ensures) (c .ty .ensures))
     (λ c.
     let d = c .before .before .before in
     let a = d .before .before .args in
-    other (a .types .now) (a .kind) (a .a) (d .if1 .taken) _ (c .before .kind .ensures) (c .if2 .left))
-    (λ c. let a = c .before .before .args in past (a .types .now) (a .kind) (a .a) (c .if1 .left)))
+    other (a .types .now) (a .wanted) (a .a) (d .if1 .taken) _ (c .before .kind .ensures) (c .if2 .left))
+    (λ c. let a = c .before .before .args in past (a .types .now) (a .wanted) (a .a) (c .if1 .left)))

@@ -14,25 +14,25 @@ use Rattle.syntax.specs.Tables.{components}
 use Rattle.syntax.specs.Tables.{over}
 use Rattle.checker.specs.Nodes.{componentsOf, formOf, subjectOf, judge, callType, nodeType}
 use Rattle.checker.specs.Answers.{inferredOf}
-use Rattle.checker.specs.declared.infer.Components.{Components}
-use Rattle.checker.specs.declared.infer.Components.the-variants.{Of, Missing}
-use Rattle.checker.specs.declared.infer.Inferred.{Inferred}
-use Rattle.checker.specs.declared.infer.Inferred.the-variants.{Typed, Untyped}
-use Rattle.checker.proofs.infer.node_type.Statement.{statement}
-use Rattle.checker.proofs.infer.node_type.Tie as tie
+use Rattle.checker.specs.declared.node_type.Components.{Components}
+use Rattle.checker.specs.declared.node_type.Components.the-variants.{Of, Missing}
+use Rattle.checker.specs.declared.node_type.Inferred.{Inferred}
+use Rattle.checker.specs.declared.node_type.Inferred.the-variants.{Typed, Untyped}
+use Rattle.checker.proofs.node_type.node_type.Statement.{statement}
+use Rattle.checker.proofs.node_type.node_type.Tie as tie
 
-module _ (types calls : List ℕ) (w : ℕ) (F : List ℕ) (n k : ℕ) (e : k ≡ kindOf w) where
+module _ (types calls : List ℕ) (w : ℕ) (F : List ℕ) (k : ℕ) (e : k ≡ kindOf w) where
   abbrev Answer : Inferred → Type 0
-  Answer r = r ≡ inferredOf (nodeType (over types calls []) (kindOf w) (numberOf w) (typeOf w) F) n
+  Answer r = r ≡ inferredOf (nodeType (over types calls []) (kindOf w) (numberOf w) (typeOf w) F)
 
-  of-kind : (r : Inferred) → r ≡ inferredOf (nodeType (over types calls []) k (numberOf w) (typeOf w) F) n → Answer r
+  of-kind : (r : Inferred) → r ≡ inferredOf (nodeType (over types calls []) k (numberOf w) (typeOf w) F) → Answer r
   of-kind r h = rw e at h
 
-  of-call : (m : ℕ) (r : Inferred) → k ≡ 1 → m ≡ numberOf w → r ≡ inferredOf (callType (over [] calls []) m F) n → Answer r
+  of-call : (m : ℕ) (r : Inferred) → k ≡ 1 → m ≡ numberOf w → r ≡ inferredOf (callType (over [] calls []) m F) → Answer r
   unfolding nodeType callType
   of-call m r t p h = of-kind r (rw p at h ∙ simp (eq-eqb k 1 t))
 
-  of-let : (k ≡ 1 → ⊥) → k ≡ 4 → Answer (Typed (getD F 1 0) n)
+  of-let : (k ≡ 1 → ⊥) → k ≡ 4 → Answer (Typed (getD F 1 0))
   unfolding nodeType
   of-let h t = of-kind _ (simp (ne-eqb k 1 h, eq-eqb k 4 t))
 
@@ -47,25 +47,25 @@ module _ (types calls : List ℕ) (w : ℕ) (F : List ℕ) (n k : ℕ) (e : k �
   module _ {A s f : ℕ} (a : About A s f) (p : Components) (pe : p ≡ componentsOf (components (over types [] []) f s)) where
     -- the node's type, from the components of that type
     abbrev by : Option (ℕ × ℕ) → Inferred
-    by o = inferredOf (o >>= λ (X, Y). judge k (typeOf w) F X Y) n
+    by o = inferredOf (o >>= λ (X, Y). judge k (typeOf w) F X Y)
 
-    by-type : by (components (over types calls []) f s) ≡ inferredOf (nodeType (over types calls []) k (numberOf w) (typeOf w) F) n
+    by-type : by (components (over types calls []) f s) ≡ inferredOf (nodeType (over types calls []) k (numberOf w) (typeOf w) F)
     unfolding nodeType
     by-type =
         ap₂ {C = Inferred} (λ (x y : ℕ). by (components (over types calls []) x y)) (a .form)
         (a .subject ∙ ap (λ (y : ℕ). subjectOf k y (getD F 0 0)) (a .type))
         ∙ simp (ne-eqb k 1 (a .no-call), ne-eqb k 4 (a .no-let))
 
-    found : (x y : ℕ) (r : Inferred) → p ≡ Of x y → r ≡ inferredOf (judge k A F x y) n → Answer r
+    found : (x y : ℕ) (r : Inferred) → p ≡ Of x y → r ≡ inferredOf (judge k A F x y) → Answer r
     found x y r t h = of-kind r
-        (h ∙ ap (λ (v : ℕ). inferredOf (judge k v F x y) n) (a .type) ∙ go (components (over types calls []) f s) pe ∙ by-type)
+        (h ∙ ap (λ (v : ℕ). inferredOf (judge k v F x y)) (a .type) ∙ go (components (over types calls []) f s) pe ∙ by-type)
       where
-        go : (o : Option (ℕ × ℕ)) → p ≡ componentsOf o → inferredOf (judge k (typeOf w) F x y) n ≡ by o
+        go : (o : Option (ℕ × ℕ)) → p ≡ componentsOf o → inferredOf (judge k (typeOf w) F x y) ≡ by o
         go none q = let z : _≡_ {A = ℕ} 0 1 = cc in absurd (omega arith)
         go (some (x′, y′)) q =
             let d : x ≡ x′ = cc in
             let g : y ≡ y′ = cc in
-            ap₂ {C = Inferred} (λ (u v : ℕ). inferredOf (judge k (typeOf w) F u v) n) d g
+            ap₂ {C = Inferred} (λ (u v : ℕ). inferredOf (judge k (typeOf w) F u v)) d g
 
     missing : p ≡ Missing → Answer Untyped
     missing t = of-kind _ (go (components (over types calls []) f s) pe ∙ by-type)
@@ -92,7 +92,7 @@ found-types s = let a = s .before .before .args in a .a ∷ a .b ∷ a .c ∷ []
 
 -- what the node is about
 about : (c : tie.After-form) → let n = c .before .before .before .before .before .before in
-    About (types (n .before)) (calls (n .before)) (word (n .before)) (found-types (n .before)) (n .before .before .before .args .words)
+    About (types (n .before)) (calls (n .before)) (word (n .before)) (found-types (n .before))
     (n .kind .result) (n .kind .ensures)
     (c .before .before .before .ty .result) (c .before .pick .result) (c .form .result)
 about c =
@@ -116,12 +116,12 @@ node-type-spec =
     (λ c κs. search needs)
     (λ c.
     let k = c .before .before .before in
-    of-call (types (k .before)) _ (word (k .before)) _ _ _ (k .kind .ensures) _ _ (c .before .before .if1 .taken)
+    of-call (types (k .before)) _ (word (k .before)) _ _ (k .kind .ensures) _ _ (c .before .before .if1 .taken)
     (c .before .number .ensures) (c .call-type .ensures))
     (λ c.
     let k = c .before .before in
     let s = k .before in
-    of-let (types s) (calls s) (word s) (found-types s) _ _ (k .kind .ensures) (c .before .if1 .left) (c .if2 .taken))
+    of-let (types s) (calls s) (word s) (found-types s) _ (k .kind .ensures) (c .before .if1 .left) (c .if2 .taken))
     (λ c κs. search needs)
     (λ c κs. search needs)
     (λ c κs. search needs)
@@ -132,7 +132,7 @@ node-type-spec =
     (λ c. search needs)
     (λ c.
     let q = c .before .before .before .before in
-    found _ _ _ _ _ _ _ (about (q .before)) _ (q .parts-of-type .ensures) _ _ _ (c .before .before .p .given .1) (c .judge .ensures))
+    found _ _ _ _ _ _ (about (q .before)) _ (q .parts-of-type .ensures) _ _ _ (c .before .before .p .given .1) (c .judge .ensures))
     (λ c.
     let q = c .before .before in
-    missing _ _ _ _ _ _ _ (about (q .before)) _ (q .parts-of-type .ensures) (c .enum-told .given .1)))
+    missing _ _ _ _ _ _ (about (q .before)) _ (q .parts-of-type .ensures) (c .enum-told .given .1)))

@@ -7,16 +7,16 @@ use Rattle.syntax.specs.Words.{kindOf, numberOf, typeOf}
 use Rattle.syntax.specs.Tables.{Tables}
 use Rattle.checker.specs.Nodes.{nodeType}
 use Rattle.checker.specs.Answers.{inferredOf}
-use Rattle.checker.specs.declared.infer.Inferred.{Inferred}
-use Rattle.checker.proofs.infer.type_from.Statement.{statement}
-use Rattle.checker.proofs.infer.type_from.Tie as tie
+use Rattle.checker.specs.declared.node_type.Inferred.{Inferred}
+use Rattle.checker.proofs.node_type.type_from.Statement.{statement}
+use Rattle.checker.proofs.node_type.type_from.Tie as tie
 
 -- the same types, told otherwise
 told : (tables : Tables) (w x y z y′ z′ : ℕ) (r : Inferred) → y ≡ y′ → z ≡ z′
-    → r ≡ inferredOf (nodeType tables (kindOf w) (numberOf w) (typeOf w) (x ∷ y ∷ z ∷ [])) 0
-    → r ≡ inferredOf (nodeType tables (kindOf w) (numberOf w) (typeOf w) (x ∷ y′ ∷ z′ ∷ [])) 0
+    → r ≡ inferredOf (nodeType tables (kindOf w) (numberOf w) (typeOf w) (x ∷ y ∷ z ∷ []))
+    → r ≡ inferredOf (nodeType tables (kindOf w) (numberOf w) (typeOf w) (x ∷ y′ ∷ z′ ∷ []))
 told tables w x y z y′ z′ r p q e =
-    e ∙ ap₂ {C = Inferred} (λ (b c : ℕ). inferredOf (nodeType tables (kindOf w) (numberOf w) (typeOf w) (x ∷ b ∷ c ∷ [])) 0) p q
+    e ∙ ap₂ {C = Inferred} (λ (b c : ℕ). inferredOf (nodeType tables (kindOf w) (numberOf w) (typeOf w) (x ∷ b ∷ c ∷ []))) p q
 
 pub type-from-spec : {M : Type 1} → statement M
 type-from-spec =

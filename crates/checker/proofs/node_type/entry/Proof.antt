@@ -4,8 +4,8 @@ use mathlib.Core.List.{List}
 use Prim.Native.Nat.{ℕ, _≤_}
 use lib.ListN.{length, getD, List·getD-eq-default}
 use borrow.Author.Needs.{needs}
-use Rattle.checker.proofs.infer.entry.Statement.{statement}
-use Rattle.checker.proofs.infer.entry.Tie as tie
+use Rattle.checker.proofs.node_type.entry.Statement.{statement}
+use Rattle.checker.proofs.node_type.entry.Tie as tie
 
 past : (xs : List ℕ) (n : ℕ) → length xs ≤ n → 0 ≡ getD xs n 0
 past xs n h = sym (List·getD-eq-default xs 0 h)

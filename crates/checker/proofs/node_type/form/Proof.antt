@@ -4,8 +4,8 @@ use Prim.Native.Nat.{ℕ, _≤_, _<_}
 use native.Mathlib.Omega.{arith}
 use borrow.Author.Tests.{le-leb, lt-leb}
 use Rattle.checker.specs.Nodes.{formOf}
-use Rattle.checker.proofs.infer.form.Statement.{statement}
-use Rattle.checker.proofs.infer.form.Tie as tie
+use Rattle.checker.proofs.node_type.form.Statement.{statement}
+use Rattle.checker.proofs.node_type.form.Tie as tie
 
 low : (k : ℕ) → k < 4 → 1 ≡ formOf k
 low k h = simp (le-leb k 3 (omega arith))
