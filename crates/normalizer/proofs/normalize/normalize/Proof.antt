@@ -10,7 +10,7 @@ use Rattle.outcomes.specs.Normalize.{Buffers, Outcome, normalizeOutcome}
 use Rattle.outcomes.specs.Contract.{Normalizes}
 use Rattle.outcomes.specs.declared.Answer.{Answer}
 use Rattle.theory.proofs.ContractHolds.{normalizes}
-use Rattle.normalizer.specs.Runs.{Runs}
+use Rattle.normalizer.specs.Answers.{FillsNormalized}
 use borrow.Author.Needs.{needs}
 use Rattle.normalizer.proofs.normalize.normalize.Statement.{statement}
 use Rattle.normalizer.proofs.normalize.normalize.Tie as tie
@@ -20,7 +20,7 @@ unfolding cleared
 zeros-cleared words e z = z ∙ ap (λ (k : ℕ). replicate k 0) e
 
 outcome : (settings : Settings) (tables : Tables) (words : List ℕ) (before : Buffers) (a : Answer) (output first second : List ℕ)
-    → Runs settings tables words before a output → first ≡ cleared (before .scratch₁) → second ≡ cleared (before .scratch₂)
+    → FillsNormalized settings tables words before a output → first ≡ cleared (before .scratch₁) → second ≡ cleared (before .scratch₂)
     → Normalizes settings tables words before a (record { output = output; scratch₁ = first; scratch₂ = second })
 unfolding normalizeOutcome
 outcome settings tables words before a output first second r fe se =
