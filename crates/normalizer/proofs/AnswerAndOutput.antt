@@ -67,7 +67,8 @@ module _ {types calls inputs words : List ℕ} {before : Buffers} {checked : Che
   pub second-length : length (take capacity (before .scratch₂)) ≡ capacity
   second-length = omega (arith, length-take capacity (before .scratch₂), y .capacity-is)
 
-  pub accepted-settleable : length words ≤ capacity → Settleable calls words (before .output) (take capacity (before .scratch₁)) (take capacity (before .scratch₂))
+  pub accepted-settleable : length words ≤ capacity
+      → Settleable calls words (before .output) (take capacity (before .scratch₁)) (take capacity (before .scratch₂))
   accepted-settleable h =
       let p = passed .passed in
       record {
@@ -112,7 +113,8 @@ module _ {types calls inputs words : List ℕ} {before : Buffers} {checked : Che
 
     -- what the reduction comes to
     pub settled-fills : {a : Answer} {out : List ℕ}
-        → Settles calls words (checked .ty) budget (length (take capacity (before .scratch₁))) (before .output) a out → FillsNormalized (record { budget = budget }) (over types calls inputs) words before a out
+        → Settles calls words (checked .ty) budget (length (take capacity (before .scratch₁))) (before .output) a out
+        → FillsNormalized (record { budget = budget }) (over types calls inputs) words before a out
     settled-fills {a} {out} s =
         subst (λ (n : Normalized). Fills n (before .output) a out)
         (ap₂ {C = Normalized} (λ (A k : ℕ). reducedTo A (reduce (mayDrop calls) k (record { budget = budget }) (x .term)))

@@ -134,8 +134,9 @@ module _ (tables : Tables) (capacity : ℕ) (whole : Progress) where
       shaped tables fit (λ k. Unit) (typing-of tables (λ k. Unit) t (tables .inputs) A e (λ k i. tt)) (omega (arith, fit .inputs, limit, h))
 
   module _ {s : State} (x : StandsFor s) where
-    -- what the turn's answer is, with what the run of the phase comes to by it
-    comes-to : {p : Progress} → runPhase pure capacity (s .phase) (s .left) (x .term) (s .counts) ≡ p → onwards pure capacity (s .phase) p ≡ whole
+    -- what is left of the phase comes to p, so the whole goes on from p
+    comes-to : {p : Progress} → runPhase pure capacity (s .phase) (s .left) (x .term) (s .counts) ≡ p
+        → onwards pure capacity (s .phase) p ≡ whole
     comes-to e = sym (ap (onwards pure capacity (s .phase)) e) ∙ x .same
 
     pub stands-ready : length (s .words) ≤ 8192 → length (s .second) ≡ length (s .words)

@@ -101,8 +101,8 @@ module _ {calls words second : List ℕ} {begin budget : ℕ} {b : State} (v : A
       (current-unique (s .at .current) c) (s .typed)))
 
   -- it is refused
-  pub refused-reduces : {after : List ℕ} {turn : Turn} {n : ℕ} {r : Reduced} → TurnFrom calls b after turn → turn ≡ Refused n → r .refusal ≡ n
-      → r .counts ≡ b .counts → Reduces calls words begin budget after r
+  pub refused-reduces : {after : List ℕ} {turn : Turn} {n : ℕ} {r : Reduced} → TurnFrom calls b after turn → turn ≡ Refused n
+      → r .refusal ≡ n → r .counts ≡ b .counts → Reduces calls words begin budget after r
   refused-reduces {after} {turn} {n} {r} x te re ce = record {
     told = λ t c.
         let s = stands-now t c in

@@ -69,7 +69,8 @@ module _ {calls : List ℕ} {a b : State} (v : Arrives calls a b) where
   pub arrives-on : {c : State} → Arrives calls b c → Arrives calls a c
   arrives-on w = record {
     premise = v .premise;
-    carries = λ types inputs capacity whole fit s. w .carries types inputs capacity whole fit (v .carries types inputs capacity whole fit s);
+    carries = λ types inputs capacity whole fit s.
+        w .carries types inputs capacity whole fit (v .carries types inputs capacity whole fit s);
     counts-fit = w .counts-fit;
     limit = w .limit;
     scratch = w .scratch;
@@ -94,7 +95,8 @@ module _ {calls : List ℕ} {a b : State} (v : Arrives calls a b) where
     -- a step is taken only while there is budget, so no count overflows
     pub budget-left : 0 < b .left
     budget-left =
-        stands-steps _ _ _ now rule from rest (b .second) (v .premise .fit) (omega (arith, v .limit, now .long)) (l ∙ now .long) step-turn .0
+        stands-steps _ _ _ now rule from rest (b .second) (v .premise .fit) (omega (arith, v .limit, now .long)) (l ∙ now .long)
+        step-turn .0
 
     pub counts-below : (i : ℕ) → getD (b .counts) i 0 < 4294967295
     counts-below i = omega (arith, budget-left, v .counts-fit i)

@@ -80,8 +80,9 @@ fn run(
     second: &mut [u64],
 ) -> Answer
     ensures { λ r. ⌜
-        FillsNormalized (record { budget = budget }) (over (now (types .entry)) (now (calls .entry)) (now (inputs .entry))) (now (term .entry))
-        (record { output = now (output .entry); scratch₁ = now (first .entry); scratch₂ = now (second .entry) }) r (now (output .exit))
+        FillsNormalized (record { budget = budget }) (over (now (types .entry)) (now (calls .entry)) (now (inputs .entry)))
+        (now (term .entry)) (record { output = now (output .entry); scratch₁ = now (first .entry); scratch₂ = now (second .entry) }) r
+        (now (output .exit))
         ⌝ }
 {
     let none: [u32; 10] = [0; 10];

@@ -33,7 +33,8 @@ unfolding reducedTo size
 reduced-counted A (stopped n counts) = refl
 reduced-counted A (reached left u counts) = refl
 
-checked-counted : (pure : Term → Bool) (capacity : ℕ) (settings : Settings) (v : Verdict TypedTerm) → Counted (checkedTo pure capacity settings v)
+checked-counted : (pure : Term → Bool) (capacity : ℕ) (settings : Settings) (v : Verdict TypedTerm)
+    → Counted (checkedTo pure capacity settings v)
 unfolding checkedTo
 checked-counted pure capacity settings (refused n) = refl
 checked-counted pure capacity settings (accepted x) = reduced-counted (x .type) (reduce pure capacity settings (x .term))
@@ -41,7 +42,8 @@ checked-counted pure capacity settings (accepted x) = reduced-counted (x .type) 
 normalized-counted : (capacity : ℕ) (settings : Settings) (tables : Tables) (words : List ℕ)
     → Counted (normalizeWithin capacity settings tables words)
 unfolding normalizeWithin
-normalized-counted capacity settings tables words = checked-counted (mayDrop (tables .calls)) capacity settings (elaborate normalizeLimit tables words)
+normalized-counted capacity settings tables words =
+    checked-counted (mayDrop (tables .calls)) capacity settings (elaborate normalizeLimit tables words)
 
 -- no more words are listed than counted
 listed-at-most : (a : Answer) → wordsListed a ≤ a .length

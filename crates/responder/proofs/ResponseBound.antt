@@ -78,7 +78,8 @@ unfolding checkedTo
 checked-bounded tables words (refused n) h v = refused-bounded n (omega (arith, every-at n h refl))
 checked-bounded tables words (accepted x) h (passed p) = reduced-bounded (mayDrop (tables .calls)) (x .type) (x .term)
     (reduce (mayDrop (tables .calls)) maxCapacity programSettings (x .term)) (type-below normalizeLimit tables words x p)
-    (reduce-exact (mayDrop (tables .calls)) maxCapacity programSettings (x .term)) (ten-counts (mayDrop (tables .calls)) maxCapacity programSettings (x .term))
+    (reduce-exact (mayDrop (tables .calls)) maxCapacity programSettings (x .term))
+    (ten-counts (mayDrop (tables .calls)) maxCapacity programSettings (x .term))
     (count-budget (mayDrop (tables .calls)) maxCapacity programSettings (x .term))
 
 normalized-bounded : (tables : Tables) (words : List ℕ) → Bounded (normalizeWithin maxCapacity programSettings tables words)

@@ -1,6 +1,6 @@
--- Why `run` is right: what the checks refuse is answered with their number (`refuses`). A term that they accept (`accepted`) is refused with
--- 11 if it is longer than the capacity (`too-long`); otherwise it may be settled in parts of the scratch buffers as long as the capacity
--- (`may-settle`), and what that comes to is the outcome (`settled`).
+-- Why `run` is right: what the checks refuse is answered with their number (`refuses`). A term that they accept (`accepted`) is refused
+-- with 11 if it is longer than the capacity (`too-long`). Otherwise it may be settled in parts of the scratch buffers that are as long as the
+-- capacity (`may-settle`), and what that comes to is the outcome (`settled`).
 use borrow.Author.Needs.{needs}
 use native.Mathlib.Omega.{arith}
 use mathlib.Core.Path.{_∙_, ap}

@@ -1,6 +1,6 @@
--- Why `settle` is right: the copy puts the term's words at the end of the first scratch buffer (`After-copy`), where `reduce` may begin. What
--- it comes to (`After-reduce`) is the definition's: a refusal is answered as it is (`stopped-settles`); otherwise the normal form is at the
--- buffer's end and has room in the output (`inside`), and is copied there (`ended-settles`).
+-- Why `settle` is right: the copy puts the term's words at the end of the first scratch buffer, where `reduce` may begin (`begins`). What it
+-- comes to is the definition's: a refusal is answered as it is (`stopped-settles`); otherwise the normal form is at the buffer's end and has
+-- room in the output (`inside`), and is copied there (`ended-settles`).
 use borrow.Author.Needs.{needs}
 use native.Mathlib.Omega.{arith}
 use Prim.Native.Nat.{_-_, _≤_}
@@ -28,14 +28,16 @@ begins c κs =
 
 stopped-settles : tie.Need-returns
 stopped-settles c =
+    let test : tie.Then1 = search in
     let r : tie.After-reduce = search in
     let p = copied r in
-    settled-stopped (entry p .pre) refl (p .copy .ensures) (r .reduce .ensures) _ _ (c .before .if1 .taken) (c .refused .ensures)
+    settled-stopped (entry p .pre) refl (p .copy .ensures) (r .reduce .ensures) _ _ (test .if1 .taken) (c .refused .ensures)
 
 -- the normal form is at the buffer's end, and has room in the output
 inside : (c : tie.Else1)
     → (let r = reduced c .reduce in
-    (r .result .begin ≤ length (r .last .1 .0)) × (length (r .last .1 .0) - r .result .begin ≤ length (entry (copied (reduced c)) .args .output .now)))
+    let output = entry (copied (reduced c)) .args .output .now in
+    (r .result .begin ≤ length (r .last .1 .0)) × (length (r .last .1 .0) - r .result .begin ≤ length output))
 inside c =
     let r = reduced c in
     let p = copied r in
@@ -48,11 +50,12 @@ short c =
 
 ended-settles : tie.Need-returns-2
 ended-settles c =
-    let e : tie.Else1 = search in
-    let r = reduced e in
+    let test : tie.Else1 = search in
+    let last : tie.After-copy2 = search in
+    let r = reduced test in
     let p = copied r in
-    settled-ended (entry p .pre) refl (p .copy .ensures) (r .reduce .ensures) (e .if1 .left) (r .reduce .kept .1 .0) _ _
-    (c .before .before .copy2 .ensures)
+    settled-ended (entry p .pre) refl (p .copy .ensures) (r .reduce .ensures) (test .if1 .left) (r .reduce .kept .1 .0) _ _
+    (last .copy2 .ensures)
 
 pub settle-spec : {M : Type 1} → statement M
 settle-spec =

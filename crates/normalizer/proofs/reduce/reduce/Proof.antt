@@ -34,8 +34,8 @@ state phase words start end left counts second refusal = record {
 abbrev Inv-loop : tie.InvT-loop
 Inv-loop calls current₀ begin budget second₀ pending₀ counts₀ left₀ phase refusal₀ start₀ end₀ current second pending counts left refusal
     start end =
-    Arrives calls (state phase current₀ start₀ end₀ left₀ counts₀ second₀ refusal₀) (state phase current start end left counts second refusal)
-    × (length pending ≡ 8194)
+    Arrives calls (state phase current₀ start₀ end₀ left₀ counts₀ second₀ refusal₀)
+    (state phase current start end left counts second refusal) × (length pending ≡ 8194)
 
 abbrev μ-loop : tie.MeasureT-loop
 μ-loop calls current₀ begin budget second₀ pending₀ counts₀ left₀ phase refusal₀ start₀ end₀ current second pending counts left refusal
@@ -44,7 +44,8 @@ abbrev μ-loop : tie.MeasureT-loop
 abbrev Inv-reduce : tie.InvT-reduce
 Inv-reduce calls current₀ begin budget second₀ pending₀ counts₀ left₀ phase₀ refusal₀ start₀ end₀ current second pending counts left phase
     refusal start end =
-    Arrives calls (initial current₀ begin budget second₀) (state phase current start end left counts second refusal) × (length pending ≡ 8194)
+    Arrives calls (initial current₀ begin budget second₀) (state phase current start end left counts second refusal)
+    × (length pending ≡ 8194)
 
 abbrev μ-reduce : tie.MeasureT-reduce
 μ-reduce calls current₀ begin budget second₀ pending₀ counts₀ left₀ phase₀ refusal₀ start₀ end₀ current second pending counts left phase
@@ -113,7 +114,8 @@ goes-on : tie.Need-loop-again Inv-loop μ-loop Inv-reduce μ-reduce
 goes-on c =
     let s : Stepping = search in
     let t = stepping s in (
-      step-arrives (head t .loop .inv .0) (same-words t) (t .take-turn .ensures) (s .turn2 .given .1) _ _ (same-second t) (c .raise .ensures),
+      step-arrives (head t .loop .inv .0) (same-words t) (t .take-turn .ensures) (s .turn2 .given .1) _ _ (same-second t)
+          (c .raise .ensures),
       same-pending t,
     )
 
@@ -122,7 +124,8 @@ refuses : tie.Need-returns Inv-loop μ-loop Inv-reduce μ-reduce
 refuses c =
     let t : Turned = search in
     let h = head t in
-    refused-reduces (arrives-on (phase-of h .reduce .inv .0) (h .loop .inv .0)) (t .take-turn .ensures) (c .before .turn .given .1) refl refl
+    refused-reduces (arrives-on (phase-of h .reduce .inv .0) (h .loop .inv .0)) (t .take-turn .ensures) (c .before .turn .given .1)
+    refl refl
 
 -- a turn that ends the phase, with the gap at the front
 seekable : tie.Need-seek-requires Inv-loop μ-loop Inv-reduce μ-reduce
@@ -131,12 +134,14 @@ seekable c κs =
     let t : Turned = search in
     gap-seekable (head t .loop .inv .0) _ (omega arith) (t .take-turn .ensures) (s .enum-told .given .1)
 
+from-phase : {phase known next : Phase} → Follows known next → phase ≡ known → Follows phase next
+from-phase {next = next} f e = subst (λ (p : Phase). Follows p next) (sym e) f
+
 onward : (c : Sought) (next : Phase)
     → (let h = head (turned c) in
     let s = entry (phase-of h) .args in
     let l = h .loop in
-    let p = phase-of h .reduce .phase in
-    Follows p next → Arrives (s .calls .now) (initial (s .current .now) (s .begin) (s .budget) (s .second .now))
+    Follows (phase-of h .reduce .phase) next → Arrives (s .calls .now) (initial (s .current .now) (s .begin) (s .budget) (s .second .now))
     (state next (c .seek .last .0) 0 (c .seek .result) (l .left) (l .counts) (turned c .take-turn .last .1 .1 .1 .1 .1 .1 .0) (l .refusal)))
 onward c next f =
     let s : Stopped = search in
@@ -182,10 +187,10 @@ reduce-spec =
     seekable
     (λ c. search needs)
     (λ c. omega (arith, ap phasesAfter (c .enum-told2 .given .1)))
-    (λ c. (onward (search) Reduction (subst (λ (p : Phase). Follows p Reduction) (sym (c .enum-told2 .given .1)) first-second), same-pending (search)))
+    (λ c. (onward (search) Reduction (from-phase first-second (c .enum-told2 .given .1)), same-pending (search)))
     (λ c. search needs)
     (λ c. omega (arith, ap phasesAfter (c .enum-told3 .given .1)))
-    (λ c. (onward (search) Dropping (subst (λ (p : Phase). Follows p Dropping) (sym (c .enum-told3 .given .1)) second-third), same-pending (search)))
+    (λ c. (onward (search) Dropping (from-phase second-third (c .enum-told3 .given .1)), same-pending (search)))
     (λ c. search needs)
     (λ c. search needs)
     (λ c. search needs)
