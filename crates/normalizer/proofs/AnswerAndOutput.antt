@@ -18,100 +18,104 @@ use Rattle.outcomes.specs.declared.Answer.{Answer}
 use Rattle.outcomes.specs.declared.Checked.{Checked}
 use Rattle.words.specs.Fronts.{Holds}
 use Rattle.checker.proofs.Verdicts.{Accepts, accepted-of, refused-of, accepted-holds}
-use Rattle.normalizer.specs.Runs.{Fills, Runs, Settleable, Settles}
+use Rattle.normalizer.specs.Answers.{Fills, FillsNormalized, Settleable, Settles}
 
-module _ (types calls inputs words output first second : List ℕ) (budget : ℕ) (checked : Checked)
-    (ce : checked ≡ checkedOf (elaborate normalizeLimit (over types calls inputs) words)) where
-  abbrev before : Buffers
-  before = record { output = output; scratch₁ = first; scratch₂ = second }
+-- the checks' answer and the capacity are those of the definitions, and the term is accepted
+pub record Accepted (types calls inputs words : List ℕ) (before : Buffers) (checked : Checked) (capacity : ℕ)
+    : Type 0 where
+  pub checked-is : checked ≡ checkedOf (elaborate normalizeLimit (over types calls inputs) words)
+  pub accepted : checked .refusal ≡ 0
+  pub capacity-is : capacity ≡ min (min (length (before .output)) (min (length (before .scratch₁)) (length (before .scratch₂)))) 8192
 
-  -- the outcome that the definitions give
-  abbrev within : Normalized
-  within = normalizeWithin (capacityOf before) (record { budget = budget }) (over types calls inputs) words
+-- an outcome without words
+untouched : {m n : Normalized} {output : List ℕ} {a : Answer} → m ≡ n → n .words ≡ [] → a ≡ n .answer → Fills m output a output
+unfolding overwrite
+untouched {output = output} e none ae = record {
+  answer-is = ae ∙ ap (λ (x : Normalized). x .answer) (sym e);
+  output-is = sym (ap (λ (x : Normalized). overwrite (x .words) output) e ∙ ap (λ (ws : List ℕ). overwrite ws output) none);
+}
 
-  abbrev Told : Answer → List ℕ → Type 0
-  Told a out = Runs (record { budget = budget }) (over types calls inputs) words before a out
+-- refused by a check
+pub refusal-fills : (types calls inputs words : List ℕ) (before : Buffers) (budget : ℕ) (checked : Checked) {a : Answer}
+    → checked ≡ checkedOf (elaborate normalizeLimit (over types calls inputs) words) → (checked .refusal ≡ 0 → ⊥)
+    → a ≡ record { refusal = checked .refusal; ty = 0; length = 0; counts = zeroCounts }
+    → FillsNormalized (record { budget = budget }) (over types calls inputs) words before a (before .output)
+unfolding normalizeWithin checkedTo
+refusal-fills types calls inputs words before budget checked ce z ae =
+    untouched (ap (checkedTo (mayDrop calls) (capacityOf before)
+    (record { budget = budget })) (refused-of normalizeLimit (over types calls inputs) words checked ce z)) refl ae
 
-  -- an outcome without words
-  untouched : (n : Normalized) (a : Answer) → within ≡ n → n .words ≡ [] → a ≡ n .answer → Told a output
-  unfolding overwrite
-  untouched n a e none ae = record {
-    answer-is = ae ∙ ap (λ (x : Normalized). x .answer) (sym e);
-    output-is = sym (ap (λ (x : Normalized). overwrite (x .words) output) e ∙ ap (λ (ws : List ℕ). overwrite ws output) none);
-  }
+module _ {types calls inputs words : List ℕ} {before : Buffers} {checked : Checked} {capacity : ℕ}
+    (y : Accepted types calls inputs words before checked capacity) where
+  abbrev passed : Accepts (Passed normalizeLimit (over types calls inputs) words) (elaborate normalizeLimit (over types calls inputs) words)
+      (checked .ty)
+  passed = accepted-of normalizeLimit (over types calls inputs) words checked (y .checked-is) (y .accepted)
 
-  -- refused by a check
-  pub run-refused : (checked .refusal ≡ 0 → ⊥) → (a : Answer)
-      → a ≡ record { refusal = checked .refusal; ty = 0; length = 0; counts = zeroCounts } → Told a output
-  unfolding normalizeWithin checkedTo
-  run-refused z a ae =
-      untouched _ a (ap (checkedTo (mayDrop calls) (capacityOf before) (record { budget = budget }))
-      (refused-of normalizeLimit (over types calls inputs) words checked ce z)) refl ae
+  abbrev x : TypedTerm
+  x = passed .typed
 
-  module _ (capacity : ℕ) (ke : capacity ≡ min (min (length output) (min (length first) (length second))) 8192)
-      (z : checked .refusal ≡ 0) where
-    abbrev passed : Accepts (Passed normalizeLimit (over types calls inputs) words) (elaborate normalizeLimit (over types calls inputs) words)
-        (checked .ty)
-    passed = accepted-of normalizeLimit (over types calls inputs) words checked ce z
+  holds : Holds calls words (x .term) []
+  holds = accepted-holds normalizeLimit (over types calls inputs) words x (passed .passed)
 
-    abbrev x : TypedTerm
-    x = passed .typed
+  is-encoded : words ≡ encode (x .term)
+  is-encoded = holds .is ∙ append-nil (encode (x .term))
 
-    holds : Holds calls words (x .term) []
-    holds = accepted-holds normalizeLimit (over types calls inputs) words x (passed .passed)
+  -- the parts of the scratch buffers are as long as the capacity
+  pub first-length : length (take capacity (before .scratch₁)) ≡ capacity
+  first-length = omega (arith, length-take capacity (before .scratch₁), y .capacity-is)
 
-    is-encoded : words ≡ encode (x .term)
-    is-encoded = holds .is ∙ append-nil (encode (x .term))
+  pub second-length : length (take capacity (before .scratch₂)) ≡ capacity
+  second-length = omega (arith, length-take capacity (before .scratch₂), y .capacity-is)
 
-    capacity-is : capacity ≡ capacityOf before
+  pub accepted-settleable : length words ≤ capacity
+      → Settleable calls words (before .output) (take capacity (before .scratch₁)) (take capacity (before .scratch₂))
+  accepted-settleable h =
+      let p = passed .passed in
+      record {
+        term = x .term;
+        shaped = holds .shaped;
+        is = is-encoded;
+        typed = record {
+          types = types;
+          inputs = inputs;
+          source = words;
+          limit = normalizeLimit;
+          lengths = p .lengths;
+          signatures = p .calls;
+          type = x .type;
+          typed = p .type;
+        };
+        small = omega (arith, h, first-length);
+        at-most = omega (arith, first-length, y .capacity-is);
+        scratch = omega (arith, first-length, second-length);
+        room = omega (arith, first-length, y .capacity-is);
+      }
+
+  module _ (budget : ℕ) where
+    capacity-same : capacity ≡ capacityOf before
     unfolding capacityOf
-    capacity-is = ke
+    capacity-same = y .capacity-is
 
-    reduced : within ≡ reducedTo (x .type) (reduce (mayDrop calls) capacity (record { budget = budget }) (x .term))
+    reduced : normalizeWithin (capacityOf before) (record { budget = budget }) (over types calls inputs) words
+        ≡ reducedTo (x .type) (reduce (mayDrop calls) capacity (record { budget = budget }) (x .term))
     unfolding normalizeWithin checkedTo
     reduced =
         ap (checkedTo (mayDrop calls) (capacityOf before) (record { budget = budget })) (passed .is)
-        ∙ ap (λ (k : ℕ). reducedTo (x .type) (reduce (mayDrop calls) k (record { budget = budget }) (x .term))) (sym capacity-is)
+        ∙ ap (λ (k : ℕ). reducedTo (x .type) (reduce (mayDrop calls) k (record { budget = budget }) (x .term))) (sym capacity-same)
 
     -- longer than the capacity
-    pub run-too-long : capacity < length words → (a : Answer) → a ≡ record { refusal = 11; ty = 0; length = 0; counts = zeroCounts }
-        → Told a output
+    pub too-long-fills : {a : Answer} → capacity < length words → a ≡ record { refusal = 11; ty = 0; length = 0; counts = zeroCounts }
+        → FillsNormalized (record { budget = budget }) (over types calls inputs) words before a (before .output)
     unfolding reducedTo size
-    run-too-long h a ae =
+    too-long-fills h ae =
         let long : capacity < size (x .term) = omega (arith, h, ap (λ (l : List ℕ). length l) is-encoded) in
-        untouched _ a (reduced ∙ ap (reducedTo (x .type)) (reduce-too-long (mayDrop calls) capacity budget (x .term) long)) refl ae
+        untouched (reduced ∙ ap (reducedTo (x .type)) (reduce-too-long (mayDrop calls) capacity budget (x .term) long)) refl ae
 
-    module _ (h : length words ≤ capacity) where
-      long₁ : length (take capacity first) ≡ capacity
-      long₁ = omega (arith, length-take capacity first, ke)
-
-      pub run-settleable : Settleable calls words output (take capacity first) (take capacity second)
-      run-settleable =
-          let p = passed .passed in
-          record {
-            term = x .term;
-            shaped = holds .shaped;
-            is = is-encoded;
-            typed = record {
-              types = types;
-              inputs = inputs;
-              source = words;
-              limit = normalizeLimit;
-              lengths = p .lengths;
-              signatures = p .calls;
-              type = x .type;
-              typed = p .type;
-            };
-            small = omega (arith, h, long₁);
-            at-most = omega (arith, long₁, ke);
-            scratch = omega (arith, long₁, length-take capacity second, ke);
-            room = omega (arith, long₁, ke);
-          }
-
-      -- what the reduction comes to
-      pub run-settled : (a : Answer) (out : List ℕ)
-          → Settles calls words (checked .ty) budget (length (take capacity first)) output a out → Told a out
-      run-settled a out s =
-          subst (λ (n : Normalized). Fills n output a out)
-          (ap₂ {C = Normalized} (λ (A k : ℕ). reducedTo A (reduce (mayDrop calls) k (record { budget = budget }) (x .term))) (sym (passed .type)) long₁
-          ∙ sym reduced) (s .told (x .term) (holds .shaped) is-encoded)
+    -- what the reduction comes to
+    pub settled-fills : {a : Answer} {out : List ℕ}
+        → Settles calls words (checked .ty) budget (length (take capacity (before .scratch₁))) (before .output) a out
+        → FillsNormalized (record { budget = budget }) (over types calls inputs) words before a out
+    settled-fills {a} {out} s =
+        subst (λ (n : Normalized). Fills n (before .output) a out)
+        (ap₂ {C = Normalized} (λ (A k : ℕ). reducedTo A (reduce (mayDrop calls) k (record { budget = budget }) (x .term)))
+        (sym (passed .type)) first-length ∙ sym reduced) (s .told (x .term) (holds .shaped) is-encoded)

@@ -2,6 +2,7 @@
 -- the whole.
 use Prim.Native.Nat.{ℕ, _-_, _≤_, _<_}
 use native.Mathlib.Omega.{arith}
+use mathlib.Core.Bool.{Bool}
 use mathlib.Core.Path.{_≡_, refl, sym, _∙_, ap}
 use mathlib.Core.List.{List}
 use mathlib.Core.Option.{some, none}
@@ -20,6 +21,7 @@ use Rattle.reduction.specs.declared.Rule.{Rule}
 use Rattle.reduction.specs.declared.Phase.{Phase}
 use Rattle.reduction.specs.declared.Phase.the-variants.{Insertion, Reduction, Dropping}
 use Rattle.reduction.proofs.Clear.{clear-zero}
+use Rattle.reduction.proofs.Path.{Follows, first-second, second-third}
 use Rattle.reduction.proofs.Remaining.{onwards, onwards-stopped, turn-stops, turn-spent, turn-full, turn-goes, insertion-ends}
 use Rattle.reduction.proofs.Remaining.{reduction-ends}
 use Rattle.theory.proofs.Fields.{Fitting, shaped}
@@ -32,36 +34,96 @@ use Rattle.step.specs.Currents.{Gapped, Current}
 use Rattle.step.specs.Gaps.{Seekable, Seeks}
 use Rattle.step.specs.Turns.{At, Ready, Turned, stops, spent, full, goes, Turns}
 use Rattle.search.specs.NextFrom.{nextFrom}
+use Rattle.step.specs.declared.turn.Turn.{Turn}
 use Rattle.step.specs.declared.turn.Turn.the-variants.{Stop, Refused, Step as Stepped}
 use Rattle.step.proofs.GapMoved.{gapped-size, gapped-seekable, gapped-sought}
 
--- after a step: what the phase takes as known still holds where the search goes on, and no redex stands before that place
-premise-next : (calls : List ℕ) (phase : Phase) (t : Term) (s : Step) → step (mayDrop calls) phase t ≡ some s → (i : ℕ) → PhasePremise calls phase t i
-    → PhasePremise calls phase (s .next) (nextFrom phase (s .place))
-unfolding nextFrom
-premise-next calls Insertion t s e i b = tt
-premise-next calls Reduction t s e i b = not-inserted (mayDrop calls) (s .next) (operands-next (mayDrop calls) t s (inserted (mayDrop calls) t b) e)
-premise-next calls Dropping t s e i b = refl
+-- the variables of the two loops
+pub record State : Type 0 where
+  pub phase : Phase
+  pub words : List ℕ
+  pub start : ℕ
+  pub end : ℕ
+  pub left : ℕ
+  pub counts : Counts
+  pub second : List ℕ
+  pub refusal : ℕ
 
-clear-next : (calls : List ℕ) (phase : Phase) (t : Term) (s : Step) → step (mayDrop calls) phase t ≡ some s → (i : ℕ) → PhasePremise calls phase t i
-    → Clear (mayDrop calls) phase (s .next) (nextFrom phase (s .place))
-unfolding nextFrom
-clear-next calls Insertion t s e i b = next-insertion (mayDrop calls) t s e
-clear-next calls Reduction t s e i b = next-reduction (mayDrop calls) t s (inserted (mayDrop calls) t b) e
-clear-next calls Dropping t s e i b = clear-zero (mayDrop calls) Dropping (s .next)
+-- after a step
+abbrev pub stepped : State → (words : List ℕ) (start end : ℕ) → Counts → (second : List ℕ) → State
+stepped s words start end counts second = record {
+  phase = s .phase;
+  words = words;
+  start = start;
+  end = end;
+  left = s .left - 1;
+  counts = counts;
+  second = second;
+  refusal = s .refusal;
+}
+
+-- at the front, in another phase
+abbrev pub atFront : State → Phase → (words : List ℕ) (end : ℕ) (second : List ℕ) → State
+atFront s phase words end second = record {
+  phase = phase;
+  words = words;
+  start = 0;
+  end = end;
+  left = s .left;
+  counts = s .counts;
+  second = second;
+  refusal = s .refusal;
+}
+
+-- the turn that is taken in a state
+abbrev pub TurnFrom : (calls : List ℕ) → State → (after : List ℕ) → Turn → Type 0
+TurnFrom calls s after r = Turns (s .phase) calls (s .words) (s .start) (s .end) (s .left) after r
+
+-- after a step: what the phase takes as known still holds where the search goes on, and no redex stands before that place
+module _ (calls : List ℕ) where
+  premise-next : (phase : Phase) (t : Term) (s : Step) → step (mayDrop calls) phase t ≡ some s → (i : ℕ) → PhasePremise calls phase t i
+      → PhasePremise calls phase (s .next) (nextFrom phase (s .place))
+  unfolding nextFrom
+  premise-next Insertion t s e i b = tt
+  premise-next Reduction t s e i b =
+      not-inserted (mayDrop calls) (s .next) (operands-next (mayDrop calls) t s (inserted (mayDrop calls) t b) e)
+  premise-next Dropping t s e i b = refl
+
+  clear-next : (phase : Phase) (t : Term) (s : Step) → step (mayDrop calls) phase t ≡ some s → (i : ℕ) → PhasePremise calls phase t i
+      → Clear (mayDrop calls) phase (s .next) (nextFrom phase (s .place))
+  unfolding nextFrom
+  clear-next Insertion t s e i b = next-insertion (mayDrop calls) t s e
+  clear-next Reduction t s e i b = next-reduction (mayDrop calls) t s (inserted (mayDrop calls) t b) e
+  clear-next Dropping t s e i b = clear-zero (mayDrop calls) Dropping (s .next)
+
+  -- where a phase is over, what the next one takes as known holds
+  premise-at-front : {phase next : Phase} → Follows phase next → (t : Term) → step (mayDrop calls) phase t ≡ none
+      → PhasePremise calls next t 0
+  premise-at-front first-second t e = e
+  premise-at-front second-third t e = refl
+
+  -- and what is left to do is what the next one does
+  phase-ends : {phase next : Phase} → Follows phase next → (capacity left : ℕ) (t : Term) (counts : Counts)
+      → onwards (mayDrop calls) capacity phase (reached left t counts)
+      ≡ onwards (mayDrop calls) capacity next (runPhase (mayDrop calls) capacity next left t counts)
+  phase-ends first-second capacity left t counts = insertion-ends (mayDrop calls) capacity left t counts
+  phase-ends second-third capacity left t counts = reduction-ends (mayDrop calls) capacity left t counts
 
 module _ (tables : Tables) (capacity : ℕ) (whole : Progress) where
+  abbrev pure : Term → Bool
+  pure = mayDrop (tables .calls)
+
   -- the term, its type, and what is left to do
-  pub record Standing (phase : Phase) (words : List ℕ) (start end left : ℕ) (counts : Counts) : Type 0 where
+  pub record StandsFor (s : State) : Type 0 where
     pub term : Term
     pub type : ℕ
-    pub at : At phase (tables .calls) words start end term
+    pub at : At (s .phase) (tables .calls) (s .words) (s .start) (s .end) term
     pub typed : infer tables term (tables .inputs) ≡ some type
-    pub long : length words ≡ capacity
-    pub same : onwards (mayDrop (tables .calls)) capacity phase (runPhase (mayDrop (tables .calls)) capacity phase left term counts) ≡ whole
+    pub long : length (s .words) ≡ capacity
+    pub same : onwards pure capacity (s .phase) (runPhase pure capacity (s .phase) (s .left) term (s .counts)) ≡ whole
 
-  -- what the whole comes to
-  pub record Ended (words : List ℕ) (end left : ℕ) (counts : Counts) : Type 0 where
+  -- the last term, at the buffer's end, with which the whole ends
+  pub record FormReached (words : List ℕ) (end left : ℕ) (counts : Counts) : Type 0 where
     pub term : Term
     pub gapped : Gapped words 0 end term
     pub whole-is : whole ≡ reached left term counts
@@ -71,119 +133,98 @@ module _ (tables : Tables) (capacity : ℕ) (whole : Progress) where
   typed-shaped fit limit t A e h =
       shaped tables fit (λ k. Unit) (typing-of tables (λ k. Unit) t (tables .inputs) A e (λ k i. tt)) (omega (arith, fit .inputs, limit, h))
 
-  module _ {phase : Phase} {words : List ℕ} {start end left : ℕ} {counts : Counts} (s : Standing phase words start end left counts) where
-    pub standing-ready : (second : List ℕ) → length words ≤ 8192 → length second ≡ length words
-        → Ready phase (tables .calls) words start end second
-    standing-ready second limit scratch = record { term = s .term; at = s .at; limit = limit; scratch = scratch }
+  module _ {s : State} (x : StandsFor s) where
+    -- what is left of the phase comes to p, so the whole goes on from p
+    comes-to : {p : Progress} → runPhase pure capacity (s .phase) (s .left) (x .term) (s .counts) ≡ p
+        → onwards pure capacity (s .phase) p ≡ whole
+    comes-to e = sym (ap (onwards pure capacity (s .phase)) e) ∙ x .same
 
-    -- a turn that ends the phase
-    standing-stops : {after : List ℕ} → Turns phase (tables .calls) words start end left after Stop
-        → (step (mayDrop (tables .calls)) phase (s .term) ≡ none) × Current (tables .calls) after start end (s .term)
-    standing-stops x = told (x .told (s .term) (s .at))
-      where
-        told : {after : List ℕ} {n : ℕ} → Turned phase (tables .calls) after start end left n (s .term) Stop
-            → (step (mayDrop (tables .calls)) phase (s .term) ≡ none) × Current (tables .calls) after start end (s .term)
-        told (stops e c) = (e, c)
-
-    -- the gap can go back to any place then
-    pub standing-seekable : {after : List ℕ} (place : ℕ) → place ≤ start → Turns phase (tables .calls) words start end left after Stop
-        → Seekable after start end place
-    standing-seekable place le x =
-        let g = standing-stops x .1 .gapped in
-        gapped-seekable g place (omega (arith, le, gapped-size g))
+    pub stands-ready : length (s .words) ≤ 8192 → length (s .second) ≡ length (s .words)
+        → Ready (s .phase) (tables .calls) (s .words) (s .start) (s .end) (s .second)
+    stands-ready limit scratch = record { term = x .term; at = x .at; limit = limit; scratch = scratch }
 
     -- a turn that is refused
-    pub standing-refused : {after : List ℕ} (n : ℕ) → Turns phase (tables .calls) words start end left after (Refused n)
-        → whole ≡ stopped n counts
-    standing-refused n x = told (x .told (s .term) (s .at)) (s .long)
+    pub stands-refused : {after : List ℕ} (n : ℕ) → TurnFrom (tables .calls) s after (Refused n) → whole ≡ stopped n (s .counts)
+    stands-refused n turn = told (turn .told (x .term) (x .at)) (x .long)
       where
-        here : {p : Progress} → runPhase (mayDrop (tables .calls)) capacity phase left (s .term) counts ≡ p → whole ≡ onwards (mayDrop (tables .calls)) capacity phase p
-        here e = sym (s .same) ∙ ap (onwards (mayDrop (tables .calls)) capacity phase) e
-
-        told : {after : List ℕ} {n m : ℕ} → Turned phase (tables .calls) after start end left m (s .term) (Refused n) → m ≡ capacity
-            → whole ≡ stopped n counts
-        told (spent st e z) l = here (turn-spent (mayDrop (tables .calls)) capacity phase left (s .term) counts st e z)
-            ∙ onwards-stopped (mayDrop (tables .calls)) capacity phase 10 counts
-        told (full st e h f) l = here (turn-full (mayDrop (tables .calls)) capacity phase left (s .term) counts st e h (omega (arith, f, l)))
-            ∙ onwards-stopped (mayDrop (tables .calls)) capacity phase 11 counts
+        told : {after : List ℕ} {n m : ℕ} → Turned (s .phase) (tables .calls) after (s .start) (s .end) (s .left) m (x .term) (Refused n)
+            → m ≡ capacity → whole ≡ stopped n (s .counts)
+        told (spent st e z) l = sym (comes-to (turn-spent pure capacity (s .phase) (s .left) (x .term) (s .counts) st e z))
+            ∙ onwards-stopped pure capacity (s .phase) 10 (s .counts)
+        told (full st e h f) l =
+            sym (comes-to (turn-full pure capacity (s .phase) (s .left) (x .term) (s .counts) st e h (omega (arith, f, l))))
+            ∙ onwards-stopped pure capacity (s .phase) 11 (s .counts)
 
     -- a turn that takes a step
-    pub standing-steps : {after : List ℕ} (rule : Rule) (from rest : ℕ) → Fitting tables → capacity ≤ 8192 → length after ≡ capacity
-        → Turns phase (tables .calls) words start end left after (Stepped rule from rest)
-        → (0 < left) × Standing phase after from rest (left - 1) (raise rule counts)
-    standing-steps rule from rest fit limit long x = told long (x .told (s .term) (s .at))
+    pub stands-steps : {after : List ℕ} (rule : Rule) (from rest : ℕ) (second : List ℕ) → Fitting tables → capacity ≤ 8192
+        → length after ≡ capacity → TurnFrom (tables .calls) s after (Stepped rule from rest)
+        → (0 < s .left) × StandsFor (stepped s after from rest (raise rule (s .counts)) second)
+    stands-steps rule from rest second fit limit long turn = told long (turn .told (x .term) (x .at))
       where
         told : {after : List ℕ} {rule : Rule} {from rest n : ℕ} → length after ≡ capacity
-            → Turned phase (tables .calls) after start end left n (s .term) (Stepped rule from rest)
-            → (0 < left) × Standing phase after from rest (left - 1) (raise rule counts)
+            → Turned (s .phase) (tables .calls) after (s .start) (s .end) (s .left) n (x .term) (Stepped rule from rest)
+            → (0 < s .left) × StandsFor (stepped s after from rest (raise rule (s .counts)) second)
         told long (goes st n e h g) = (
           h,
           record {
             term = st .next;
-            type = s .type;
+            type = x .type;
             at = record {
-              current = record { shaped = typed-shaped fit limit (st .next) (s .type) typed fits; gapped = g };
-              clear = clear-next (tables .calls) phase (s .term) st e start (s .at .premise);
-              premise = premise-next (tables .calls) phase (s .term) st e start (s .at .premise);
+              current = record { shaped = typed-shaped fit limit (st .next) (x .type) typed fits; gapped = g };
+              clear = clear-next (tables .calls) (s .phase) (x .term) st e (s .start) (x .at .premise);
+              premise = premise-next (tables .calls) (s .phase) (x .term) st e (s .start) (x .at .premise);
             };
             typed = typed;
             long = long;
-            same = sym (ap (onwards (mayDrop (tables .calls)) capacity phase) (turn-goes (mayDrop (tables .calls)) capacity phase left (s .term) counts st e h fits)) ∙ s .same;
+            same = comes-to (turn-goes pure capacity (s .phase) (s .left) (x .term) (s .counts) st e h fits);
           },
         )
           where
-            typed : infer tables (st .next) (tables .inputs) ≡ some (s .type)
-            typed = infer-step tables (mayDrop (tables .calls)) phase (tables .inputs) (s .type) (s .term) st (s .typed) e
+            typed : infer tables (st .next) (tables .inputs) ≡ some (x .type)
+            typed = infer-step tables pure (s .phase) (tables .inputs) (x .type) (x .term) st (x .typed) e
 
             fits : size (st .next) ≤ capacity
             fits = omega (arith, gapped-size g, g .ordered, g .inside, long)
 
-  module _ {words after front : List ℕ} {start end rest left : ℕ} {counts : Counts} (k : Seeks after start end 0 front rest)
-      (long : length front ≡ capacity) where
-    -- the next phase begins at the front
-    pub standing-inserted : Standing Insertion words start end left counts
-        → Turns Insertion (tables .calls) words start end left after Stop → Standing Reduction front 0 rest left counts
-    standing-inserted s x =
-        let q = standing-stops s x in
-        record {
-          term = s .term;
-          type = s .type;
+    -- a turn that ends the phase
+    module _ {after : List ℕ} (turn : TurnFrom (tables .calls) s after Stop) where
+      stops-at : (step pure (s .phase) (x .term) ≡ none) × Current (tables .calls) after (s .start) (s .end) (x .term)
+      stops-at = told (turn .told (x .term) (x .at))
+        where
+          told : {after : List ℕ} {n : ℕ} → Turned (s .phase) (tables .calls) after (s .start) (s .end) (s .left) n (x .term) Stop
+              → (step pure (s .phase) (x .term) ≡ none) × Current (tables .calls) after (s .start) (s .end) (x .term)
+          told (stops e c) = (e, c)
+
+      over : onwards pure capacity (s .phase) (reached (s .left) (x .term) (s .counts)) ≡ whole
+      over = comes-to (turn-stops pure capacity (s .phase) (s .left) (x .term) (s .counts) (stops-at .0))
+
+      -- the gap can go back to any place then
+      pub stands-seekable : (place : ℕ) → place ≤ s .start → Seekable after (s .start) (s .end) place
+      stands-seekable place le =
+          let g = stops-at .1 .gapped in
+          gapped-seekable g place (omega (arith, le, gapped-size g))
+
+      module _ {front : List ℕ} {rest : ℕ} (k : Seeks after (s .start) (s .end) 0 front rest) where
+        -- the next phase begins at the front
+        pub stands-onwards : {phase : Phase} (second : List ℕ) → length front ≡ capacity → Follows (s .phase) phase
+            → StandsFor (atFront s phase front rest second)
+        stands-onwards {phase} second long f = record {
+          term = x .term;
+          type = x .type;
           at = record {
-            current = record { shaped = q .1 .shaped; gapped = gapped-sought (q .1 .gapped) k };
-            clear = clear-zero (mayDrop (tables .calls)) Reduction (s .term);
-            premise = q .0;
+            current = record { shaped = stops-at .1 .shaped; gapped = gapped-sought (stops-at .1 .gapped) k };
+            clear = clear-zero pure phase (x .term);
+            premise = premise-at-front (tables .calls) f (x .term) (stops-at .0);
           };
-          typed = s .typed;
+          typed = x .typed;
           long = long;
-          same = sym (ap (onwards (mayDrop (tables .calls)) capacity Insertion) (turn-stops (mayDrop (tables .calls)) capacity Insertion left (s .term) counts (q .0))
-              ∙ insertion-ends (mayDrop (tables .calls)) capacity left (s .term) counts) ∙ s .same;
+          same = sym (phase-ends (tables .calls) f capacity (s .left) (x .term) (s .counts)) ∙ over;
         }
 
-    pub standing-reduced : Standing Reduction words start end left counts
-        → Turns Reduction (tables .calls) words start end left after Stop → Standing Dropping front 0 rest left counts
-    standing-reduced s x =
-        let q = standing-stops s x in
-        record {
-          term = s .term;
-          type = s .type;
-          at = record {
-            current = record { shaped = q .1 .shaped; gapped = gapped-sought (q .1 .gapped) k };
-            clear = clear-zero (mayDrop (tables .calls)) Dropping (s .term);
-            premise = refl;
-          };
-          typed = s .typed;
-          long = long;
-          same = sym (ap (onwards (mayDrop (tables .calls)) capacity Reduction) (turn-stops (mayDrop (tables .calls)) capacity Reduction left (s .term) counts (q .0))
-              ∙ reduction-ends (mayDrop (tables .calls)) capacity left (s .term) counts) ∙ s .same;
-        }
-
-    -- the last phase is over
-    pub standing-ended : Standing Dropping words start end left counts → Turns Dropping (tables .calls) words start end left after Stop
-        → Ended front rest left counts
-    standing-ended s x =
-        let q = standing-stops s x in
-        record {
-          term = s .term;
-          gapped = gapped-sought (q .1 .gapped) k;
-          whole-is = sym (s .same) ∙ turn-stops (mayDrop (tables .calls)) capacity Dropping left (s .term) counts (q .0);
+        -- the last phase is over
+        pub stands-at-form : s .phase ≡ Dropping → FormReached front rest (s .left) (s .counts)
+        stands-at-form e = record {
+          term = x .term;
+          gapped = gapped-sought (stops-at .1 .gapped) k;
+          whole-is = sym over ∙ ap (λ (p : Phase). onwards pure capacity p (reached (s .left) (x .term) (s .counts))) e;
         }

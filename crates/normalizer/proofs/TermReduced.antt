@@ -16,8 +16,8 @@ use Rattle.outcomes.specs.Buffers.{overwrite}
 use Rattle.outcomes.specs.Normalize.{reducedTo}
 use Rattle.outcomes.specs.declared.Answer.{Answer}
 use Rattle.step.specs.Currents.{Gapped, Current}
-use Rattle.normalizer.specs.Reductions.{Reducible, Comes, refusal, ended, Reduces}
-use Rattle.normalizer.specs.Runs.{Fills, Settleable, Settles}
+use Rattle.normalizer.specs.Reductions.{Reducible, Reports, refusal, ended, Reduces}
+use Rattle.normalizer.specs.Answers.{Fills, Settleable, Settles}
 use Rattle.normalizer.specs.declared.reduce.Reduced.{Reduced}
 use Rattle.step.proofs.GapMoved.{gapped-size}
 use Rattle.words.proofs.Pastes.{drop-pasted}
@@ -53,17 +53,19 @@ module _ {calls words output first second : List ℕ} (x : Settleable calls word
   }
 
   module _ {budget : ℕ} {after : List ℕ} {r : Reduced} (y : Reduces calls first′ begin budget after r) where
-    comes : (t : Term) → Shaped calls t → words ≡ encode t → Comes after r (reduce (mayDrop calls) (length first) (record { budget = budget }) t)
-    comes t s e = subst (λ (k : ℕ). Comes after r (reduce (mayDrop calls) k (record { budget = budget }) t)) same-long (y .told t (placed t s e))
+    reported : (t : Term) → Shaped calls t → words ≡ encode t
+        → Reports after r (reduce (mayDrop calls) (length first) (record { budget = budget }) t)
+    reported t s e =
+        subst (λ (k : ℕ). Reports after r (reduce (mayDrop calls) k (record { budget = budget }) t)) same-long (y .told t (placed t s e))
 
     -- stopped on the way
     pub settled-stopped : (A : ℕ) (a : Answer) → (r .refusal ≡ 0 → ⊥)
         → a ≡ record { refusal = r .refusal; ty = 0; length = 0; counts = r .counts }
         → Settles calls words A budget (length first) output a output
     unfolding reducedTo overwrite
-    settled-stopped A a z ae = record { told = λ t s e. go _ (comes t s e) }
+    settled-stopped A a z ae = record { told = λ t s e. go _ (reported t s e) }
       where
-        go : (p : Progress) → Comes after r p → Fills (reducedTo A p) output a output
+        go : (p : Progress) → Reports after r p → Fills (reducedTo A p) output a output
         go (stopped (suc n) counts) (refusal re ce) = record {
           answer-is = ae ∙ ap₂ {C = Answer} (λ (i : ℕ) (cs : Counts). record { refusal = i; ty = 0; length = 0; counts = cs }) re ce;
           output-is = refl;
@@ -73,9 +75,9 @@ module _ {calls words output first second : List ℕ} (x : Settleable calls word
     module _ (z : r .refusal ≡ 0) (l : length after ≡ length first′) where
       -- the last term is there, and has room in the output
       pub last-inside : (r .begin ≤ length after) × (length after - r .begin ≤ length output)
-      last-inside = go _ (comes (x .term) (x .shaped) (x .is))
+      last-inside = go _ (reported (x .term) (x .shaped) (x .is))
         where
-          go : (p : Progress) → Comes after r p → (r .begin ≤ length after) × (length after - r .begin ≤ length output)
+          go : (p : Progress) → Reports after r p → (r .begin ≤ length after) × (length after - r .begin ≤ length output)
           go (stopped (suc n) counts) (refusal re ce) = absurd (omega (arith, z, re))
           go (reached left u counts) (ended re ce g) = (g .inside, omega (arith, l, same-long, x .room))
 
@@ -84,7 +86,7 @@ module _ {calls words output first second : List ℕ} (x : Settleable calls word
           → Settles calls words A budget (length first) output
           (record { refusal = 0; ty = A; length = length after - r .begin; counts = r .counts }) output′
       unfolding reducedTo overwrite size
-      settled-ended A output′ oe = record { told = λ t s e. go _ (comes t s e) }
+      settled-ended A output′ oe = record { told = λ t s e. go _ (reported t s e) }
         where
           sized : {u : Term} → Gapped after 0 (r .begin) u → length after - r .begin ≡ size u
           sized g = omega (arith, gapped-size g)
@@ -96,7 +98,7 @@ module _ {calls words output first second : List ℕ} (x : Settleable calls word
               ap₂ {C = List ℕ} (λ (ws : List ℕ) (k : ℕ). ws ++ drop k output)
               (ap₂ {C = List ℕ} take (sized g) (tail-part after (r .begin) ∙ g .words-are) ∙ take-length (encode u)) n
 
-          go : (p : Progress) → Comes after r p
+          go : (p : Progress) → Reports after r p
               → Fills (reducedTo A p) output (record { refusal = 0; ty = A; length = length after - r .begin; counts = r .counts }) output′
           go (stopped (suc n) counts) (refusal re ce) = absurd (omega (arith, z, re))
           go (reached left u counts) (ended re ce g) = record {

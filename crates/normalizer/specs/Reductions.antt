@@ -34,12 +34,12 @@ pub record Reducible (calls words : List ℕ) (begin : ℕ) (second : List ℕ) 
   pub scratch : length second ≡ length words
 
 -- what a reduction came to, as it is answered, with the last term at the buffer's end
-pub data Comes (after : List ℕ) (r : Reduced) : Progress → Type 0 where
-  refusal : {n : ℕ} {counts : Counts} → r .refusal ≡ suc n → r .counts ≡ counts → Comes after r (stopped (suc n) counts)
+pub data Reports (after : List ℕ) (r : Reduced) : Progress → Type 0 where
+  refusal : {n : ℕ} {counts : Counts} → r .refusal ≡ suc n → r .counts ≡ counts → Reports after r (stopped (suc n) counts)
   ended : {left : ℕ} {u : Term} {counts : Counts} → r .refusal ≡ 0 → r .counts ≡ counts → Gapped after 0 (r .begin) u
-      → Comes after r (reached left u counts)
+      → Reports after r (reached left u counts)
 
 -- for whatever term is there; the capacity is the buffer's length
 pub record Reduces (calls before : List ℕ) (begin budget : ℕ) (after : List ℕ) (r : Reduced) : Type 0 where
   pub told : (t : Term) → Current calls before 0 begin t
-      → Comes after r (reduce (mayDrop calls) (length before) (record { budget = budget }) t)
+      → Reports after r (reduce (mayDrop calls) (length before) (record { budget = budget }) t)

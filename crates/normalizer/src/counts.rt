@@ -6,7 +6,7 @@ ghost use Rattle.reduction.specs.Reduction.{index, raise as raiseOf};
 use reduction::Rule;
 
 // the place of a rule's count
-pub fn index_of(rule: Rule) -> usize
+fn index_of(rule: Rule) -> usize
     ensures { λ r. ⌜ r ≡ index rule ⌝ }
 {
     match rule {

@@ -4,7 +4,7 @@ ghost use Prim.Native.Nat.{min};
 ghost use lib.ListN.{length as lengthOf};
 ghost use Rattle.syntax.specs.Tables.{over};
 ghost use Rattle.outcomes.specs.Contract.{Normalizes};
-ghost use Rattle.normalizer.specs.Runs.{Runs, Settleable, Settles};
+ghost use Rattle.normalizer.specs.Answers.{FillsNormalized, Settleable, Settles};
 use crate::reduce::reduce;
 use checker::check::NORMALIZE_LIMIT;
 use checker::check::check_within;
@@ -80,8 +80,9 @@ fn run(
     second: &mut [u64],
 ) -> Answer
     ensures { λ r. ⌜
-        Runs (record { budget = budget }) (over (now (types .entry)) (now (calls .entry)) (now (inputs .entry))) (now (term .entry))
-        (record { output = now (output .entry); scratch₁ = now (first .entry); scratch₂ = now (second .entry) }) r (now (output .exit))
+        FillsNormalized (record { budget = budget }) (over (now (types .entry)) (now (calls .entry)) (now (inputs .entry)))
+        (now (term .entry)) (record { output = now (output .entry); scratch₁ = now (first .entry); scratch₂ = now (second .entry) }) r
+        (now (output .exit))
         ⌝ }
 {
     let none: [u32; 10] = [0; 10];

@@ -14,8 +14,7 @@ pub struct Reduced {
     pub counts: [u32; 10],
 }
 
-// reduces the term at the buffer's end, from `begin` on, to its normal form, which is there then; the buffer's length is the capacity.
-// `pending` is space for going through parts.
+// reduces the term at the buffer's end, from `begin` on, to its normal form, which is at the end then; the buffer's length is the capacity
 pub fn reduce(
     calls: &[u64],
     current: &mut [u64],
@@ -26,6 +25,7 @@ pub fn reduce(
     requires { ⌜ Reducible (now calls) (now current) begin (now second) ⌝ }
     ensures { λ r. ⌜ Reduces (now (calls .entry)) (now (current .entry)) begin budget (now (current .exit)) r ⌝ }
 {
+    // space in which a step goes through the parts of its redex
     let mut pending: [u64; PENDING] = [0; PENDING];
     let mut counts: [u32; 10] = [0; 10];
     let mut left: u32 = budget;

@@ -17,6 +17,6 @@ answer-to-spec =
     (λ c κs. search needs)
     (λ c. search needs)
     (λ c.
-    let normalize = c .before .before .before .before .before .before .before .before .normalize in
-    let listing = c .before .before .listing in
-    listing-normalized _ _ _ _ _ _ _ _ (full-capacity _ _ _ refl refl refl) (normalize .ensures .outcome) (listing .ensures)))
+    let call : tie.After-normalize = search in
+    let last : tie.After-listing = search in
+    listing-normalized _ _ _ _ _ _ _ _ (full-capacity _ _ _ refl refl refl) (call .normalize .ensures .outcome) (last .listing .ensures)))

@@ -1,4 +1,5 @@
--- Read, then refused or answered.
+-- Why `respond` is right: a bundle that is refused gets the listing of its refusal. One that is read fits the words (`reading-fits`), so its
+-- parts are there, and are answered.
 use borrow.Author.Needs.{needs}
 use Rattle.responder.proofs.ListedAnswer.{refused-responds, read-responds, reading-fits}
 use Rattle.responder.proofs.respond.Statement.{statement}
@@ -13,17 +14,17 @@ respond-spec =
     (λ c κs. search needs)
     (λ c. search needs)
     (λ c.
-    let read-bundle = c .before .before .before .before .before .before .read-bundle in
-    let if1 = c .before .before .before .before .if1 in
-    let refuse = c .before .before .refuse in
-    refused-responds _ _ _ _ _ (read-bundle .ensures) (if1 .taken) (refuse .ensures))
+    let read : tie.After-read-bundle = search in
+    let test : tie.Then1 = search in
+    let last : tie.After-refuse = search in
+    refused-responds _ _ _ _ _ (read .read-bundle .ensures) (test .if1 .taken) (last .refuse .ensures))
     (λ c. search needs)
     (λ c κs.
-    let read-bundle = c .before .before .before .before .read-bundle in
-    reading-fits _ _ _ _ (read-bundle .ensures))
+    let read : tie.After-read-bundle = search in
+    reading-fits _ _ _ _ (read .read-bundle .ensures))
     (λ c. search needs)
     (λ c.
-    let read-bundle = c .before .before .before .before .before .before .before .read-bundle in
-    let if1 = c .before .before .before .before .before .if1 in
-    let answer-parts = c .before .before .answer-parts in
-    read-responds _ _ _ _ _ (read-bundle .ensures) (if1 .left) (answer-parts .ensures)))
+    let read : tie.After-read-bundle = search in
+    let test : tie.Else1 = search in
+    let last : tie.After-answer-parts = search in
+    read-responds _ _ _ _ _ (read .read-bundle .ensures) (test .if1 .left) (last .answer-parts .ensures)))

@@ -12,10 +12,10 @@ pub is-normal-spec : {M : Type 1} → statement M
 is-normal-spec = tie.close
     (tie.spec (λ c κs. search needs) (λ c. refused-tested (tables (c .before .before)) _ _ (c .before .check-within .ensures) (c .if1 .taken))
     (λ c κs.
-    let verdict = c .before .check-within in (
-      accepted-starts (tables (c .before .before)) _ _ (verdict .ensures) (c .if1 .left),
+    let checked = c .before .check-within in (
+      accepted-starts (tables (c .before .before)) _ _ (checked .ensures) (c .if1 .left),
       accepted-short (tables (c .before .before)) _ _
-          (verdict .ensures) (c .if1 .left),
+          (checked .ensures) (c .if1 .left),
     )) (λ c.
-    let verdict = c .before .before .check-within in
-    accepted-tested (tables (c .before .before .before)) _ _ (verdict .ensures) (c .before .if1 .left) _ (c .is-normal-form .ensures)))
+    let checked = c .before .before .check-within in
+    accepted-tested (tables (c .before .before .before)) _ _ (checked .ensures) (c .before .if1 .left) _ (c .is-normal-form .ensures)))

@@ -1,4 +1,5 @@
--- The run's outcome with both scratch buffers cleared is the definition's; the claim follows from the equation.
+-- Why `normalize` is right: what `run` answers and writes is the definition's outcome, and the two calls of `clear` make the scratch buffers
+-- those of the outcome too. So the outcome is the definition's (`outcome`), and the claim follows from the equation.
 use Prim.Native.Nat.{ℕ}
 use mathlib.Core.Path.{_≡_, _∙_, ap}
 use mathlib.Core.List.{List}
@@ -10,7 +11,7 @@ use Rattle.outcomes.specs.Normalize.{Buffers, Outcome, normalizeOutcome}
 use Rattle.outcomes.specs.Contract.{Normalizes}
 use Rattle.outcomes.specs.declared.Answer.{Answer}
 use Rattle.theory.proofs.ContractHolds.{normalizes}
-use Rattle.normalizer.specs.Runs.{Runs}
+use Rattle.normalizer.specs.Answers.{FillsNormalized}
 use borrow.Author.Needs.{needs}
 use Rattle.normalizer.proofs.normalize.normalize.Statement.{statement}
 use Rattle.normalizer.proofs.normalize.normalize.Tie as tie
@@ -20,7 +21,7 @@ unfolding cleared
 zeros-cleared words e z = z ∙ ap (λ (k : ℕ). replicate k 0) e
 
 outcome : (settings : Settings) (tables : Tables) (words : List ℕ) (before : Buffers) (a : Answer) (output first second : List ℕ)
-    → Runs settings tables words before a output → first ≡ cleared (before .scratch₁) → second ≡ cleared (before .scratch₂)
+    → FillsNormalized settings tables words before a output → first ≡ cleared (before .scratch₁) → second ≡ cleared (before .scratch₂)
     → Normalizes settings tables words before a (record { output = output; scratch₁ = first; scratch₂ = second })
 unfolding normalizeOutcome
 outcome settings tables words before a output first second r fe se =
@@ -35,6 +36,15 @@ outcome settings tables words before a output first second r fe se =
         ∙ ap (λ (u : List ℕ). record { answer = b; buffers = record { output = p; scratch₁ = u; scratch₂ = s } }) z
         ∙ ap (λ (u : List ℕ). record { answer = b; buffers = record { output = p; scratch₁ = g; scratch₂ = u } }) w
 
+returns : tie.Need-returns
+returns c =
+    let run : tie.After-run = search in
+    let first : tie.After-clear = search in
+    let second : tie.After-clear2 = search in
+    let kept = run .run .kept .1 .1 .1 .1 .1 .1 in
+    outcome _ _ _ _ _ _ _ _ (run .run .ensures) (zeros-cleared _ (kept .0) (first .clear .ensures))
+    (zeros-cleared _ (kept .1 .0) (second .clear2 .ensures))
+
 pub normalize-spec : {M : Type 1} → statement M
 normalize-spec =
     tie.close
@@ -45,9 +55,4 @@ normalize-spec =
     (λ c. search needs)
     (λ c. search needs)
     (λ c. search needs)
-    (λ c.
-    let run = c .before .before .before .before .before .before .before .before .before .before .before .before .before .before .run in
-    let clear = c .before .before .before .before .before .before .clear in
-    let clear2 = c .before .before .clear2 in
-    outcome _ _ _ _ _ _ _ _ (run .ensures) (zeros-cleared _ (run .kept .1 .1 .1 .1 .1 .1 .0) (clear .ensures))
-    (zeros-cleared _ (run .kept .1 .1 .1 .1 .1 .1 .1 .0) (clear2 .ensures))))
+    returns)

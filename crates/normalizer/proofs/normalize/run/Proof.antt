@@ -1,15 +1,59 @@
--- Each way the call can go is the definition's: refused by a check, too long, or what the reduction comes to.
-use native.Mathlib.Omega.{arith}
-use Prim.Native.Nat.{ℕ, min}
-use mathlib.Core.Path.{_≡_, _∙_, ap}
-use lib.ListN.{length-take}
-use Rattle.normalizer.proofs.AnswerAndOutput.{run-refused, run-too-long, run-settleable, run-settled}
+-- Why `run` is right: what the checks refuse is answered with their number (`refuses`). A term that they accept (`accepted`) is refused
+-- with 11 if it is longer than the capacity (`too-long`). Otherwise it may be settled in parts of the scratch buffers that are as long as the
+-- capacity (`may-settle`), and what that comes to is the outcome (`settled`).
 use borrow.Author.Needs.{needs}
+use native.Mathlib.Omega.{arith}
+use mathlib.Core.Path.{_∙_, ap}
+use Prim.Native.Nat.{ℕ, min}
+use Rattle.outcomes.specs.Normalize.{Buffers}
+use Rattle.normalizer.proofs.AnswerAndOutput.{Accepted, refusal-fills, too-long-fills, first-length, second-length}
+use Rattle.normalizer.proofs.AnswerAndOutput.{accepted-settleable, settled-fills}
 use Rattle.normalizer.proofs.normalize.run.Statement.{statement}
 use Rattle.normalizer.proofs.normalize.run.Tie as tie
 
-capacity-of : (o f s k m c : ℕ) → k ≡ min f s → m ≡ min o k → c ≡ min m 8192 → c ≡ min (min o (min f s)) 8192
-capacity-of o f s k m c e g h = h ∙ ap (λ (x : ℕ). min x 8192) (g ∙ ap (min o) e)
+-- the way back from a place to the one above it
+abbrev entry : tie.After-check-within → tie.Start
+entry c = c .before .before .before .before .before .before .before .before
+
+abbrev checked : tie.After-smaller3 → tie.After-check-within
+checked c = c .before .before .before .before
+
+abbrev buffers : tie.Start → Buffers
+buffers c = record { output = c .args .output .now; scratch₁ = c .args .first .now; scratch₂ = c .args .second .now }
+
+refuses : tie.Need-returns
+refuses c =
+    let v : tie.After-check-within = search in
+    refusal-fills _ _ _ _ (buffers (entry v)) (entry v .args .budget) _ (v .check-within .ensures) (c .before .if1 .taken) (c .refused .ensures)
+
+-- where the capacity is known
+accepted : (c : tie.After-smaller3)
+    → (let v = checked c in
+    let s = entry v .args in
+    Accepted (s .types .now) (s .calls .now) (s .inputs .now) (s .term .now) (buffers (entry v))
+    (v .check-within .result) (c .smaller3 .result))
+accepted c =
+    let e : tie.Else1 = search in
+    record {
+      checked-is = checked c .check-within .ensures;
+      accepted = e .if1 .left;
+      capacity-is = c .smaller3 .ensures ∙ ap (λ (x : ℕ). min x 8192)
+          (c .before .smaller2 .ensures ∙ ap (min _) (c .before .before .smaller .ensures));
+    }
+
+too-long : tie.Need-returns-2
+too-long c = too-long-fills (accepted (search)) _ (c .before .if2 .taken) (c .refused2 .ensures)
+
+-- where the term has room
+may-settle : tie.Need-settle-requires
+may-settle c κs =
+    let e : tie.Else2 = search in
+    accepted-settleable (accepted (search)) (e .if2 .left)
+
+settled : tie.Need-returns-3
+settled c =
+    let p : tie.After-settle = search in
+    settled-fills (accepted (search)) _ (p .settle .ensures)
 
 pub run-spec : {M : Type 1} → statement M
 run-spec =
@@ -17,78 +61,18 @@ run-spec =
     (tie.spec
     (λ c κs. search needs)
     (λ c κs. search needs)
-    (λ c.
-    let at-if1 = c .before in
-    let at-verdict = at-if1 .before in
-    let args = at-verdict .before .before .before .before .before .before .before .before .args in
-    run-refused _ _ _ _ (args .output .now) (args .first .now) (args .second .now) (args .budget) _ (at-verdict .check-within .ensures)
-    (at-if1 .if1 .taken) _ (c .refused .ensures))
+    refuses
     (λ c κs. search needs)
     (λ c κs. search needs)
     (λ c κs. search needs)
     (λ c κs. search needs)
-    (λ c.
-    let at-if2 = c .before in
-    let at-smaller3 = at-if2 .before in
-    let at-smaller2 = at-smaller3 .before in
-    let at-smaller = at-smaller2 .before in
-    let at-if1 = at-smaller .before in
-    let at-verdict = at-if1 .before in
-    let args = at-verdict .before .before .before .before .before .before .before .before .args in
-    run-too-long _ _ _ _ (args .output .now) (args .first .now) (args .second .now) (args .budget) _ (at-verdict .check-within .ensures)
-    _ (capacity-of _ _ _ _ _ _ (at-smaller .smaller .ensures) (at-smaller2 .smaller2 .ensures) (at-smaller3 .smaller3 .ensures))
-    (at-if1 .if1 .left) (at-if2 .if2 .taken) _ (c .refused2 .ensures))
+    too-long
     (λ c. search needs)
-    (λ c.
-    let at-smaller3 = c .before .before .before in
-    let at-smaller2 = at-smaller3 .before in
-    let at-smaller = at-smaller2 .before in
-    let args = at-smaller .before .before .before .before .before .before .before .before .before .before .args in
-    omega (
-      arith,
-      length-take (at-smaller3 .smaller3 .result) (args .first .now),
-      at-smaller .smaller .ensures,
-      at-smaller2
-          .smaller2 .ensures,
-      at-smaller3 .smaller3 .ensures,
-    ))
+    (λ c. omega (arith, first-length (accepted (search))))
     (λ c. search needs)
-    (λ c.
-    let at-smaller3 = c .before .before .before .before in
-    let at-smaller2 = at-smaller3 .before in
-    let at-smaller = at-smaller2 .before in
-    let args = at-smaller .before .before .before .before .before .before .before .before .before .before .args in
-    omega (
-      arith,
-      length-take (at-smaller3 .smaller3 .result) (args .second .now),
-      at-smaller .smaller .ensures,
-      at-smaller2
-          .smaller2 .ensures,
-      at-smaller3 .smaller3 .ensures,
-    ))
-    (λ c κs.
-    let at-if2 = c .before .before .before in
-    let at-smaller3 = at-if2 .before in
-    let at-smaller2 = at-smaller3 .before in
-    let at-smaller = at-smaller2 .before in
-    let at-if1 = at-smaller .before in
-    let at-verdict = at-if1 .before in
-    let args = at-verdict .before .before .before .before .before .before .before .before .args in
-    run-settleable _ _ _ _ (args .output .now) (args .first .now) (args .second .now) (args .budget) _
-    (at-verdict .check-within .ensures) _ (capacity-of _ _ _ _ _ _ (at-smaller .smaller .ensures) (at-smaller2 .smaller2 .ensures)
-    (at-smaller3 .smaller3 .ensures)) (at-if1 .if1 .left) (at-if2 .if2 .left))
+    (λ c. omega (arith, second-length (accepted (search))))
+    may-settle
     (λ c. search needs)
     (λ c. search needs)
     (λ c. search needs)
-    (λ c.
-    let at-settle = c .before .before .before .before .before .before in
-    let at-if2 = at-settle .before .before .before .before in
-    let at-smaller3 = at-if2 .before in
-    let at-smaller2 = at-smaller3 .before in
-    let at-smaller = at-smaller2 .before in
-    let at-if1 = at-smaller .before in
-    let at-verdict = at-if1 .before in
-    let args = at-verdict .before .before .before .before .before .before .before .before .args in
-    run-settled _ _ _ _ (args .output .now) (args .first .now) (args .second .now) (args .budget) _ (at-verdict .check-within .ensures) _
-    (capacity-of _ _ _ _ _ _ (at-smaller .smaller .ensures) (at-smaller2 .smaller2 .ensures) (at-smaller3 .smaller3 .ensures))
-    (at-if1 .if1 .left) (at-if2 .if2 .left) _ _ (at-settle .settle .ensures)))
+    settled)

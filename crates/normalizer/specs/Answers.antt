@@ -20,8 +20,8 @@ pub record Fills (n : Normalized) (before : List ℕ) (answer : Answer) (after :
   pub output-is : after ≡ overwrite (n .words) before
 
 -- the outcome of the whole call
-abbrev pub Runs : Settings → Tables → List ℕ → Buffers → Answer → List ℕ → Type 0
-Runs settings tables words before answer output =
+abbrev pub FillsNormalized : Settings → Tables → List ℕ → Buffers → Answer → List ℕ → Type 0
+FillsNormalized settings tables words before answer output =
     Fills (normalizeWithin (capacityOf before) settings tables words) (before .output) answer output
 
 -- the words are those of a typed term, and the buffers have room for it
