@@ -3,10 +3,10 @@ use Prim.Native.Nat.{ℕ, zero, suc, _+_, _-_, _≤_, _<_}
 use native.Mathlib.Omega.{arith}
 use native.Mathlib.Nat.{add-suc, suc-add}
 use native.Mathlib.Numerals.{add-one}
-use mathlib.Core.Path.{_≡_, refl, sym, _∙_, ap, ap₂}
+use mathlib.Core.Path.{_≡_, refl, sym, _∙_, ap}
 use mathlib.Core.List.{List, [], _∷_, _++_, append-assoc, append-nil}
 use lib.ListN.{length, getD, drop, take, set, replicate, length-drop, length-replicate, take-append-drop}
-use lib.Seq.{paste, paste-zero, paste-suc, drop-paste, getD-drop, getD-take, drop-cons, take-suc, set-at}
+use lib.Seq.{paste, paste-suc, drop-paste, getD-drop, getD-take, drop-cons, take-suc, set-at}
 use lib.Seq.{length-take-le, drop-drop, drop-at, take-append-le, take-take}
 
 -- past what is pasted the words are the list's

@@ -13,7 +13,7 @@ use Rattle.syntax.specs.Parts.{partCount}
 use Rattle.syntax.specs.Shaped.{count}
 use Rattle.syntax.proofs.Sizes.{sizeAll}
 use Rattle.words.specs.Joined.{joined}
-use Rattle.words.specs.Depths.{Opened, Opens}
+use Rattle.words.specs.Depths.{Opened, OpensParts}
 use Rattle.words.proofs.Joined.{count-joined, joined-done}
 use Rattle.words.proofs.Rows.{Marching, march-inside, march-within, march-parts}
 
@@ -104,7 +104,7 @@ near-opened {p} {q} {last} {n} {o} {d} {most} w h le j l = by (ltb j last) refl
 
 -- a node is passed: the row ahead is one of its parts and the others, not deeper than one word further
 pub near-next : {calls : List ℕ} (p q : List ℕ) {w : ℕ} (d at owed r : ℕ) → Near p owed (d + at) → 1 ≤ owed
-    → Opens calls w (getD p (owed - 1) 0) p q (owed - 1) r → Near q r (d + (at + 1))
+    → OpensParts calls w (getD p (owed - 1) 0) p q (owed - 1) r → Near q r (d + (at + 1))
 near-next p q d at owed r near lt o j l =
     let n = near-opened (o .opened) (λ i k. near i (omega (arith, k))) (near _ (omega (arith, lt))) j (omega (arith, l, o .many)) in
     omega (arith, n)

@@ -36,7 +36,7 @@ settle-spec =
     let pre = at-copy .before .before .before .before .before .before .before .pre in
     let inside = last-inside (pre) refl (at-copy .copy .ensures) (at-reduce .reduce .ensures) (c .if1 .left)
     (at-reduce .reduce .kept .1 .0) in
-    omega (arith, inside .0, at-reduce .reduce .kept .1 .0, at-copy .copy .kept .1 .1 .0, pre .at-most))
+    omega (arith, inside .0, at-reduce .reduce .kept .1 .0, at-copy .copy .kept .1 .1 .1 .0, pre .at-most))
     (λ c.
     let at-reduce = c .before .before .before .before .before .before in
     let at-copy = at-reduce .before .before .before .before .before in
