@@ -43,7 +43,8 @@ pub rename-begin : {calls src old : List ℕ} {at : ℕ} (p : List ℕ) (cut by 
 rename-begin p cut by r e = trace-begin renaming (raises by) p cut (r .start) tt
     (omega (arith, r .room, size-rename (r .start .term) (raiseAt cut by))) (omega (arith, e, fits (r .start .holds)))
 
-module _ (by : ℕ) {calls src old : List ℕ} {cut at : ℕ} {p new : List ℕ} {owed i : ℕ} (g : Renaming calls src old cut at by p new owed i) where
+module _ (by : ℕ) {calls src old : List ℕ} {cut at : ℕ} {p new : List ℕ} {owed i : ℕ}
+    (g : Renaming calls src old cut at by p new owed i) where
   pub rename-variable : 1 ≤ owed → kindOf (getD src i 0) ≡ 0 → (x : ℕ) → x ≡ raisedWord (getD p (owed - 1) 0) by (getD src i 0)
       → Renaming calls src old cut at by p (set new (at + i) x) (owed - 1) (i + 1)
   unfolding traverse encode node

@@ -50,7 +50,8 @@ module _ {calls value old new : List ℕ} {at by : ℕ} where
       → Raises calls value old new at by (length value)
   unfolding underBy
   raises-copied z kept e = record {
-    told = λ v. pasted-sets value old new 0 (length value) at kept e ∙ ap (sets old at) (take-all (length value) value (omega arith) ∙ v .is ∙ ap encode (sym (same v)));
+    told = λ v. pasted-sets value old new 0 (length value) at kept e
+        ∙ ap (sets old at) (take-all (length value) value (omega arith) ∙ v .is ∙ ap encode (sym (same v)));
     size-is = refl;
   }
     where
@@ -135,7 +136,8 @@ module _ {calls body value old : List ℕ} {depth at : ℕ} {p new : List ℕ} {
 
   value-size : (v : Whole calls value) → length value ≡ size (put substitution (valued calls value) v (var under) under)
   unfolding size traverse
-  value-size v = ap (λ (l : List ℕ). length l) (v .is) ∙ sym (size-rename (v .term) (λ n. under + n)) ∙ ap size (sym (onlyAt-at under (v .term)))
+  value-size v = ap (λ (l : List ℕ). length l) (v .is) ∙ sym (size-rename (v .term) (λ n. under + n))
+      ∙ ap size (sym (onlyAt-at under (v .term)))
 
   pub value-room : at + o + length value ≤ length new
   value-room = put-room substitution (valued calls value) g lt w under we ue (length value) λ t a b c v.

@@ -62,13 +62,15 @@ module _ {X A : Type 0} (kit : Kit X) (f : A → ℕ → X) where
   }
 
   putAll-one : (a : A) (t : Term) (d : ℕ) → putAll a (arg t done) d ≡ encode (put a t d)
-  putAll-one a t d = putAll-arg a t done d ∙ ap (λ (l : List ℕ). encode (put a t d) ++ l) (putAll-done a d) ∙ append-nil (encode (put a t d))
+  putAll-one a t d = putAll-arg a t done d ∙ ap (λ (l : List ℕ). encode (put a t d) ++ l) (putAll-done a d)
+      ∙ append-nil (encode (put a t d))
 
   -- a node that is no variable: its word, and then its parts
   pub put-node : (a : A) (t : Term) (d : ℕ) → (node t .kind ≡ 0 → ⊥)
       → encode (put a t d) ≡ wordOf t ∷ (putAll a (outer t) d ++ putAll a (inner t) (suc d))
   put-node a t d z = encode-binding kit (underBy kit d (f a)) t z
-      ∙ ap {B = List ℕ} (λ (g : ℕ → X). wordOf t ∷ (putAll a (outer t) d ++ encodeAll (traverseAll kit (inner t) g))) (under-underBy kit d (f a))
+      ∙ ap {B = List ℕ} (λ (g : ℕ → X). wordOf t ∷ (putAll a (outer t) d ++ encodeAll (traverseAll kit (inner t) g)))
+      (under-underBy kit d (f a))
 
   -- o words are written from `at` on, before the row ahead
   abbrev pub Ahead : (old : List ℕ) (d at : ℕ) (p new : List ℕ) (o : ℕ) → Terms → Terms → Type 0
@@ -127,7 +129,8 @@ module _ {X A : Type 0} (kit : Kit X) (f : A → ℕ → X) where
       first : Visit calls words (Ahead old d at p new o) i owed (g .going .start .terms) (g .going .start .rest)
       first = visit calls words (g .going) lt _ _ (g .going .start .holds)
 
-      at-term : {ts : Terms} {rest : List ℕ} (P : Term → A → Type 0) (v : Visit calls words (Ahead old d at p new o) i owed ts rest) → OfTerm P
+      at-term : {ts : Terms} {rest : List ℕ} (P : Term → A → Type 0) (v : Visit calls words (Ahead old d at p new o) i owed ts rest)
+          → OfTerm P
           → (a : A) → P (v .term) a
       at-term P v h a = h (v .term) (we ∙ v .word) (ap kindOf we ∙ v .kind) (ap numberOf we ∙ v .number) a
 
@@ -159,7 +162,8 @@ module _ {X A : Type 0} (kit : Kit X) (f : A → ℕ → X) where
           )
 
       -- a node that is no variable: its word is written, and then its parts are ahead
-      pub trace-node : (kindOf w ≡ 0 → ⊥) → (q : List ℕ) (r y : ℕ) → length q ≡ length p → OpensParts calls w under p q (owed - 1) r → y ≡ at + o
+      pub trace-node : (kindOf w ≡ 0 → ⊥) → (q : List ℕ) (r y : ℕ) → length q ≡ length p → OpensParts calls w under p q (owed - 1) r
+          → y ≡ at + o
           → Trace calls words old d at m q (set new y w) r (i + 1) (o + 1)
       unfolding march-on
       trace-node nz q r y l ops ye = record {
@@ -173,7 +177,8 @@ module _ {X A : Type 0} (kit : Kit X) (f : A → ℕ → X) where
             subst (Writing old (set new y w) at (o + 1) (putAll a ts d))
             (append-assoc (putAll a os under) (putAll a is (suc under)) (ahead (putting a) p (v .later)) ∙ sym j)
             (write-next (w ∷ []) _ y 1
-            (subst (λ (z : List ℕ). Writing old new at o (putAll a ts d) (z ++ ahead (putting a) p (v .later))) e (to-write v a)) ye refl refl);
+            (subst (λ (z : List ℕ). Writing old new at o (putAll a ts d) (z ++ ahead (putting a) p (v .later))) e (to-write v a))
+            ye refl refl);
         given = g .given;
         room = g .room;
         spare = omega (arith, g .spare, l);
@@ -221,7 +226,8 @@ module _ {X A : Type 0} (kit : Kit X) (f : A → ℕ → X) where
           → Trace calls words old d at m p (set new y x) (owed - 1) (i + 1) (o + 1)
       unfolding node size partCount
       trace-variable z x y ye h =
-          trace-leaf p (set new y x) 1 y refl (λ j c. refl) (length-set new y x) (ap (partsOfKind (arity calls (numberOf w))) z) ye λ t e k n a.
+          let none = ap (partsOfKind (arity calls (numberOf w))) z in
+          trace-leaf p (set new y x) 1 y refl (λ j c. refl) (length-set new y x) none ye λ t e k n a.
           by-kind (λ u. w ≡ wordOf u → numberOf w ≡ node u .number → Put u a) 0 t (sym k ∙ z) (λ v f c. of-word (var v) a (h v f c a)) e n
         where
           Put : Term → A → Type 0

@@ -83,7 +83,8 @@ count-begin {calls} {words} p d s sp =
       space = omega (arith, sp, l);
       near = near-begin p d (omega (arith, sp));
       going = march-from calls words (Counting (set p 0 d) d 0) 1 (one-starts s) λ ts e.
-          let a : ahead used (set p 0 d) ts ≡ usesAll ts d = ahead-one used (set p 0 d) d ts e (getD-set-same p 0 d 0 (omega (arith, sp))) in
+          let a : ahead used (set p 0 d) ts ≡ usesAll ts d =
+          ahead-one used (set p 0 d) d ts e (getD-set-same p 0 d 0 (omega (arith, sp))) in
           omega (arith, a);
     }
 
@@ -108,7 +109,8 @@ module _ {calls words p : List ℕ} {d owed at u : ℕ} (g : Tally calls words p
     tally-opens = opens-room p d 2 (g .going) (g .near) (omega (arith, march-fits calls words (g .going), g .space)) (omega arith) lt far
 
     -- a node
-    pub count-node : (q : List ℕ) (s r : ℕ) → length q ≡ length p → s ≡ counts (eqb (getD words at 0) (pack 0 (getD p (owed - 1) 0) 0)) → s ≤ 1
+    pub count-node : (q : List ℕ) (s r : ℕ) → length q ≡ length p → s ≡ counts (eqb (getD words at 0) (pack 0 (getD p (owed - 1) 0) 0))
+        → s ≤ 1
         → OpensParts calls (getD words at 0) (getD p (owed - 1) 0) p q (owed - 1) r → Tally calls words q d r (at + 1) (u + s)
     unfolding ahead uses used
     count-node q s r l se sl w =

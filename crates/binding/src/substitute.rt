@@ -29,7 +29,8 @@ fn put_value(
     by: usize,
     pending: &mut [u64],
 ) -> usize
-    requires { ⌜ Whole (now calls) (now value) × (at + length (now value) ≤ length (now dst)) × (length (now value) ≤ 8192) × (by ≤ 65536) ⌝ }
+    requires { ⌜ Whole (now calls) (now value) × (at + length (now value) ≤ length (now dst)) × (length (now value) ≤ 8192)
+        × (by ≤ 65536) ⌝ }
     requires { ⌜ length (now value) + 2 ≤ length (now pending) ⌝ }
     ensures { λ r. ⌜ Raises (now (calls .entry)) (now (value .entry)) (now (dst .entry)) (now (dst .exit)) at by r ⌝ }
 {
@@ -54,7 +55,8 @@ pub fn substitute_into(
 )
     requires { ⌜ RoomFor (now calls) (now body) (now value) (length (now dst)) at depth (length (now pending)) ⌝ }
     requires { ⌜ (depth + length (now body) ≤ 65536) × (length (now value) ≤ 8192) ⌝ }
-    ensures { λ _. ⌜ Substitutes (now (calls .entry)) (now (body .entry)) (now (value .entry)) (now (dst .entry)) (now (dst .exit)) at depth ⌝ }
+    ensures { λ _. ⌜ Substitutes (now (calls .entry)) (now (body .entry)) (now (value .entry)) (now (dst .entry)) (now (dst .exit)) at
+        depth ⌝ }
 {
     let mut owed: usize = 1;
     let mut i: usize = 0;

@@ -7,16 +7,16 @@ use libc::STDIN_FILENO;
 mod codec; // codec.rt: words from bytes, and the contents of buffers
 mod lines; // lines.rt: what is written for each call
 
-use crate::lines::bundle_listing;
-use crate::lines::check_line;
-use crate::lines::normal_line;
-use crate::lines::normalize_line;
 use crate::codec::HEADER_BYTES;
 use crate::codec::MOST_BYTES;
 use crate::codec::MOST_WORDS;
 use crate::codec::decode;
 use crate::codec::header_word;
 use crate::codec::length_word;
+use crate::lines::bundle_listing;
+use crate::lines::check_line;
+use crate::lines::normal_line;
+use crate::lines::normalize_line;
 
 // reads so many bytes to the front; no where the input ends before
 fn read_front(bytes: &mut [u8], n: usize) -> bool {

@@ -9,12 +9,12 @@ ghost use Rattle.search.specs.Marks.{Space};
 ghost use Rattle.normal_form.specs.Roles.{firstRole, laterRole, roleOf, suits, operationKind, keepsVariable};
 ghost use Rattle.normal_form.specs.NormalTest.{isNormalValue, Tests, Decides};
 use checker::check::OTHER_LIMIT;
+use search::marks::mark;
+use search::value::value_kind;
 use words::fields::kind;
 use words::fields::number;
 use words::shape::binders;
 use words::shape::part_count;
-use search::marks::mark;
-use search::value::value_kind;
 
 // where a part ends, and whether it passed its test; the end is 0 if not
 pub struct Part {

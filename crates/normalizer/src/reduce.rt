@@ -1,11 +1,11 @@
 // The loop over phases and steps.
 ghost use Rattle.normalizer.specs.Reductions.{Reducible, Reduces};
 use crate::counts::raise;
-use words::PENDING;
 use reduction::Phase;
 use step::gap::seek;
 use step::turn::Turn;
 use step::turn::take_turn;
+use words::PENDING;
 
 // refusal 0 and where the last term begins, or 10 or 11; and the counts of the steps taken
 pub struct Reduced {

@@ -2,14 +2,14 @@
 ghost use Prim.Native.Nat.{_≤_};
 ghost use lib.ListN.{length as lengthOf};
 ghost use Rattle.step.specs.Turns.{Ready, Turns};
-use search::find::find;
 use crate::gap::seek;
-use search::next_from::next_from;
 use crate::rewrite::Rewritten;
 use crate::rewrite::rewrite;
 use reduction::Found;
 use reduction::Phase;
 use reduction::Rule;
+use search::find::find;
+use search::next_from::next_from;
 
 // the phase is over; refused with a number; or a step by a rule, and where the gap begins and ends then
 pub enum Turn {

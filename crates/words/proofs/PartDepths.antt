@@ -74,7 +74,8 @@ module _ (old new : List ℕ) (last depth : ℕ) where
           let z : bindsOf k ≡ false = simp (ne-eqb k 2 p, ne-eqb k 4 q, ne-eqb k 10 r) in
           let n = partsOfKind a k in
           let o : outerCount k n ≡ n = ap (λ (x : Bool). cond x (freeOf k) n) z in
-          by-place n 0 0 0 (e .at-last ∙ ap (λ (x : Bool). depth + counts x) z) (e .at-middle ∙ ap (λ (x : Bool). depth + counts x) (ne-eqb k 10 r))
+          by-place n 0 0 0 (e .at-last ∙ ap (λ (x : Bool). depth + counts x) z)
+          (e .at-middle ∙ ap (λ (x : Bool). depth + counts x) (ne-eqb k 10 r))
           (e .others) (e .kept) (λ l. absurd (omega (arith, l))) (λ z l. refl) (λ l. absurd (omega (arith, l))) (λ g l. refl) (omega arith)
           (outerCount k n) (omega (arith, o))
 

@@ -30,7 +30,8 @@ getD-paste-before l at s n i h lt =
     ∙ getD-append-before (take at l) (take n s ++ drop (at + n) l) i (omega (arith, lt, length-take-le at l h)) ∙ getD-take at l i 0 lt
 
 -- one word more at the end: the next of the source
-pub paste-next : (l : List ℕ) (at : ℕ) (src : List ℕ) (start i v : ℕ) → at + i < length l → start + i < length src → v ≡ getD src (start + i) 0
+pub paste-next : (l : List ℕ) (at : ℕ) (src : List ℕ) (start i v : ℕ) → at + i < length l → start + i < length src
+    → v ≡ getD src (start + i) 0
     → set (paste l at (drop start src) i) (at + i) v ≡ paste l at (drop start src) (i + 1)
 paste-next l at src start i v h g e =
     ap (λ (x : ℕ). set (paste l at (drop start src) i) (at + i) x) (e ∙ sym (getD-drop start src i 0))

@@ -12,7 +12,8 @@ use Rattle.binding.proofs.uses.count_uses.Statement.{statement}
 use Rattle.binding.proofs.uses.count_uses.Tie as tie
 
 abbrev Inv-loop : tie.InvT-loop
-Inv-loop calls t depth pending₀ owed₀ at₀ uses₀ pending owed at uses = Tally calls t pending depth owed at uses × (length pending ≡ length pending₀)
+Inv-loop calls t depth pending₀ owed₀ at₀ uses₀ pending owed at uses =
+    Tally calls t pending depth owed at uses × (length pending ≡ length pending₀)
 
 abbrev μ-loop : tie.MeasureT-loop
 μ-loop calls t depth pending₀ owed₀ at₀ uses₀ pending owed at uses = length t - at

@@ -11,7 +11,8 @@ use Rattle.words.proofs.shape.part_count.Statement.{statement}
 use Rattle.words.proofs.shape.part_count.Tie as tie
 
 -- a number's digits are the part counts if they are at each kind
-agrees : (n : ℕ) → passes (λ j. eqb (n / 2 ^ (j * 4) % 16) (partsOfKind 0 j)) 16 ≡ true → (k : ℕ) → k < 16 → n / 2 ^ (k * 4) % 16 ≡ partsOfKind 0 k
+agrees : (n : ℕ) → passes (λ j. eqb (n / 2 ^ (j * 4) % 16) (partsOfKind 0 j)) 16 ≡ true → (k : ℕ) → k < 16
+    → n / 2 ^ (k * 4) % 16 ≡ partsOfKind 0 k
 agrees n = kinds-agree (λ j. n / 2 ^ (j * 4) % 16) (partsOfKind 0)
 
 pub part-count-spec : {M : Type 1} → statement M
