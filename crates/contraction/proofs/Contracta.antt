@@ -13,7 +13,6 @@ use Rattle.syntax.proofs.Sizes.{size-positive, size-bind, size-case, size-var}
 use Rattle.words.proofs.PastedWords.{pasted-sets}
 use Rattle.words.specs.Fronts.{Holds, Whole, from}
 use Rattle.binding.specs.Writes.{RoomFor, Substitutes}
-use Rattle.binding.specs.declared.substitute.Moved.{Moved}
 use Rattle.words.proofs.PartsAt.{held-inside, held-words, held-first}
 use Rattle.words.proofs.Sized.{same-size}
 use Rattle.words.proofs.Stretches.{write-word, write-next, write-last}
@@ -67,14 +66,14 @@ module _ (calls words : List ℕ) where
     pub putting : {len : ℕ} → Planned calls words (Substitute body value n) len → Putting len
     putting p = laid-put (p .laid) (p .room)
 
-    put-written : {y : Term} {old new : List ℕ} {r : Moved} → Laid calls words (Substitute body value n) y
-        → Substitutes calls (from words body) value-words old new 0 0 r → new ≡ sets old 0 (encode y)
+    put-written : {y : Term} {old new : List ℕ} → Laid calls words (Substitute body value n) y
+        → Substitutes calls (from words body) value-words old new 0 0 → new ≡ sets old 0 (encode y)
     unfolding underBy
-    put-written (substitutes {b = b} {l = l} hb hv ve le) f = f .told b l hb (value-whole hv ve) .written .new-is
+    put-written (substitutes {b = b} {l = l} hb hv ve le) f = f .told b l hb (value-whole hv ve)
 
-    pub put-writes : (old new : List ℕ) (r : Moved) → Substitutes calls (from words body) value-words old new 0 0 r
+    pub put-writes : (old new : List ℕ) → Substitutes calls (from words body) value-words old new 0 0
         → Writes calls words (Substitute body value n) old new
-    put-writes old new r f = record { told = λ y l. put-written l f }
+    put-writes old new f = record { told = λ y l. put-written l f }
 
   -- a part that stays
   pub record Copying (start n len : ℕ) : Type 0 where

@@ -3,7 +3,7 @@ use Prim.Native.Nat.{ℕ, suc, _+_, _-_, _≤_, _<_}
 use native.Mathlib.Omega.{arith}
 use mathlib.Core.Path.{_≡_, refl, sym, _∙_, ap}
 use mathlib.Core.List.{List, _++_}
-use lib.ListN.{length, set, take, drop}
+use lib.ListN.{length, set, drop}
 use lib.Seq.{sets, paste}
 use Rattle.syntax.specs.Term.{Term, bind, node}
 use Rattle.syntax.specs.Encoding.{wordOf, encode, size}

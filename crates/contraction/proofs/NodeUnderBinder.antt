@@ -20,7 +20,7 @@ use Rattle.syntax.proofs.Sizes.{size-positive, size-rename}
 use Rattle.words.specs.Fronts.{Holds, Starts, from}
 use Rattle.words.specs.Ends.{Sized}
 use Rattle.binding.specs.Writes.{Room, Renames}
-use Rattle.binding.specs.declared.substitute.Moved.{Moved}
+use Rattle.contraction.specs.declared.insert.Moved.{Moved}
 use Rattle.words.proofs.Sized.{same-size}
 use Rattle.words.proofs.Traversal.{fits, front-of, first-word, Going, enter, enter-start, Does, upcoming, reached, onward, onward-start, leave}
 use Rattle.words.proofs.Stretches.{Writing, write-none, write-next, write-all, write-room}

@@ -20,7 +20,7 @@ use Rattle.reduction.proofs.NextSize.{size-letOfLet, size-letOfCase}
 use Rattle.words.specs.Joined.{joined}
 use Rattle.words.specs.Fronts.{Holds, from}
 use Rattle.words.specs.Ends.{Sized}
-use Rattle.binding.specs.UseCounts.{Counted, Counts}
+use Rattle.binding.specs.UseCounts.{Counted, CountsUses}
 use Rattle.binding.specs.declared.uses.Uses.{Uses}
 use Rattle.words.proofs.Traversal.{fits}
 use Rattle.words.proofs.PartsAt.{PartsAt, parts-of, parts-open, part-here, parts-past}
@@ -42,14 +42,14 @@ put-word : (b v : Term) → 1 ≡ size v → size (b ⟦ v ⟧) ≡ size b
 put-word b v e = omega (arith, size-substitute b v, ap (λ (n : ℕ). uses b 0 * n) e)
 
 module _ {calls words : List ℕ} where
-  pub counted-with : {u : Uses} {n w : ℕ} → Counts calls words 0 u → w ≡ u .end - u .uses + u .uses * n → SizedWith calls words n w
+  pub counted-with : {u : Uses} {n w : ℕ} → CountsUses calls words 0 u → w ≡ u .end - u .uses + u .uses * n → SizedWith calls words n w
   counted-with {u} {n} {w} c e = record { told = λ b v rest h ve. put b v u n w (c .told b rest h) (c .few) ve e }
 
   word-with : {n w : ℕ} → Sized calls words w → n ≡ 1 → SizedWith calls words n w
   word-with s e = record { told = λ b v rest h ve. s .told b rest h ∙ sym (put-word b v (sym e ∙ ve)) }
 
   -- a body that is counted, and one for a value of one word
-  pub counted-body : {u : Uses} {n w : ℕ} → Counts calls words 0 u → w ≡ u .end - u .uses + u .uses * n
+  pub counted-body : {u : Uses} {n w : ℕ} → CountsUses calls words 0 u → w ≡ u .end - u .uses + u .uses * n
       → BodyWith calls words n (record { end = u .end; wrote = w })
   counted-body c e = record { ends = counts-sized c; becomes = counted-with c e }
 

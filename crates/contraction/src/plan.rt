@@ -4,7 +4,7 @@ ghost use Prim.Native.Nat.{_+_, _-_, _*_, _≤_};
 ghost use lib.ListN.{length};
 ghost use Rattle.words.specs.Fronts.{Starts, from};
 ghost use Rattle.words.specs.Ends.{Sized};
-ghost use Rattle.binding.specs.UseCounts.{Counts};
+ghost use Rattle.binding.specs.UseCounts.{CountsUses};
 ghost use Rattle.reduction.specs.declared.Rule.the-variants.{LetInsertion, LetOfLet, LetOfCase, Apply, First, Second, LeftCase, RightCase};
 ghost use Rattle.reduction.specs.declared.Rule.the-variants.{LetValue, Drop};
 ghost use Rattle.contraction.specs.Plans.{StartsRedex, BodyWith, Measures};
@@ -60,7 +60,7 @@ fn size_from(calls: &[u64], t: &[u64], at: usize) -> usize
 // where the part that starts at an index ends, counted from there, and how often it uses the variable that its node binds
 fn uses_from(calls: &[u64], t: &[u64], at: usize, pending: &mut [u64]) -> Uses
     requires { ⌜ Starts (now calls) (from (now t) at) × (at ≤ length (now t)) × (length (now t) ≤ 8192) × (8194 ≤ length (now pending)) ⌝ }
-    ensures { λ r. ⌜ Counts (now (calls .entry)) (from (now (t .entry)) at) 0 r ⌝ }
+    ensures { λ r. ⌜ CountsUses (now (calls .entry)) (from (now (t .entry)) at) 0 r ⌝ }
 {
     count_uses(calls, &t[at..], 0, pending)
 }

@@ -49,4 +49,4 @@ substitute-spec =
     substitute-into .kept .1 .1 .1 .1 .1 .1 .0)
     (λ c.
     let substitute-into = c .before .before .before .before .substitute-into in
-    put-writes _ _ _ _ _ _ _ _ (substitute-into .ensures)))
+    put-writes _ _ _ _ _ _ _ (substitute-into .ensures)))
