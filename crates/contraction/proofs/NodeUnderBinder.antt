@@ -22,7 +22,8 @@ use Rattle.words.specs.Ends.{Sized}
 use Rattle.binding.specs.Writes.{Room, Renames}
 use Rattle.binding.specs.declared.substitute.Moved.{Moved}
 use Rattle.words.proofs.Sized.{same-size}
-use Rattle.words.proofs.Traversal.{fits, front-of, first-word, Going, enter, enter-start, Does, upcoming, reached, onward, onward-start, leave}
+use Rattle.words.proofs.Traversal.{fits, front-of, first-word, Going, enter, enter-start}
+use Rattle.words.proofs.Traversal.{Does, upcoming, reached, onward, onward-start, leave}
 use Rattle.words.proofs.Stretches.{Writing, write-none, write-next, write-all, write-room}
 use Rattle.contraction.specs.Plans.{insertPart, insertParts, Inserted, partSize}
 use Rattle.contraction.specs.Insertion.{PartRoom, InsertsPart, NodeRoom, InsertsNode}

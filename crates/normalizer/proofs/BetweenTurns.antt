@@ -30,7 +30,7 @@ use Rattle.theory.proofs.NextReduction.{next-reduction, operands-next}
 use Rattle.search.specs.PhasePremise.{PhasePremise}
 use Rattle.step.specs.Currents.{Gapped, Current}
 use Rattle.step.specs.Gaps.{Seekable, Seeks}
-use Rattle.step.specs.Turns.{At, Ready, Turned, stops, spent, full, goes, Turns}
+use Rattle.step.specs.Turns.{CurrentClear, Ready, Turned, stops, spent, full, goes, Turns}
 use Rattle.search.specs.NextFrom.{nextFrom}
 use Rattle.step.specs.declared.turn.Turn.the-variants.{Stop, Refused, Step as Stepped}
 use Rattle.step.proofs.GapMoved.{gapped-size, gapped-seekable, gapped-sought}
@@ -55,7 +55,7 @@ module _ (tables : Tables) (capacity : ℕ) (whole : Progress) where
   pub record Standing (phase : Phase) (words : List ℕ) (start end left : ℕ) (counts : Counts) : Type 0 where
     pub term : Term
     pub type : ℕ
-    pub at : At phase (tables .calls) words start end term
+    pub at : CurrentClear phase (tables .calls) words start end term
     pub typed : infer tables term (tables .inputs) ≡ some type
     pub long : length words ≡ capacity
     pub same : onwards (mayDrop (tables .calls)) capacity phase (runPhase (mayDrop (tables .calls)) capacity phase left term counts) ≡ whole
