@@ -26,7 +26,8 @@ size-let e c = omega (arith, size-bind e (weakenBody c), size-rename c (under re
 
 -- the word of a let and the words of the part that it binds are written, and its body is still to be written
 pub bound-written : {calls : List ℕ} (words : List ℕ) (start : ℕ) {n at : ℕ} (old : List ℕ) {d : List ℕ} {p : Term} {rest : List ℕ}
-    (body : Term) → Holds calls (from words start) p rest → n ≡ size p → d ≡ sets (set old at 4611686018427387904) (at + 1) (take n (drop start words))
+    (body : Term) → Holds calls (from words start) p rest → n ≡ size p
+    → d ≡ sets (set old at 4611686018427387904) (at + 1) (take n (drop start words))
     → Writing old d at (1 + n) (encode (bind p body)) (encode body)
 unfolding encode node size
 bound-written words start {n} {at} old {p = p} body h e de =

@@ -1,4 +1,4 @@
--- What a redex becomes, as a plan says it: from which words it is put together.
+-- What a redex becomes by a plan, from which words it is put together, and what is measured of it.
 use Prim.Native.Nat.{ℕ, zero, suc, _+_, _≤_}
 use mathlib.Core.Path.{_≡_}
 use mathlib.Core.Bool.{Bool, true, false}
@@ -44,7 +44,8 @@ partSize (arg t ts) (suc i) = partSize ts i
 pub record PartSized (calls words : List ℕ) (i n : ℕ) : Type 0 where
   pub told : (x : Term) (rest : List ℕ) → Holds calls words x rest → n ≡ partSize (node x .parts) i
 
--- what a plan writes: the parts stand where it says; a body and a value do not overlap, so they have no more words together than there are
+-- the term that a plan makes: the parts stand where it says. A body and a value do not overlap, so they have no more words together than
+-- there are.
 pub data PlanMakes (calls words : List ℕ) : Plan → Term → Type 0 where
   substitutes : {body value n : ℕ} {b v : Term} {l m : List ℕ} → Holds calls (from words body) b l → Holds calls (from words value) v m
       → n ≡ size v → size b + n ≤ length words

@@ -100,7 +100,8 @@ fn right_case(calls: &[u64], t: &[u64], pending: &mut [u64]) -> Measured
     ensures { λ r. ⌜ Measures RightCase (now (calls .entry)) (now (t .entry)) r ⌝ }
 {
     let parts = two_sizes(calls, t, 2);
-    let right = 2 + parts.first + parts.second;
+    let left = 2 + parts.first;
+    let right = left + parts.second;
     let body = body_with(calls, t, right, parts.first, pending);
     Measured {
         plan: Plan::Substitute(right, 2, parts.first),

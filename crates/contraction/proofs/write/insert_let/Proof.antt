@@ -34,7 +34,7 @@ copied-long c = c .copy-into .kept .1 .1 .1 .0 ∙ length-set (entry c .args .ds
 moved-room : (c : Copied)
     → (let s = entry c .args in
     NodeRoom (s .calls .now) (s .t .now) (s .index) (s .size) (length (c .copy-into .last .1 .1 .1 .0)) (1 + s .size))
-moved-room c = node-room (facts (entry c) .node) _ (copied-long c)
+moved-room c = node-room (facts (entry c) .node) (copied-long c)
 
 pub insert-let-spec : {M : Type 1} → statement M
 insert-let-spec =

@@ -1,8 +1,8 @@
 -- The redex is measured, written to the second buffer, and copied in; or the next term is too long.
 --
--- Why it is right: the redex that stands behind the gap says what to measure (`starts`), and it ends inside the buffer (`behind-in`). If what
--- it becomes is no longer than the redex and the gap together, the second buffer has room for it (`plan-room`), and so has the stretch that
--- ends where the redex does.
+-- Why it is right: the redex that stands behind the gap says what to measure (`starts`), and it ends inside the buffer (`behind-in`). If
+-- what it becomes is no longer than the redex and the gap together, the second buffer has room for it (`plan-room`), and so has the stretch
+-- that ends where the redex does.
 use native.Mathlib.Omega.{arith}
 use Prim.Native.Nat.{_+_, _≤_}
 use mathlib.Core.Path.{refl}
