@@ -1,5 +1,5 @@
--- Why `first_computation` is right. The operands are the first parts of the node, and those passed are values (`Seeking`). The first that is
--- none is the answer; if all are values there is none. Let insertion fits exactly if there is one.
+-- Why `first_computation` is right. The operands are the first parts of the node, and those passed are values (`Seeking`). The first that
+-- is none is the answer; if all are values there is none. Let insertion fits exactly if there is one.
 use borrow.Author.Needs.{needs}
 use Prim.Native.Nat.{_+_, _-_, _≤_}
 use native.Mathlib.Omega.{arith}
