@@ -24,8 +24,8 @@ use Rattle.words.proofs.Joined.{size-joined, count-joined}
 use Rattle.words.proofs.Traversal.{front-of, from-length}
 use Rattle.words.proofs.PartsAt.{PartsAt, parts-of, part-here, parts-past}
 use Rattle.words.proofs.Rows.{row-holds, row-behind}
-use Rattle.search.specs.Operands.{allValues, FirstComputation, Finds}
-use Rattle.search.specs.declared.fits.Operand.{Operand}
+use Rattle.search.specs.Operands.{allValues, FirstComputation, FindsOperand}
+use Rattle.search.specs.declared.fits.FoundOperand.{FoundOperand}
 use Rattle.search.proofs.ValueByNode.{apart}
 use Rattle.contraction.specs.declared.plan.Plan.the-variants.{Insert as InsertPlan}
 use Rattle.contraction.specs.Sizes.{StartsAt}
@@ -59,7 +59,7 @@ unfolding joined count partSize
 size-behind done ts p = refl
 size-behind (arg t fs) ts p = size-behind fs ts p
 
-module _ {calls words : List ℕ} {r : Operand} where
+module _ {calls words : List ℕ} {r : FoundOperand} where
   module _ {x : Term} {rest : List ℕ} (h : Holds calls words x rest) (c : FirstComputation x r) where
     -- the part that is bound, and those behind it
     bound-at : PartsAt calls words (r .start) (arg (c .part) (c .later)) rest
@@ -76,7 +76,7 @@ module _ {calls words : List ℕ} {r : Operand} where
         omega (arith, front-of h .parts, ap count (c .parts), count-joined (c .front) (arg (c .part) (c .later)), c .index-is)
 
   -- a redex of let insertion at the front
-  module _ (f : Finds calls words r) (s : StartsRedex LetInsertion calls words) where
+  module _ (f : FindsOperand calls words r) (s : StartsRedex LetInsertion calls words) where
     found : r .found ≡ true
     unfolding fire
     found = f .told (s .start .term) (s .start .rest) (s .start .holds) .found-is ∙ ap isSome (s .fires)
