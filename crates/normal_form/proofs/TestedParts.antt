@@ -35,7 +35,8 @@ testable p =
     record { some = n; short = omega (arith, p .1); deep = omega (arith, p .1, n); small = p .1 .small }
 
 -- the parts so far passed, and the parts ts from j on are still to come
-pub record PassingParts (test : Term → Bool) (each : ℕ → Term → Bool) (old new : List ℕ) (depth k j : ℕ) (t : Term) (ts : Terms) : Type 0 where
+pub record PassingParts (test : Term → Bool) (each : ℕ → Term → Bool) (old new : List ℕ) (depth k j : ℕ) (t : Term)
+    (ts : Terms) : Type 0 where
   pub whole : test t ≡ allPass each j ts
   pub marking : Marking old new depth k j t ts
 
@@ -87,7 +88,8 @@ module _ (test : List ℕ → Term → Bool) (each : ℕ → Term → Bool) (cal
 
       module _ (be : b ≡ bindersAt k j) {new : List ℕ} (r : Part)
           (ok : Part-is (λ part. each j part ≡ true)) (a : Part-is (λ part. PassedPart part (depth + b) opened new r)) where
-        passed-part : Does calls words (PassingParts (test calls) each old mid depth k j) (PassingParts (test calls) each old new depth k (j + 1)) at (r .end)
+        passed-part : Does calls words (PassingParts (test calls) each old mid depth k j)
+            (PassingParts (test calls) each old new depth k (j + 1)) at (r .end)
         unfolding allPass
         passed-part t rest h part later holds q =
             let p = a part _ holds in

@@ -15,13 +15,13 @@ use words::shape::binders;
 use words::shape::part_count;
 
 // where a part ends, and whether it passed its test; the end is 0 if not
-pub struct Part {
+struct Part {
     pub end: usize,
     pub ok: bool,
 }
 
 // what a part of an operation, a let or a case in normal form has to be
-pub enum Role {
+enum Role {
     Variable,
     Value,
     Operation,

@@ -57,7 +57,8 @@ module _ {calls words : List ℕ} {base x : ℕ} where
 
   -- one node more
   pub passed-next : {n : ℕ} → NoUnusedBefore calls words base x n
-      → ((t : Term) (rest : List ℕ) → Holds calls (from words n) t rest → x ≤ finalMark (base + n) t) → NoUnusedBefore calls words base x (n + 1)
+      → ((t : Term) (rest : List ℕ) → Holds calls (from words n) t rest → x ≤ finalMark (base + n) t)
+      → NoUnusedBefore calls words base x (n + 1)
   passed-next {n} p q = record { marks = λ i t rest l h. go i t rest l h (ℕ-discrete i n) }
     where
       go : (i : ℕ) (t : Term) (rest : List ℕ) → i < n + 1 → Holds calls (from words i) t rest → Dec (i ≡ n) → x ≤ finalMark (base + i) t
@@ -73,7 +74,8 @@ module _ {calls words : List ℕ} {base x : ℕ} where
           (p .marks (n + i) t rest (omega (arith, lt)) (subst (λ (ws : List ℕ). Holds calls ws t rest) (from-from words n i) h));
     }
 
-    pub passed-row : NoUnusedBefore calls words base x n → NoUnusedBefore calls (from words n) (base + n) x l → NoUnusedBefore calls words base x (n + l)
+    pub passed-row : NoUnusedBefore calls words base x n → NoUnusedBefore calls (from words n) (base + n) x l
+        → NoUnusedBefore calls words base x (n + l)
     passed-row p q = record { marks = λ i t rest lt h. go i t rest lt h (decLt i n) }
       where
         behind : (i : ℕ) (t : Term) (rest : List ℕ) → i < l → Holds calls (from words (n + i)) t rest → x ≤ finalMark (base + (n + i)) t
@@ -213,12 +215,14 @@ module _ {calls words old new : List ℕ} {r : PartScan} (a : Scans calls words 
     unfolding firstRedex
     first-unused = sym (inside (decLt (r .first) (size t)))
       where
-        here : (p : PositionAt t (r .first)) → Judged calls (0 + r .first) (p .position .subterm) → firstRedex (mayDrop calls) Dropping t ≡ Redex Drop (r .first)
+        here : (p : PositionAt t (r .first)) → Judged calls (0 + r .first) (p .position .subterm)
+            → firstRedex (mayDrop calls) Dropping t ≡ Redex Drop (r .first)
         here p (stays f m) = absurd (no-further λ u rest l h.
             subst (λ (z : Term). 65536 ≤ finalMark (0 + r .first) z)
             (sym (same-term h (subterm-at t s w (r .first) (p .position) (p .is)))) m)
         here p (drops c f q m) =
-            ap foundOf (first-at (mayDrop calls) Dropping t (r .first) (p .position) c (clear-first (r .first) (omega arith) (omega (arith, lt))) (p .is) f)
+            ap foundOf (first-at (mayDrop calls) Dropping t (r .first) (p .position) c
+            (clear-first (r .first) (omega arith) (omega (arith, lt))) (p .is) f)
             ∙ ap (λ (k : Rule). Redex k (r .first)) q
 
         inside : Dec (r .first < size t) → firstRedex (mayDrop calls) Dropping t ≡ Redex Drop (r .first)

@@ -39,7 +39,8 @@ module _ {calls words : List ℕ} where
   bound-at e b rest h = record { term = e; rest = _; holds = part-here calls words (parts-of calls words h) }
 
   pub bound-starts : Starts calls words → kindOf (getD words 0 0) ≡ 4 → Starts calls (from words 1)
-  bound-starts s k = by-kind (λ t. Holds calls words t (s .rest) → Starts calls (from words 1)) 4 (s .term) (sym (front-of (s .holds) .kind) ∙ k)
+  bound-starts s k = by-kind (λ t. Holds calls words t (s .rest) → Starts calls (from words 1)) 4 (s .term)
+      (sym (front-of (s .holds) .kind) ∙ k)
       (λ e b h. bound-at e b (s .rest) h) (s .holds)
 
   let-mark : (p : ℕ) {r : ValueEnd} → TestsValue calls (from words 1) r → (e b : Term) (rest : List ℕ) → Holds calls words (bind e b) rest
@@ -48,14 +49,16 @@ module _ {calls words : List ℕ} where
   let-mark p a e b rest h = ap (λ (v : Bool). cond v 65536 p) (a .told e _ (part-here calls words (parts-of calls words h)) .value-is)
 
   -- what a let binds is no value if its first word is not of a value's kind
-  pub opens-kind : (p : ℕ) → p ≤ 65536 → kindOf (getD words 0 0) ≡ 4 → valueKind (kindOf (getD words 1 0)) ≡ false → MarksBinder calls words p p
+  pub opens-kind : (p : ℕ) → p ≤ 65536 → kindOf (getD words 0 0) ≡ 4 → valueKind (kindOf (getD words 1 0)) ≡ false
+      → MarksBinder calls words p p
   unfolding openMark node
   opens-kind p le k n = record {
     small = le;
     told = λ t rest h. by-kind (λ u. Holds calls words u rest → p ≡ openMark p u) 4 t (sym (front-of h .kind) ∙ k)
         (λ e b g.
         let q = part-here calls words (parts-of calls words g) in
-        sym (ap (λ (v : Bool). cond v 65536 p) (other-kind e (ap valueKind (sym (ap kindOf (sym (first-from words 1)) ∙ front-of q .kind)) ∙ n)))) h;
+        sym (ap (λ (v : Bool). cond v 65536 p)
+        (other-kind e (ap valueKind (sym (ap kindOf (sym (first-from words 1)) ∙ front-of q .kind)) ∙ n)))) h;
   }
 
   module _ (p : ℕ) (le : p ≤ 65536) (k : kindOf (getD words 0 0) ≡ 4) {r : ValueEnd} (a : TestsValue calls (from words 1) r) where

@@ -49,7 +49,8 @@ module _ {phase : Phase} (calls words : List ℕ) {r : Found} where
     told = λ t rest h ready.
         d ∙ (λ i. rootRedex (ruleByKinds (e₀ i) (e₁ i) (e₂ i)))
         ∙ ap (λ (ws : List ℕ). rootRedex (ruleByKinds (kindOf (getD ws 0 0)) (kindOf (getD ws 1 0)) (kindOf (getD ws 2 0)))) (h .is)
-        ∙ ap rootRedex (sym (fit-by-kinds calls (mayDrop calls) t rest (h .shaped) (inserted (mayDrop calls) t (subst (λ p. Scannable calls p t) e ready))))
+        ∙ ap rootRedex (sym (fit-by-kinds calls (mayDrop calls) t rest (h .shaped)
+        (inserted (mayDrop calls) t (subst (λ p. Scannable calls p t) e ready))))
         ∙ ap (λ (p : Phase). rootRedex (ruleOf calls p t)) (sym e);
   }
 

@@ -41,10 +41,13 @@ module _ {calls words : List ℕ} {base depth : ℕ} {old cur : List ℕ} {owed 
   ahead : 1 ≤ owed + later
   ahead = scan-ahead calls words base depth old g lt
 
+  outers-by-word : outerCount (kindOf (getD words at 0)) (partCount calls (getD words at 0)) ≡ o
+  outers-by-word = ap (λ (i : ℕ). outerCount i (partCount calls (getD words at 0))) (sym (n .kind-is))
+      ∙ ap (outerCount k) (sym (n .parts-are)) ∙ sym (n .outers-are)
+
   outers : {ts : Terms} {rest : List ℕ} {Q : Terms → Terms → Type 0} (v : Visit calls words Q at (owed + later) ts rest)
       → count (outer (v .term)) ≡ o
-  outers v = sym (v .outers) ∙ ap (λ (i : ℕ). outerCount i (partCount calls (getD words at 0))) (sym (n .kind-is)) ∙ ap (outerCount k) (sym (n .parts-are))
-      ∙ sym (n .outers-are)
+  outers v = sym (v .outers) ∙ outers-by-word
 
   -- the outer parts are no more than all
   pub outer-few : o ≤ m
@@ -65,11 +68,12 @@ module _ {calls words : List ℕ} {base depth : ℕ} {old cur : List ℕ} {owed 
     small = g .small;
     low = λ d l. omega (arith, g .low d l);
     going = march-on calls words (g .going) ahead _ (owed - 1 + m + later) (omega (arith, n .parts-are, lt)) λ ts rest v.
-        step (v .term) (outers v) (omega (arith, n .parts-are, v .parts, outers v, e)) (λ y. n .compound (n .kind-is ∙ v .kind ∙ y)) (cut-first (v .to-do) lt);
+        step (v .term) (outers v) (omega (arith, n .parts-are, v .parts, outers v, e)) (λ y. n .compound (n .kind-is ∙ v .kind ∙ y))
+        (cut-first (v .to-do) lt);
   }
     where
       flat : outerCount (kindOf (getD words at 0)) (partCount calls (getD words at 0)) ≡ partCount calls (getD words at 0)
-      flat = ap (λ (i : ℕ). outerCount i (partCount calls (getD words at 0))) (sym (n .kind-is)) ∙ ap (outerCount k) (sym (n .parts-are)) ∙ sym (n .outers-are) ∙ e ∙ n .parts-are
+      flat = outers-by-word ∙ e ∙ n .parts-are
 
       step : {ts us : Terms} (t : Term) → count (outer t) ≡ o → count (inner t) ≡ 0 → (node t .kind ≡ 0 → ⊥)
           → First (owed - 1) (Known cur under later at fresh first ts) t us
@@ -109,7 +113,8 @@ module _ {calls words : List ℕ} {base depth : ℕ} {old cur : List ℕ} {owed 
     small = op .small;
     low = λ d l. omega (arith, g .low d l);
     going = march-on calls words (g .going) ahead _ (o + (m - o)) (omega (arith, n .parts-are, e, outer-few)) λ ts rest v.
-        step (v .term) (v .holds) (outers v) (λ y. n .compound (n .kind-is ∙ v .kind ∙ y)) (omega (arith, v .many, e)) (cut-first (v .to-do) lt);
+        step (v .term) (v .holds) (outers v) (λ y. n .compound (n .kind-is ∙ v .kind ∙ y)) (omega (arith, v .many, e))
+        (cut-first (v .to-do) lt);
   }
     where
       step : {ts us : Terms} (t : Term) {rest : List ℕ} → Holds calls (from words at) t rest → count (outer t) ≡ o

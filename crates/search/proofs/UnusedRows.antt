@@ -1,5 +1,5 @@
--- The search of phase 3 node by node. Ahead are the terms of a front and, under one binder more, those of a back. Every binder in scope has a
--- final mark: its mark now and what the terms ahead add to it.
+-- The search of phase 3 node by node. Ahead are the terms of a front and, under one binder more, those of a back. Every binder in scope
+-- has a final mark: its mark now and what the terms ahead add to it.
 use Prim.Native.Nat.{ℕ, _+_, _-_, _*_, _^_, _≤_, _<_}
 use native.Mathlib.Omega.{arith}
 use native.Mathlib.Decide.{ℕ-discrete}
@@ -141,7 +141,8 @@ module _ (calls words : List ℕ) (base depth : ℕ) (old : List ℕ) where
       near-open = λ l. absurd (omega (arith, l));
       small = g .small;
       low = λ d l. low-at d l (ℕ-discrete d under);
-      going = subst (Marching calls words (λ ts us. Cut later (Facts (set cur under fresh) (under + 1) 0 at fresh first ts) us) 1 at) (swapped later)
+      going = subst (Marching calls words (λ ts us. Cut later (Facts (set cur under fresh) (under + 1) 0 at fresh first ts) us) 1 at)
+          (swapped later)
           (march-said calls words (g .going) _ said);
     }
       where
@@ -173,7 +174,11 @@ module _ (calls words : List ℕ) (base depth : ℕ) (old : List ℕ) where
             });
             bounds = λ x lim p.
                 let b = c .facts .bounds x lim p in
-                record { found = b .found; spine = λ d a l. spine-at x b d a l (ℕ-discrete d under); opened = λ l. absurd (omega (arith, l)) };
+                record {
+                  found = b .found;
+                  spine = λ d a l. spine-at x b d a l (ℕ-discrete d under);
+                  opened = λ l. absurd (omega (arith, l));
+                };
           };
         }
           where

@@ -72,7 +72,8 @@ module _ {calls words : List ℕ} {base depth : ℕ} {old cur : List ℕ} {owed 
     small = g .small;
     low = λ d l. low-at d l (visit calls words (g .going) ahead _ _ (g .going .start .holds) .term) _
         (visit calls words (g .going) ahead _ _ (g .going .start .holds) .holds);
-    going = subst (Marching calls words (λ ts us. Cut (owed - 1) (Known new under later (at + part .end) fresh least ts) us) 1 (at + part .end))
+    going = subst (Marching calls words (λ ts us. Cut (owed - 1) (Known new under later (at + part .end) fresh least ts) us) 1
+        (at + part .end))
         (one-less later) (march-term calls words (g .going) ahead _ (part .end) sized step);
   }
     where
@@ -98,7 +99,8 @@ module _ {calls words : List ℕ} {base depth : ℕ} {old cur : List ℕ} {owed 
       )
 
       step : (ts us : Terms) (t : Term) (rest : List ℕ) → Holds calls (from words at) t rest
-          → Cut owed (Known cur under later at fresh first ts) (arg t us) → Cut (owed - 1) (Known new under later (at + part .end) fresh least ts) us
+          → Cut owed (Known cur under later at fresh first ts) (arg t us)
+          → Cut (owed - 1) (Known new under later (at + part .end) fresh least ts) us
       step ts us t rest h q =
           let c = cut-first q lt in
           let f = c .facts in

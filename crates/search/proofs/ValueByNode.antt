@@ -64,7 +64,8 @@ other-kind (case s l r) h = refl
 values-joined : (ts us : Terms) → allValues (joined ts us) ≡ (allValues ts && allValues us)
 unfolding allValues joined
 values-joined done us = refl
-values-joined (arg t ts) us = ap (λ (x : Bool). isValue t && x) (values-joined ts us) ∙ sym (and-assoc (isValue t) (allValues ts) (allValues us))
+values-joined (arg t ts) us = ap (λ (x : Bool). isValue t && x) (values-joined ts us)
+    ∙ sym (and-assoc (isValue t) (allValues ts) (allValues us))
 
 -- the nodes passed are values' so far: the row holds values only if the row ahead does
 abbrev pub ValuesSoFar : Terms → Terms → Type 0
@@ -93,9 +94,9 @@ module _ {calls words : List ℕ} {at owed : ℕ} (g : Marching calls words Valu
 
   module _ (lt : 1 ≤ owed) {k : ℕ} (ke : k ≡ kindOf (getD words at 0)) where
     -- a computation
-    pub test-fails : (r : ValueEnd) → valueKind k ≡ false → r .value ≡ false → TestsValue calls words r
+    pub test-computation : (r : ValueEnd) → valueKind k ≡ false → r .value ≡ false → TestsValue calls words r
     unfolding allValues
-    test-fails r kf e = record {
+    test-computation r kf e = record {
       told = λ t rest h.
           let v = visit calls words g lt (arg t done) rest (one-holds h) in
           let c = other-kind (v .term) (ap valueKind (sym (v .kind) ∙ sym ke) ∙ kf) in

@@ -106,8 +106,8 @@ fn fit_case(k1: u64) -> Found
     }
 }
 
-// the rule of phase 2 that fits a node, by its kind, its first part's, and that part's first part's: what a kind asks here is a rule, and no
-// number of parts
+// the rule of phase 2 that fits a node, by its kind, its first part's, and that part's first part's: what a kind asks here is a rule, and
+// no number of parts
 fn fit_kinds(k0: u64, k1: u64, k2: u64) -> Found
     ensures { λ r. ⌜ r ≡ rootRedex (ruleByKinds k0 k1 k2) ⌝ }
 {

@@ -18,7 +18,7 @@ use words::shape::owed_count;
 const NO_PLACE: u64 = 65536;
 
 // where a part ends, and the least place in it of a let that can be dropped, or NO_PLACE
-pub struct PartScan {
+struct PartScan {
     pub end: usize,
     pub first: u64,
 }

@@ -1,11 +1,11 @@
--- Why `first_redex` is right. Every word is the first of a node, and no rule fits a node before the word that the scan has reached (`Scanned`).
--- So the first node that a rule fits is the first redex, and at the end there is none.
+-- Why `first_redex` is right. Every word is the first of a node, and no rule fits a node before the word that the scan has reached
+-- (`Scanned`). So the first node that a rule fits is the first redex, and at the end there is none.
 use borrow.Author.Needs.{needs}
 use Prim.Native.Nat.{_-_}
 use native.Mathlib.Omega.{arith}
 use lib.ListN.{length}
 use Rattle.words.proofs.Traversal.{from-length}
-use Rattle.search.proofs.ForwardScan.{Scanned, scan-enter, scan-starts, scan-next, scan-found, scan-end}
+use Rattle.search.proofs.ForwardScan.{Scanned, forward-enter, forward-starts, forward-next, forward-found, forward-end}
 use Rattle.search.proofs.redex.first_redex.Statement.{statement}
 use Rattle.search.proofs.redex.first_redex.Tie as tie
 
@@ -36,7 +36,7 @@ first-redex-spec =
     (tie.spec
     Inv-loop
     μ-loop
-    (λ c. scan-enter _ _ _)
+    (λ c. forward-enter _ _ _)
     (λ c. search needs)
     (λ c. search needs)
     (λ c. search needs)
@@ -44,15 +44,15 @@ first-redex-spec =
     (λ c κs.
     let l : Head = search in
     let s = entry l in
-    (scan-starts _ _ _ _ (search) (s .pre .0), omega (arith, from-length (s .args .rest .now) (l .loop .k), s .pre .1)))
+    (forward-starts _ _ _ _ (search) (s .pre .0), omega (arith, from-length (s .args .rest .now) (l .loop .k), s .pre .1)))
     (λ c. search needs)
     (λ c.
     let f : Tried = search in
-    scan-found _ _ _ _ (search) (head f .loop .inv) (f .fit .ensures) _ _ (c .before .found .given .1))
+    forward-found _ _ _ _ (search) (head f .loop .inv) (f .fit .ensures) _ _ (c .before .found .given .1))
     (λ c. search needs)
     (λ c. search needs)
     (λ c. search needs)
     (λ c.
     let f : Tried = search in
-    scan-next _ _ _ _ (search) (head f .loop .inv) (f .fit .ensures) (c .enum-told .given .1))
-    (λ c. scan-end _ _ _ _ (c .before .loop .inv) (c .loop-test .left)))
+    forward-next _ _ _ _ (search) (head f .loop .inv) (f .fit .ensures) (c .enum-told .given .1))
+    (λ c. forward-end _ _ _ _ (c .before .loop .inv) (c .loop-test .left)))

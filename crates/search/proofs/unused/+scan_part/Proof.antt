@@ -1,13 +1,14 @@
--- Why `scan_part` is right. Ahead are a row of `owed` terms and, under one binder more, a row of `later` ones (`Scanning`). If the first row
--- is empty, the binder is marked and the second row becomes the first. A variable raises the mark of its binder. The parts of a node without
--- inner parts come into the row. A node with inner parts is gone into if nothing else is ahead, so that the binders marked here are those on
--- one path; any other is gone through by a call, on fewer words (`fewer`). If nothing is ahead, the marks are final: the least place is the
--- least of them and of what the calls found.
+-- Why `scan_part` is right. Ahead are a row of `owed` terms and, under one binder more, a row of `later` ones (`Scanning`). If the first
+-- row is empty, the binder is marked and the second row becomes the first. A variable raises the mark of its binder. The parts of a node
+-- without inner parts come into the row. A node with inner parts is gone into if nothing else is ahead, so that the binders marked here
+-- are those on one path; any other is gone through by a call, on fewer words (`fewer`). If nothing is ahead, the marks are final: the
+-- least place is the least of them and of what the calls found.
 mod Measures
 use borrow.Author.Needs.{needs}
 use Prim.Native.Nat.{ℕ, _+_, _-_, _*_, _≤_, _<_}
 use native.Mathlib.Omega.{arith}
 use mathlib.Core.Path.{_≡_, refl}
+use mathlib.Core.List.{List}
 use lib.ListN.{length, getD}
 use contract.Lifetimes.{Lfts}
 use borrow.Fn.Kinds.{In, Dens, Plain}
@@ -117,20 +118,24 @@ module _ (m : ℕ) where
   some : (c : Ahead) → 1 ≤ head c .loop .owed
   some c = omega (arith, c .if1 .left)
 
-  starts : (c : Ahead) → Starts (entry (head c) .args .calls .now) (from (entry (head c) .args .t .now) (head c .loop .at))
+  abbrev tail : Ahead → List ℕ
+  tail c = from (entry (head c) .args .t .now) (head c .loop .at)
+
+  starts : (c : Ahead) → Starts (entry (head c) .args .calls .now) (tail c)
   starts c = scan-starts _ _ _ _ _ (head c .loop .inv) (some c)
 
-  room : (c : Ahead) → MarkSpace (head c .loop .used) (head c .loop .under) (length (from (entry (head c) .args .t .now) (head c .loop .at)))
+  room : (c : Ahead) → MarkSpace (head c .loop .used) (head c .loop .under) (length (tail c))
   room c = scan-room _ _ _ _ _ (head c .loop .inv) (some c) (entry (head c) .pre .1 .0 .1)
 
-  tail : (c : Ahead) → length (from (entry (head c) .args .t .now) (head c .loop .at)) + head c .loop .at ≡ length (entry (head c) .args .t .now)
-  tail c = omega (arith, from-length (entry (head c) .args .t .now) (head c .loop .at), reach (head c))
+  rest : (c : Ahead) → length (tail c) + head c .loop .at ≡ length (entry (head c) .args .t .now)
+  rest c = omega (arith, from-length (entry (head c) .args .t .now) (head c .loop .at), reach (head c))
 
   -- where its parts are counted
   parts : (c : Counted)
       → (let l = turn c .loop in
       let s = entry (turn c) .args in
-      NodeParts (s .calls .now) (getD (s .t .now) (l .at) 0) (kinded c .kind .result) (c .before .owed-count .result) (c .outer-count .result))
+      NodeParts (s .calls .now) (getD (s .t .now) (l .at) 0) (kinded c .kind .result) (c .before .owed-count .result)
+      (c .outer-count .result))
   parts c = record {
     kind-is = kinded c .kind .ensures;
     compound = c .before .before .if2 .left;
@@ -143,9 +148,9 @@ module _ (m : ℕ) where
 
   -- where it is left to a call
   fewer : (c : place lts.Else4)
-      → (let l = turn (c .before .before) in
-      length (from (entry l .args .t .now) (l .loop .at)) < length (entry l .args .t .now))
-  fewer c = omega (arith, tail (search), turn (c .before .before) .loop .inv .further (c .if4 .left))
+      → (let a = ahead (kinded (c .before .before)) in
+      length (tail a) < length (entry (head a) .args .t .now))
+  fewer c = omega (arith, rest (search), turn (c .before .before) .loop .inv .further (c .if4 .left))
 
   moved : (c : Called)
       → (let l = turn (counted c) in
@@ -153,7 +158,7 @@ module _ (m : ℕ) where
       (1 ≤ e) × (l .loop .at + e ≤ length (entry l .args .t .now)))
   moved c =
       let a = c .scan-part .ensures in
-      (part-moves (turn (counted c) .loop .inv) (some (search)) a, omega (arith, a .within, tail (search)))
+      (part-moves (turn (counted c) .loop .inv) (some (search)) a, omega (arith, a .within, rest (search)))
 
   scan-part-meets : {M : Type 1} → lts.Closed (claims m) (scan-part-at m) scan-part-reads.Post M
   scan-part-meets =
@@ -202,7 +207,7 @@ module _ (m : ℕ) where
       (λ c. omega (arith, reach (search)))
       (λ c. omega (arith, reach (search)))
       (λ c. omega (arith, reach (search)))
-      (λ c κs. (starts (search), omega (arith, tail (search), reach (search)), omega (arith, reach (search))))
+      (λ c κs. (starts (search), omega (arith, rest (search), reach (search)), omega (arith, reach (search))))
       (λ c. omega (arith, reach (search)))
       (λ c.
       let l : Head = search in
@@ -219,7 +224,7 @@ module _ (m : ℕ) where
       (λ c. omega (arith, reach (search)))
       (λ c κs. (
         omega (arith, fewer (search)),
-        ((starts (search), room (search)), (omega (arith, tail (search), reach (search)), omega (arith, tail (search), reach (search)))),
+        ((starts (search), room (search)), (omega (arith, rest (search), reach (search)), omega (arith, rest (search), reach (search)))),
       ))
       (λ c κs. search needs)
       (λ c. omega (arith, moved (search), reach (search)))

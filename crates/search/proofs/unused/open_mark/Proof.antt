@@ -1,5 +1,5 @@
--- Why `open_mark` is right. A let that binds a computation has its place for a mark, any other node 65536. What a let binds is a computation if
--- its kind is no value's, or else if the value test says so.
+-- Why `open_mark` is right. A let that binds a computation has its place for a mark, any other node 65536. What a let binds is a
+-- computation if its kind is no value's, or else if the value test says so.
 use native.Mathlib.Omega.{arith}
 use Prim.Native.Nat.{_+_, _≤_}
 use mathlib.Core.Path.{_≡_, sym, _∙_, ap}

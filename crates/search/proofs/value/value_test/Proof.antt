@@ -16,7 +16,7 @@ use Rattle.words.specs.Fronts.{from}
 use Rattle.words.proofs.PartCounts.{of-kind, kinds-agree, kinds-imply}
 use Rattle.words.proofs.Traversal.{from-length}
 use Rattle.words.proofs.Rows.{Marching, march-inside, march-first}
-use Rattle.search.proofs.ValueByNode.{ValuesSoFar, test-begin, test-end, test-fails, test-function, function-words, test-open}
+use Rattle.search.proofs.ValueByNode.{ValuesSoFar, test-begin, test-end, test-computation, test-function, function-words, test-open}
 use Rattle.search.proofs.value.value_test.Statement.{statement}
 use Rattle.search.proofs.value.value_test.Tie as tie
 
@@ -47,7 +47,8 @@ module _ {counts : List ℕ} (table : Tabled counts) {k : ℕ} (l : k < 16) wher
       let low : leb (entry k) 3 ≡ true = le-leb (entry k) 3 (omega (arith, table .entries k l, few)) in
       record {
         of-value = kinds-imply (λ j. leb (entry j) 3) valueKind refl k l low;
-        parts-are = table .entries k l ∙ eqb-true _ _ (kinds-imply (λ j. leb (entry j) 3) (λ j. eqb (entry j) (partsOfKind 0 j)) refl k l low);
+        parts-are = table .entries k l
+            ∙ eqb-true _ _ (kinds-imply (λ j. leb (entry j) 3) (λ j. eqb (entry j) (partsOfKind 0 j)) refl k l low);
         no-call = λ e. omega (arith, table .entries k l, ap entry e, few);
         no-function = λ e. omega (arith, table .entries k l, ap entry e, few);
       }
@@ -152,7 +153,7 @@ returns c =
     let k = c .before .before in
     let inv = head (turn k) .loop .inv in
     let none = no-value (inv .0) (in-table k) (omega (arith, c .before .if1 .left, c .if2 .left)) in
-    test-fails (inv .1) (some (turn k)) (k .kind .ensures) _ none refl
+    test-computation (inv .1) (some (turn k)) (k .kind .ensures) _ none refl
 
 pub value-test-spec : {M : Type 1} → statement M
 value-test-spec =

@@ -158,7 +158,8 @@ module _ (m : ℕ) where
       let l = turn p .loop in
       let s = start (turn p) .args in
       let k = kinded (turn p) .kind .result in
-      Testing isNormalForm (partPasses (s .calls .now) k) (s .calls .now) (s .t .now) (s .used .now) (s .depth) k (p .normal-test .last .1 .1 .0)
+      Testing isNormalForm (partPasses (s .calls .now) k) (s .calls .now) (s .t .now) (s .used .now) (s .depth) k
+      (p .normal-test .last .1 .1 .0)
       (turn p .before .part-count .result) (l .at + p .normal-test .result .end) (l .j + 1))
   next c =
       let p = tested c in

@@ -1,8 +1,8 @@
 -- `normal_value_test` meets its contract, if calls on fewer words do.
 --
--- Why it is right: a variable is a normal value, and its use is marked. A function is one exactly if its body is in normal form, under a mark
--- of its own (`body`, `opened`, `passed`). A node of another kind that no value has is none. A pair or an injection is gone through part by
--- part, and each part has to be a normal value; none of them stands under a binder (`bare`).
+-- Why it is right: a variable is a normal value, and its use is marked. A function is one exactly if its body is in normal form, under a
+-- mark of its own (`body`, `opened`, `passed`). A node of another kind that no value has is none. A pair or an injection is gone through
+-- part by part, and each part has to be a normal value; none of them stands under a binder (`bare`).
 --
 -- A fact is stated once, at the place where it begins to hold, and cited further down as `fact (search)`: `search` finds the place by its
 -- type. Only the ways between places count statements.
@@ -81,7 +81,8 @@ module _ (m : ℕ) where
   -- at a function: its body is its one part, and stands under a mark of its own
   body : (c : Function)
       → (let s = entry (kinded c) .args in
-      Testing isNormalValue (λ j. isNormalForm (s .calls .now)) (s .calls .now) (s .t .now) (s .used .now) (s .depth) (kinded c .kind .result)
+      Testing isNormalValue (λ j. isNormalForm (s .calls .now)) (s .calls .now) (s .t .now) (s .used .now) (s .depth)
+      (kinded c .kind .result)
       (s .used .now) 1 1 0)
   body c = function-enter (entry (kinded c) .pre .1 .0) _ _ _ (kinded c .kind .ensures) (c .if2 .taken)
 
@@ -123,11 +124,13 @@ module _ (m : ℕ) where
       → (let p = c .before .before .before .before in
       let s = entry (headed (head p)) .args in
       let l = head p .loop in
-      Testing isNormalValue (λ j. isNormalValue (s .calls .now)) (s .calls .now) (s .t .now) (s .used .now) (s .depth) (headed (head p) .kind .result)
+      Testing isNormalValue (λ j. isNormalValue (s .calls .now)) (s .calls .now) (s .t .now) (s .used .now) (s .depth)
+      (headed (head p) .kind .result)
       (p .normal-value-test .last .1 .1 .0) (head p .before .part-count .result) (l .at + p .normal-value-test .result .end) (l .j + 1))
   next c =
       let p : PartTested = search in
-      values-next (head p .loop .inv) (search) (p .normal-value-test .ensures) (search) (bare (search)) (p .normal-value-test .kept .1 .1 .0)
+      values-next (head p .loop .inv) (search) (p .normal-value-test .ensures) (search) (bare (search))
+      (p .normal-value-test .kept .1 .1 .0)
 
   pub normal-value-test-meets : {M : Type 1} → lts.Closed (normal-value-test-claims m) (normal-value-test-at m) normal-value-test.Post M
   normal-value-test-meets =
