@@ -40,6 +40,7 @@ impl Term {
         let parts: [Option<&Term>; 3] = match self {
             Term::Variable(_) => [None, None, None],
             Term::Call(_, arguments) => {
+                assert!(arguments.len() <= 3, "a call has at most three arguments");
                 let mut arguments = arguments.iter();
                 [arguments.next(), arguments.next(), arguments.next()]
             }
@@ -62,6 +63,7 @@ impl Term {
         let parts: [Option<&mut Term>; 3] = match self {
             Term::Variable(_) => [None, None, None],
             Term::Call(_, arguments) => {
+                assert!(arguments.len() <= 3, "a call has at most three arguments");
                 let mut arguments = arguments.iter_mut();
                 [arguments.next(), arguments.next(), arguments.next()]
             }

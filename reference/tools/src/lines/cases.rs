@@ -146,7 +146,8 @@ fn needs(sample: &Sample) -> (usize, usize) {
     match listed {
         Some(listed) => {
             let longest = listed.terms.iter().map(Term::size).max();
-            (listed.rules.len(), longest.unwrap_or(0).min(AMPLE_CAPACITY))
+            let longest = longest.expect("a walk has a first term");
+            (listed.rules.len(), longest.min(AMPLE_CAPACITY))
         }
         None => (AMPLE_BUDGET, AMPLE_CAPACITY),
     }

@@ -55,7 +55,7 @@ impl Formulas<'_> {
     fn base(&self, entry: Type) -> String {
         match entry {
             Type::Base(name) => self.legend.base(name as usize),
-            _ => String::new(),
+            other => panic!("{other:?} is no base type"),
         }
     }
 }
