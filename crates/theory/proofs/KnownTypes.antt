@@ -51,7 +51,7 @@ module _ (tables : Tables) (wf : Earlier tables) (fit : Fitting tables) (ok : �
       let f = whole-known o in
       (omega (arith, p .0), omega (arith, p .1))
 
-  result-known : {k A : ℕ} {s : Signature} → Signed tables k s → s .result ≡ A → InTable A
+  pub result-known : {k A : ℕ} {s : Signature} → Signed tables k s → s .result ≡ A → InTable A
   result-known {k} {A} {s} e d =
       let w = bind-some (getElem? (tables .calls) k) (λ w. some (signatureOf w)) (e .is) in
       let q = Option·some-injective (signatureOf (w .0)) s (w .2) in
