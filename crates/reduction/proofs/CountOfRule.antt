@@ -21,7 +21,7 @@ unfoldable pub stepsBy : Rule → List Step → ℕ
 stepsBy r [] = 0
 stepsBy r (s ∷ ss) = counts (eqb (index (s .rule)) (index r)) + stepsBy r ss
 
-index-below : (r : Rule) → index r < 10
+pub index-below : (r : Rule) → index r < 10
 index-below LetInsertion = omega arith
 index-below LetOfLet = omega arith
 index-below LetOfCase = omega arith

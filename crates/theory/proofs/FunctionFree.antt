@@ -34,10 +34,12 @@ module _ (tables : Tables) (wf : Earlier tables) where
       go true h = refl
       go false h = absurd h
 
-  pub free-left : {A l r : ℕ} (k : ℕ) → T (isComposite k) → components tables k A ≡ some (l, r) → FunctionFree tables A → FunctionFree tables l
+  pub free-left : {A l r : ℕ} (k : ℕ) → T (isComposite k) → components tables k A ≡ some (l, r) → FunctionFree tables A
+      → FunctionFree tables l
   free-left k c e f D p = f D (ofLeft k c e p)
 
-  pub free-right : {A l r : ℕ} (k : ℕ) → T (isComposite k) → components tables k A ≡ some (l, r) → FunctionFree tables A → FunctionFree tables r
+  pub free-right : {A l r : ℕ} (k : ℕ) → T (isComposite k) → components tables k A ≡ some (l, r) → FunctionFree tables A
+      → FunctionFree tables r
   free-right k c e f D p = f D (ofRight k c e p)
 
   plain-word : (f A w k : ℕ) → getElem? (tables .types) A ≡ some w → kindOf w ≡ k → FunctionFree tables A

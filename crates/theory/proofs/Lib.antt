@@ -30,3 +30,5 @@ pub mod SoundStep
 pub mod Subformulas
 pub mod TypesKept
 pub mod ValuesMakeNoCalls
+pub mod WrongOnCases
+pub mod WrongPrograms

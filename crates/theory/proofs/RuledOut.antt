@@ -54,7 +54,7 @@ abbrev pub source : Term
 source = app function (call 0 done)
 
 -- and after phase 1: let c, function(d v0) applied to v0
-abbrev named : Term
+abbrev pub named : Term
 named = bind (call 0 done) (app function (var 0))
 
 -- the one that copies its input
@@ -93,7 +93,7 @@ part-types-ruled-out Ds e h = function-no-subformula source
     (h 1 (subst (λ (x : List ℕ). 1 ∈ x) (Option·some-injective (0 ∷ 1 ∷ 0 ∷ 0 ∷ 0 ∷ []) Ds e) (there here)))
 
 -- phase 1 of case A, by computation
-phase₁ : Steps (mayDrop (tables .calls)) Insertion source (record { rule = LetInsertion; place = 0; next = named } ∷ []) named
+pub phase₁ : Steps (mayDrop (tables .calls)) Insertion source (record { rule = LetInsertion; place = 0; next = named } ∷ []) named
 unfolding positions traverse isValue argumentsIn operands nameFirst letInsertion fire rules contract firstStep step
 phase₁ = stepped refl (ended refl)
 
@@ -104,7 +104,8 @@ unfolding node partsOf asVar asLam asApp asBind asPair asFst asSnd asInl asInr a
 named-has-redex = refl
 
 -- the one that inserts lets and skips phases 2 and 3: it hands back the last term of phase 1
-pub insertion-ruled-out : {u : Term} {ss : List Step} → Steps (mayDrop (tables .calls)) Insertion source ss u → Claim tables (encode source) 0 (encode u) → ⊥
+pub insertion-ruled-out : {u : Term} {ss : List Step} → Steps (mayDrop (tables .calls)) Insertion source ss u
+    → Claim tables (encode source) 0 (encode u) → ⊥
 unfolding leaf unary binary splitForest callBuilder builders graft decodeForest decode encode node
 insertion-ruled-out {u} q c =
     let e : u ≡ named = steps-unique (mayDrop (tables .calls)) Insertion refl q phase₁ .1 in
