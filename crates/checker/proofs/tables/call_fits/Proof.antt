@@ -1,6 +1,6 @@
 -- The count decides of each argument field whether it is used.
 use mathlib.Core.Path.{_≡_, refl, sym, _∙_, ap}
-use mathlib.Core.Bool.{Bool, true, false, _&&_, not}
+use mathlib.Core.Bool.{Bool, true, false, _&&_, not, and-assoc}
 use mathlib.Core.List.{List, [], _∷_}
 use Prim.Native.Nat.{ℕ, zero, suc, _≤_, _<_}
 use native.Mathlib.Omega.{arith}
@@ -24,19 +24,16 @@ field t n i x = fieldFits (ltb i n) t x
 abbrev listed : ℕ → ℕ → ℕ → ℕ → ℕ → Bool
 listed t n x y z = every (λ A. ltb A t) (take n (x ∷ y ∷ z ∷ [])) && every (λ A. eqb A 0) (drop n (x ∷ y ∷ z ∷ []))
 
-assoc : (a b c : Bool) → ((a && b) && c) ≡ (a && (b && c))
-assoc true b c = refl
-assoc false b c = refl
-
 by-fields : (t n x y z : ℕ) → n ≤ 3 → every (λ b. b) (field t n 0 x ∷ field t n 1 y ∷ field t n 2 z ∷ []) ≡ listed t n x y z
 by-fields t zero x y z h = refl
-by-fields t (suc zero) x y z h = sym (assoc (ltb x t) true (eqb y 0 && (eqb z 0 && true)))
+by-fields t (suc zero) x y z h = sym (and-assoc (ltb x t) true (eqb y 0 && (eqb z 0 && true)))
 by-fields t (suc (suc zero)) x y z h =
-    sym (assoc (ltb x t) (ltb y t && true) (eqb z 0 && true) ∙ ap (λ (b : Bool). ltb x t && b) (assoc (ltb y t) true (eqb z 0 && true)))
+    sym (and-assoc (ltb x t) (ltb y t && true) (eqb z 0 && true)
+    ∙ ap (λ (b : Bool). ltb x t && b) (and-assoc (ltb y t) true (eqb z 0 && true)))
 by-fields t (suc (suc (suc zero))) x y z h =
-    sym (assoc (ltb x t) (ltb y t && (ltb z t && true)) true
+    sym (and-assoc (ltb x t) (ltb y t && (ltb z t && true)) true
     ∙ ap (λ (b : Bool). ltb x t && b)
-    (assoc (ltb y t) (ltb z t && true) true ∙ ap (λ (b : Bool). ltb y t && b) (assoc (ltb z t) true true)))
+    (and-assoc (ltb y t) (ltb z t && true) true ∙ ap (λ (b : Bool). ltb y t && b) (and-assoc (ltb z t) true true)))
 by-fields t (suc (suc (suc (suc n)))) x y z h = absurd (omega arith)
 
 -- what is left to test of a call word
