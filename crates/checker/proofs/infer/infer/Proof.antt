@@ -18,7 +18,7 @@ use Rattle.checker.proofs.InferTurns.{turn-given, turn-whole, turn-next
 use Rattle.checker.proofs.infer.infer.Statement.{statement}
 use Rattle.checker.proofs.infer.infer.Tie as tie
 use Rattle.checker.proofs.infer.infer.Proof.Places.{weight, Inv-loop, μ-loop, place, Entry, Head, entry, Gives, giving}
-use Rattle.checker.proofs.infer.infer.Proof.Places.{Inner, inner, Bound, bound, Counted, counted, Next, next, Entered, entered}
+use Rattle.checker.proofs.infer.infer.Proof.Places.{Inner, inner, Bound, bound, counted, next, Entered, entered}
 use Rattle.checker.proofs.infer.infer.Proof.Places.{Last, last, Closed, closed, Waits, waits, Begun, begun, Opened, opened}
 
 -- the buffers have room for the term, as long as they were at the entry
