@@ -62,8 +62,8 @@ size-behind (arg t fs) ts p = size-behind fs ts p
 module _ {calls words : List ℕ} {r : FoundOperand} where
   module _ {x : Term} {rest : List ℕ} (h : Holds calls words x rest) (c : FirstComputation x r) where
     -- the part that is bound, and those behind it
-    bound-at : PartsAt calls words (r .start) (arg (c .part) (c .later)) rest
-    bound-at =
+    operand-at : PartsAt calls words (r .start) (arg (c .part) (c .later)) rest
+    operand-at =
         let ts = arg (c .part) (c .later) in
         let all = subst (λ (us : Terms). PartsAt calls words 1 us rest) (c .parts) (parts-of calls words h) in
         subst (λ (j : ℕ). PartsAt calls words j ts rest) (sym (c .start-is))
@@ -84,17 +84,17 @@ module _ {calls words : List ℕ} {r : FoundOperand} where
     first : {x : Term} {rest : List ℕ} → Holds calls words x rest → FirstComputation x r
     first {x} {rest} h = f .told x rest h .first found
 
-    pub bound-starts : StartsAt calls words (r .start)
-    bound-starts =
+    pub operand-starts : StartsAt calls words (r .start)
+    operand-starts =
         let h = s .start .holds in
-        let b = bound-at h (first h) in
+        let b = operand-at h (first h) in
         record { inside = omega (arith, b .inside); start = record { term = first h .part; rest = _; holds = part-here calls words b } }
 
     -- the part that is bound has m words
     module _ {m : ℕ} (z : Sized calls (from words (r .start)) m) where
       module _ {x : Term} {rest : List ℕ} (h : Holds calls words x rest) where
         size-is : m ≡ size (first h .part)
-        size-is = z .told _ _ (part-here calls words (bound-at h (first h)))
+        size-is = z .told _ _ (part-here calls words (operand-at h (first h)))
 
         found-size : m ≡ partSize (node x .parts) (r .index)
         found-size =
@@ -103,7 +103,7 @@ module _ {calls words : List ℕ} {r : FoundOperand} where
 
       module _ {x : Term} {rest : List ℕ} (h : Holds calls words x rest) where
         later-at : PartsAt calls words (r .start + m) (first h .later) rest
-        later-at = parts-past calls words (bound-at h (first h)) m (size-is h)
+        later-at = parts-past calls words (operand-at h (first h)) m (size-is h)
 
         -- the node's size, by the parts behind
         size-by-later : size x ≡ r .start + m + sizeAll (first h .later)
@@ -126,7 +126,7 @@ module _ {calls words : List ℕ} {r : FoundOperand} where
             (c .values) (n .computation) (c .computation) in
             let i : count (n .front) ≡ r .index = ap count (e .0) ∙ sym (c .index-is) in
             let hp = subst (λ (t : Term). Holds calls (from words (r .start)) t (encodeAll (c .later) ++ rest)) (sym (e .1))
-            (part-here calls words (bound-at h c)) in
+            (part-here calls words (operand-at h c)) in
             subst (PlanMakes calls words (InsertPlan (r .index) (r .start) m)) (sym (n .is))
             (inserts h (subst (λ (j : ℕ). Inserted j x (n .node-under)) i (n .inserted)) hp (size-is h ∙ ap size (sym (e .1)))
             (record { told = λ t more g. found-size g }))
@@ -139,8 +139,8 @@ module _ {calls words : List ℕ} {r : FoundOperand} where
           makes = makes (named-part i);
         }
 
-      pub bound-inside : r .start + m ≤ length words
-      bound-inside = omega (arith, later-at (s .start .holds) .inside)
+      pub operand-inside : r .start + m ≤ length words
+      operand-inside = omega (arith, later-at (s .start .holds) .inside)
 
       module _ {n : ℕ} (ne : n ≡ partCount calls (getD words 0 0)) where
         pub index-in : r .index + 1 ≤ n
@@ -156,7 +156,7 @@ module _ {calls words : List ℕ} {r : FoundOperand} where
         -- the node ends where the l words of the parts behind do
         module _ {l : ℕ} (b : SizedAll calls (from words (r .start + m)) (n - 1 - r .index) l) where
           pub end-inside : r .start + m + l ≤ length words
-          end-inside = omega (arith, b .within, from-length words (r .start + m), bound-inside)
+          end-inside = omega (arith, b .within, from-length words (r .start + m), operand-inside)
 
           pub insertion-measures : Measures LetInsertion calls words (record {
             plan = InsertPlan (r .index) (r .start) m;

@@ -64,7 +64,8 @@ module _ {calls words : List ℕ} {start end body at : ℕ} where
     pub let-room : {len′ : ℕ} → len′ ≡ len → LetRoom calls words start end body len′ at
     let-room e = record { bound = r .bound; under = r .under; parts = r .parts; room = omega (arith, e, r .room) }
 
-    pub let-fits : {old new : List ℕ} {p n : ℕ} → Renames calls (from words body) old new p 1 1 n → at + 1 + (end - start) + n ≤ len
+    pub let-fits : {old new : List ℕ} {p cut by n : ℕ} → Renames calls (from words body) old new p cut by n
+        → at + 1 + (end - start) + n ≤ len
     let-fits f = omega (arith, end-is, r .room, size-let (r .bound) (r .under), f .told (r .under) _ (r .parts .under) .read-is)
 
   pub let-written : {n : ℕ} (old : List ℕ) {d new : List ℕ}

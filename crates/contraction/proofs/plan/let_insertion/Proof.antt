@@ -9,7 +9,7 @@ use lib.ListN.{length}
 use Rattle.words.specs.Fronts.{StartsAll, from}
 use Rattle.words.proofs.Traversal.{not-empty, from-length}
 use Rattle.contraction.specs.Sizes.{StartsAt}
-use Rattle.contraction.proofs.InsertionSizes.{bound-starts, bound-inside, index-in, later-starts, end-inside, insertion-measures}
+use Rattle.contraction.proofs.InsertionSizes.{operand-starts, operand-inside, index-in, later-starts, end-inside, insertion-measures}
 use Rattle.contraction.proofs.plan.let_insertion.Statement.{statement}
 use Rattle.contraction.proofs.plan.let_insertion.Tie as tie
 
@@ -36,10 +36,10 @@ abbrev counted : tie.After-parts-size → Counted
 counted c = c .before .before .before
 
 bound : (c : Found) → StartsAt (entry c .args .calls .now) (entry c .args .t .now) (c .first-computation .result .start)
-bound c = bound-starts (c .first-computation .ensures) (entry c .pre .0)
+bound c = operand-starts (c .first-computation .ensures) (entry c .pre .0)
 
 behind-in : (c : Measured) → found c .first-computation .result .start + c .size-from .result ≤ length (entry (found c) .args .t .now)
-behind-in c = bound-inside (found c .first-computation .ensures) (entry (found c) .pre .0) (c .size-from .ensures)
+behind-in c = operand-inside (found c .first-computation .ensures) (entry (found c) .pre .0) (c .size-from .ensures)
 
 behind-small : (c : Measured) → found c .first-computation .result .start + c .size-from .result ≤ 8192
 behind-small c = omega (arith, behind-in c, entry (found c) .pre .1)

@@ -14,13 +14,15 @@ seek-spec =
     (λ c. search needs)
     (λ c. search needs)
     (λ c.
-    let at-move-words = c .before .before in
-    let at-if1 = at-move-words .before .before in
-    seeks-on (at-if1 .before .before .pre) _ _ (at-if1 .if1 .taken) refl (at-move-words .move-words .ensures))
+    let s : tie.Start = search in
+    let on : tie.Then1 = search in
+    let moved : tie.After-move-words = search in
+    seeks-on (s .pre) _ _ (on .if1 .taken) refl (moved .move-words .ensures))
     (λ c. search needs)
     (λ c κs. search needs)
     (λ c. search needs)
     (λ c.
-    let at-move-words2 = c .before .before in
-    let at-if1 = at-move-words2 .before .before in
-    seeks-back (at-if1 .before .before .pre) _ _ _ (at-if1 .if1 .left) refl refl (at-move-words2 .move-words2 .ensures)))
+    let s : tie.Start = search in
+    let back : tie.Else1 = search in
+    let moved : tie.After-move-words2 = search in
+    seeks-back (s .pre) _ _ _ (back .if1 .left) refl refl (moved .move-words2 .ensures)))

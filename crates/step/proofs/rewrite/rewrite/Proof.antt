@@ -4,7 +4,7 @@
 -- what it becomes is no longer than the redex and the gap together, the second buffer has room for it (`plan-room`), and so has the stretch
 -- that ends where the redex does.
 use native.Mathlib.Omega.{arith}
-use Prim.Native.Nat.{_+_, _≤_}
+use Prim.Native.Nat.{_+_, _-_, _≤_}
 use mathlib.Core.Path.{refl}
 use lib.ListN.{length}
 use Rattle.words.specs.Fronts.{from}
@@ -42,15 +42,21 @@ behind-small : (c : tie.After-measure) → entry c .args .end + c .measure .resu
 behind-small c = omega (arith, behind-in c, entry c .pre .0 .limit)
 
 -- the next term is not too long
+room : (c : Fits)
+    → (let m = measured c in
+    let r = m .measure .result in
+    r .wrote ≤ entry m .args .end + r .read - entry m .args .start)
+room c = omega (arith, c .if1 .left)
+
 plan-room : (c : Fits)
     → (let m = measured c in
     let s = entry m .args in
     let r = m .measure .result in
     SizedPlanRoom (s .calls .now) (from (s .current .now) (s .end)) (r .plan) (length (s .second .now)) (r .wrote))
-plan-room c = let m = measured c in plan-fits (m .measure .ensures) (entry m .pre .0) refl (c .if1 .left)
+plan-room c = let m = measured c in plan-fits (m .measure .ensures) (entry m .pre .0) refl (room c)
 
 wrote-in : (c : Fits) → measured c .measure .result .wrote ≤ length (entry (measured c) .args .current .now)
-wrote-in c = let m = measured c in wrote-small (m .measure .ensures) (entry m .pre .0) (c .if1 .left)
+wrote-in c = let m = measured c in wrote-small (m .measure .ensures) (entry m .pre .0) (room c)
 
 pub rewrite-spec : {M : Type 1} → statement M
 rewrite-spec =
@@ -81,7 +87,7 @@ rewrite-spec =
     let f = fits w in
     let s = entry (measured f) in (
       omega (arith, wrote-in f, s .pre .0 .scratch, w .write .kept .1 .1 .1 .0),
-      omega (arith, f .if1 .left, behind-in (measured f)),
+      omega (arith, room f, behind-in (measured f)),
     ))
     (λ c. search needs)
     (λ c. search needs)
@@ -92,5 +98,5 @@ rewrite-spec =
     let f = fits w in
     let m = measured f in
     let s = entry m in
-    rewrites-next (m .measure .ensures) (s .args .second .now) (w .write .kept .1 .1 .1 .0) (s .pre .0 .scratch) (f .if1 .left) refl
+    rewrites-next (m .measure .ensures) (s .args .second .now) (w .write .kept .1 .1 .1 .0) (s .pre .0 .scratch) (room f) refl
     (w .write .ensures) (k .copy .ensures)))
