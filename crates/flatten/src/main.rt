@@ -1,4 +1,5 @@
 // The program: reads a bundle from standard input and writes its listing to standard output.
+use libc::STDERR_FILENO;
 use libc::STDIN_FILENO;
 use libc::STDOUT_FILENO;
 use responder::MOST_WRITTEN;
@@ -7,10 +8,13 @@ use responder::respond;
 // one byte more than a bundle may have, so that a longer input is refused
 const MOST_READ: usize = 65537;
 
+// writes the listing at the front; a line on standard error says so where it could not be written
 fn write_front(text: &[u8], n: usize) {
     if n <= text.len() {
         let start: usize = 0;
-        io::write_all(STDOUT_FILENO, &text[start..n]);
+        if !io::write_all(STDOUT_FILENO, &text[start..n]) {
+            io::write_all(STDERR_FILENO, b"flatten: the listing was not written\n");
+        }
     }
 }
 

@@ -1,0 +1,18 @@
+//! The normalizer on words alone, without trees: a forward scan, and rewriting in place.
+//! It is the baseline for speed; the oracle is the one to compare results with.
+
+mod checks;
+mod depths;
+mod measure;
+mod nodes;
+mod normalize;
+mod renaming;
+mod respond;
+mod rewrite;
+mod search;
+mod typing;
+mod usage;
+mod walk;
+
+pub use normalize::{normalize, normalize_and_measure};
+pub use respond::respond;

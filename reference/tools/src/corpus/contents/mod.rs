@@ -1,0 +1,91 @@
+//! The records of the corpus: accepted and refused samples of every kind for every call.
+
+mod accepted;
+mod boundaries;
+mod limits;
+mod refused;
+
+use super::records::Record;
+use crate::generate::limits::{needs, Limits, Needs};
+use crate::generate::terms::random_sample;
+use crate::generate::{Profile, Sample};
+use crate::random::Random;
+use oracle::deep_stack::with_deep_stack;
+
+/// The longest buffer lent.
+const LONGEST_BUFFER: usize = 8256;
+/// Walks of more steps are left out, so that no record takes long.
+const MOST_STEPS: u32 = 10_000;
+
+/// All records of the corpus; always the same.
+pub fn records() -> Vec<Record> {
+    with_deep_stack(|| {
+        let mut contents = Contents {
+            random: Random::new(2026),
+            records: Vec::new(),
+        };
+        contents.accepted();
+        contents.limits_at_their_edge();
+        contents.refused();
+        contents.boundaries();
+        contents.records
+    })
+}
+
+struct Contents {
+    random: Random,
+    records: Vec<Record>,
+}
+
+impl Contents {
+    /// A record for each of the four calls.
+    fn all_calls(&mut self, sample: &Sample, limits: Limits) {
+        self.respond(sample.bundle());
+        self.check(sample);
+        self.is_normal(sample);
+        self.normalize(sample, limits);
+    }
+
+    fn respond(&mut self, bundle: Vec<u8>) {
+        self.records.push(Record::Respond(bundle));
+    }
+
+    fn check(&mut self, sample: &Sample) {
+        self.records.push(Record::Check(sample.clone()));
+    }
+
+    fn is_normal(&mut self, sample: &Sample) {
+        self.records.push(Record::IsNormal(sample.clone()));
+    }
+
+    fn normalize(&mut self, sample: &Sample, limits: Limits) {
+        let limits = Limits {
+            lengths: limits.lengths.map(|length| length.min(LONGEST_BUFFER)),
+            ..limits
+        };
+        self.records.push(Record::Normalize(sample.clone(), limits));
+    }
+
+    /// A well-typed sample whose walk is not long, and what it needs.
+    fn sample(&mut self, fuel: usize) -> (Sample, Needs) {
+        loop {
+            let fuel = self.random.between(1, fuel);
+            let profile = match self.random.below(3) {
+                0 => Profile::SMALL,
+                1 => Profile::of_size(fuel),
+                _ => Profile::of_size(fuel).first_order(),
+            };
+            let sample = random_sample(&mut self.random, &profile);
+            if let Some(needs) = needs(&sample, MOST_STEPS) {
+                return (sample, needs);
+            }
+        }
+    }
+
+    /// A random budget and random buffers that suffice.
+    fn ample(&mut self, needs: Needs) -> Limits {
+        let budget = needs.steps + self.random.below(1000) as u32;
+        let capacity = needs.capacity + self.random.below(100);
+        Limits::with_capacity(&mut self.random, budget, capacity)
+    }
+}

@@ -1,0 +1,70 @@
+//! How many rows there are of which sort.
+
+use super::notation::hexadecimal_bytes;
+use oracle::rules::RULE_NAMES;
+
+/// Of lines of `cases`: refusals, yes answers, and the steps of the accepted ones by rule.
+pub fn case_figures(lines: &[String]) -> String {
+    let fields: Vec<Vec<&str>> = lines.iter().map(|line| line.split(';').collect()).collect();
+    let refusals = tally(fields.iter().map(|fields| fields[8]));
+    let yes = fields.iter().filter(|fields| fields[16] == "1").count();
+    let mut steps = [0; 10];
+    for fields in fields.iter().filter(|fields| fields[8] == "0") {
+        for (sum, count) in steps.iter_mut().zip(fields[11].split_whitespace()) {
+            *sum += count.parse::<u64>().expect("a count");
+        }
+    }
+    let steps: Vec<String> = RULE_NAMES
+        .iter()
+        .zip(steps)
+        .map(|(rule, count)| format!("{rule} {count}"))
+        .collect();
+    format!(
+        "cases: {} rows; {refusals}; is_normal says yes to {yes}\nsteps of the accepted: {}\n",
+        lines.len(),
+        steps.join(", ")
+    )
+}
+
+/// Of lines of `bundles`: refusals.
+pub fn bundle_figures(lines: &[String]) -> String {
+    let outputs: Vec<String> = lines
+        .iter()
+        .filter_map(|line| line.split_once(';'))
+        .map(|(_, output)| String::from_utf8_lossy(&hexadecimal_bytes(output)).into_owned())
+        .collect();
+    let refusals = tally(outputs.iter().map(|output| refusal_written(output)));
+    format!("bundles: {} rows; {refusals}\n", lines.len())
+}
+
+/// The number after `no `, and 0 after `ok `.
+fn refusal_written(output: &str) -> &str {
+    match output.split_whitespace().collect::<Vec<&str>>()[..] {
+        ["no", number, ..] => number,
+        _ => "0",
+    }
+}
+
+/// Of lines of `runs`: calls made.
+pub fn run_figures(lines: &[String]) -> String {
+    let calls: Vec<usize> = lines.iter().map(|line| line.matches(':').count()).collect();
+    format!(
+        "runs: {} rows; {} with calls, {} calls made\n",
+        lines.len(),
+        calls.iter().filter(|&&calls| calls > 0).count(),
+        calls.iter().sum::<usize>()
+    )
+}
+
+/// How often each refusal number occurs.
+fn tally<'a>(refusals: impl Iterator<Item = &'a str>) -> String {
+    let mut counts = [0; 13];
+    for refusal in refusals {
+        counts[refusal.parse::<usize>().expect("a refusal number")] += 1;
+    }
+    let refused: Vec<String> = (1..13)
+        .filter(|&number| counts[number] > 0)
+        .map(|number| format!("{number}: {}", counts[number]))
+        .collect();
+    format!("{} accepted; refused {}", counts[0], refused.join(", "))
+}

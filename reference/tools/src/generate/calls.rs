@@ -1,0 +1,34 @@
+//! The public calls on a sample.
+
+use super::Sample;
+use oracle::api::{self, Answer, CheckAnswer, NormalAnswer, Normalize};
+
+impl Sample {
+    pub fn check(&self) -> CheckAnswer {
+        api::check(&self.types, &self.calls, &self.inputs, &self.term)
+    }
+
+    pub fn is_normal(&self) -> NormalAnswer {
+        api::is_normal(&self.types, &self.calls, &self.inputs, &self.term)
+    }
+
+    /// Any implementation of normalize, over the output and the two scratch buffers.
+    pub fn normalize(
+        &self,
+        normalize: Normalize,
+        budget: u32,
+        buffers: &mut [Vec<u64>; 3],
+    ) -> Answer {
+        let [output, first, second] = buffers;
+        normalize(
+            &self.types,
+            &self.calls,
+            &self.inputs,
+            &self.term,
+            budget,
+            output,
+            first,
+            second,
+        )
+    }
+}

@@ -1,0 +1,119 @@
+//! Seeded generators of samples: well-typed terms with their tables, damaged ones, boundary sizes.
+
+pub mod boundaries;
+pub mod bundles;
+pub mod calls;
+pub mod damage;
+pub mod deep;
+pub mod each;
+pub mod examples;
+pub mod ill_typed;
+pub mod limits;
+pub mod phrases;
+pub mod shapes;
+pub mod tables;
+pub mod terms;
+pub mod values;
+
+use oracle::bundle::{read_bundle, write_bundle};
+use oracle::checks::{examine, Checked, Refusal, LONGEST_TO_EXAMINE};
+
+/// Three tables and a term as words.
+#[derive(Clone, Debug, PartialEq, Eq)]
+pub struct Sample {
+    pub types: Vec<u64>,
+    pub calls: Vec<u64>,
+    pub inputs: Vec<u64>,
+    pub term: Vec<u64>,
+}
+
+impl Sample {
+    /// The decoded sample, or its refusal by a call that does not normalize.
+    pub fn examine(&self) -> Result<Checked, Refusal> {
+        examine(
+            &self.types,
+            &self.calls,
+            &self.inputs,
+            &self.term,
+            LONGEST_TO_EXAMINE,
+        )
+    }
+
+    /// The number of words in all four tables.
+    pub fn words(&self) -> usize {
+        self.types.len() + self.calls.len() + self.inputs.len() + self.term.len()
+    }
+
+    /// The tables of a bundle, which are not checked.
+    pub fn from_bundle(bytes: &[u8]) -> Result<Sample, Refusal> {
+        let mut words = vec![0; LONGEST_TO_EXAMINE];
+        let lengths = read_bundle(bytes, &mut words);
+        if lengths.refusal != 0 {
+            return Err(Refusal::Bundle);
+        }
+        let (types, rest) = words.split_at(lengths.types);
+        let (calls, rest) = rest.split_at(lengths.calls);
+        let (inputs, rest) = rest.split_at(lengths.inputs);
+        Ok(Sample {
+            types: types.to_vec(),
+            calls: calls.to_vec(),
+            inputs: inputs.to_vec(),
+            term: rest[..lengths.term].to_vec(),
+        })
+    }
+
+    /// The sample as a bundle.
+    pub fn bundle(&self) -> Vec<u8> {
+        write_bundle(&self.types, &self.calls, &self.inputs, &self.term)
+    }
+}
+
+/// What kind of sample to generate.
+#[derive(Clone, Copy, Debug)]
+pub struct Profile {
+    pub most_types: usize,
+    pub most_calls: usize,
+    pub most_inputs: usize,
+    /// About the largest term wanted, in words.
+    pub fuel: usize,
+    /// No function in the types of inputs, result and calls: demand 3's premise.
+    pub first_order: bool,
+}
+
+impl Profile {
+    /// Small samples, for a theorem prover's computation.
+    pub const SMALL: Profile = Profile {
+        most_types: 8,
+        most_calls: 5,
+        most_inputs: 4,
+        fuel: 20,
+        first_order: false,
+    };
+
+    /// The same with space for the words that damages insert.
+    pub const SMALLER: Profile = Profile {
+        most_types: 5,
+        most_calls: 4,
+        most_inputs: 3,
+        ..Profile::SMALL
+    };
+
+    /// Samples for the property tests, with about this many term words at most.
+    pub fn of_size(fuel: usize) -> Profile {
+        Profile {
+            most_types: 16,
+            most_calls: 8,
+            most_inputs: 6,
+            fuel,
+            first_order: false,
+        }
+    }
+
+    /// The same, meeting demand 3's premise.
+    pub fn first_order(self) -> Profile {
+        Profile {
+            first_order: true,
+            ..self
+        }
+    }
+}

@@ -1,0 +1,69 @@
+//! The benchmark's table and plot, on made-up times.
+
+use std::time::Duration;
+use tools::bench::plot::plot;
+use tools::bench::timing::{time_all, Timing};
+use tools::bench::workloads::{self, Workload};
+use tools::bench::{implementations, report, Measurement};
+use tools::generate::shapes::doubling;
+
+fn workload(steps: u64, longest: usize) -> Workload {
+    Workload {
+        steps,
+        longest,
+        ..workloads::workload("made up".into(), vec![doubling(3)])
+    }
+}
+
+fn timing(microseconds: u64) -> Timing {
+    let median = Duration::from_micros(microseconds);
+    Timing {
+        times: vec![median / 2, median, median * 2],
+    }
+}
+
+#[test]
+fn lines_have_the_columns_of_the_head() {
+    let implementations = implementations();
+    let mut timings = vec![None; implementations.len()];
+    timings[0] = Some(timing(440));
+    let mut measurement = Measurement {
+        workload: workload(44, 100),
+        timings,
+    };
+    let columns = |line: &str| line.split(" | ").count();
+    let head = report::head(&implementations);
+    let line = report::line(&measurement);
+    assert!(head.lines().all(|head| columns(head) == columns(&line)));
+    assert!(line.contains("440.00 µs (50 to 200 %, 3) | 10.00 µs | - | - | -"));
+    measurement.timings[1] = Some(timing(1100));
+    assert!(report::line(&measurement).contains("| 25.00 µs | 2.50 |"));
+}
+
+#[test]
+fn plots_have_a_point_for_each_time() {
+    let implementations = implementations();
+    let measurements: Vec<Measurement> = [(44, 100), (1000, 1000), (5, 10)]
+        .iter()
+        .map(|&(steps, longest)| Measurement {
+            workload: workload(steps, longest),
+            timings: vec![Some(timing(500)); implementations.len()],
+        })
+        .collect();
+    let drawing = plot(&implementations, &measurements);
+    // Two of the workloads have enough steps; each implementation has a mark in the legend.
+    let circles = drawing.matches("<circle").count();
+    assert_eq!(circles, 3 * implementations.len());
+    assert!(drawing.ends_with("</svg>\n"));
+}
+
+#[test]
+fn times_of_a_small_workload() {
+    let implementations = implementations();
+    let timings = time_all(&workload(44, 60), &implementations);
+    assert_eq!(timings.len(), implementations.len());
+    for timing in timings.into_iter().flatten() {
+        assert!(timing.least() <= timing.median() && timing.median() <= timing.greatest());
+        assert!(timing.times.len() >= 3);
+    }
+}

@@ -1,0 +1,76 @@
+//! The corpus: what it covers, that both implementations answer it alike, and that the committed
+//! files are the generated ones.
+
+use tools::corpus::answers::{answer, normalize_line};
+use tools::corpus::contents::records;
+use tools::corpus::corpus;
+use tools::corpus::records::Record;
+
+use std::collections::BTreeSet;
+use std::fs::read;
+use std::path::Path;
+
+const MOST_BYTES: usize = 4_000_000;
+
+#[test]
+fn committed_files_are_the_generated_ones() {
+    let corpus = corpus(&records());
+    assert!(corpus.input.len() + corpus.output.len() < MOST_BYTES);
+    let folder = Path::new(env!("CARGO_MANIFEST_DIR")).join("../../crates/corpus");
+    for (name, expected) in [("stdin", corpus.input), ("stdout", corpus.output)] {
+        let file = folder.join(name);
+        if file.exists() {
+            let found = read(&file).expect("the file can be read");
+            assert!(
+                found == expected,
+                "{name} is not what `reference corpus` writes"
+            );
+        }
+    }
+}
+
+#[test]
+fn every_refusal_of_every_call_is_covered() {
+    let records = records();
+    assert!(records.len() > 3000, "{} records", records.len());
+    let output = corpus(&records).output;
+    let text = String::from_utf8(output).expect("answers are text");
+    let mut seen = BTreeSet::new();
+    for line in text.lines() {
+        let fields: Vec<&str> = line.split(' ').collect();
+        match fields[..] {
+            ["ok", ..] => seen.insert(("respond", 0)),
+            ["no", refusal, ..] => seen.insert(("respond", number(refusal))),
+            ["check", refusal, _] => seen.insert(("check", number(refusal))),
+            ["normal", "0", "1"] => seen.insert(("normal form", 0)),
+            ["normal", refusal, _] => seen.insert(("normal", number(refusal))),
+            ["normalize", refusal, ..] => seen.insert(("normalize", number(refusal))),
+            _ => false,
+        };
+    }
+    let mut expected = BTreeSet::from([("normal form", 0)]);
+    expected.extend((0..10).flat_map(|refusal| [("check", refusal), ("normal", refusal)]));
+    expected.extend((0..12).map(|refusal| ("normalize", refusal)));
+    // The program's budget is too large to be spent in a short test.
+    let of_program = (0..13).filter(|&refusal| refusal != 10);
+    expected.extend(of_program.map(|refusal| ("respond", refusal)));
+    assert_eq!(seen, expected);
+}
+
+fn number(text: &str) -> u32 {
+    text.parse().expect("a refusal number")
+}
+
+#[test]
+fn words_answer_alike() {
+    for record in records() {
+        let found = match &record {
+            Record::Respond(bundle) => baseline::respond(bundle),
+            Record::Normalize(sample, limits) => {
+                normalize_line(baseline::normalize, sample, *limits).into_bytes()
+            }
+            _ => continue,
+        };
+        assert_eq!(found, answer(&record));
+    }
+}

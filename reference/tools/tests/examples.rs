@@ -1,0 +1,162 @@
+//! The shipped examples: the committed files are the generated ones, and the listings are what both
+//! implementations respond and what the README quotes.
+
+use oracle::coding::encode;
+use oracle::listing::respond;
+use tools::examples::files;
+use tools::generate::examples::{examples, Example};
+use tools::generate::limits::Limits;
+use tools::generate::Sample;
+
+use oracle::reduction::{walk, Counts};
+use oracle::words::*;
+use std::fs;
+use std::path::{Path, PathBuf};
+
+fn repository() -> PathBuf {
+    Path::new(env!("CARGO_MANIFEST_DIR")).join("../..")
+}
+
+fn committed(path: &str) -> Vec<u8> {
+    fs::read(repository().join(path)).unwrap_or_else(|error| panic!("{path}: {error}"))
+}
+
+fn example(name: &str) -> Example {
+    let found = examples().into_iter().find(|example| example.name == name);
+    found.expect("an example of this name")
+}
+
+/// The words of the normal form, and the counts.
+fn normal_form(example: &Example) -> (Vec<u64>, Counts) {
+    let term = example.sample.examine().expect("a well-typed term").term;
+    let limits = Limits::OF_PROGRAM;
+    let (term, counts) = walk(term, limits.budget, limits.lengths[0]).expect("a normal form");
+    (encode(&term), counts)
+}
+
+/// How many words have this kind.
+fn nodes(words: &[u64], kind: u64) -> usize {
+    let of_kind = |&&word: &&u64| unpack_term(word).0 == kind;
+    words.iter().filter(of_kind).count()
+}
+
+/// How many words call this.
+fn calls(words: &[u64], name: &str, example: &Example) -> usize {
+    let named = example.legend.calls.iter().position(|&call| call == name);
+    let number = named.expect("a call of this name") as u64;
+    let word = pack_term(CALL, number, 0);
+    words.iter().filter(|&&found| found == word).count()
+}
+
+#[test]
+fn committed_files_are_the_generated_ones() {
+    let files = files();
+    assert_eq!(files.len(), 6 * examples().len());
+    for file in files {
+        let path = &file.path;
+        assert!(
+            committed(path) == file.contents,
+            "{path} is not what `reference examples` writes"
+        );
+    }
+}
+
+#[test]
+fn both_implementations_respond_with_the_listings() {
+    for Example { name, .. } in examples() {
+        let bundle = committed(&format!("examples/{name}.bundle"));
+        let listing = committed(&format!("examples/{name}.listing"));
+        assert!(listing.starts_with(b"ok "));
+        assert_eq!(respond(&bundle), listing);
+        assert_eq!(baseline::respond(&bundle), listing);
+    }
+}
+
+#[test]
+fn the_sample_is_what_the_program_is_run_on() {
+    assert_eq!(
+        committed("examples/sample.bundle"),
+        committed("crates/flatten/stdin")
+    );
+    assert_eq!(
+        committed("examples/sample.listing"),
+        committed("crates/flatten/stdout")
+    );
+}
+
+#[test]
+fn the_register_uses_one_answer_twice() {
+    let register = example("register");
+    let source = &register.sample.term;
+    assert_eq!(nodes(source, APPLICATION), 2);
+    let (words, counts) = normal_form(&register);
+    assert_eq!(counts, [5, 3, 0, 2, 0, 0, 0, 0, 1, 0]);
+    assert_eq!(nodes(&words, FUNCTION) + nodes(&words, APPLICATION), 0);
+    assert_eq!(calls(&words, "recognise", &register), 1);
+    assert_eq!(calls(&words, "transcribe", &register), 2);
+    assert_eq!(nodes(&words, FIRST) + nodes(&words, SECOND), 2);
+}
+
+#[test]
+fn the_tithe_map_keeps_one_case() {
+    let tithe = example("tithe");
+    assert_eq!(nodes(&tithe.sample.term, CASE), 2);
+    let (words, counts) = normal_form(&tithe);
+    assert_eq!(counts, [3, 2, 1, 1, 0, 0, 1, 1, 3, 0]);
+    assert_eq!(nodes(&words, CASE), 1);
+    assert_eq!(nodes(&words, LEFT) + nodes(&words, RIGHT), 0);
+    for call in ["inspect", "recognise", "clear", "store"] {
+        assert_eq!(calls(&words, call, &tithe), 1, "{call}");
+    }
+}
+
+#[test]
+fn only_the_listed_terms_are_normal() {
+    for example in examples() {
+        let source = &example.sample;
+        let (term, _) = normal_form(&example);
+        let normal_form = Sample {
+            term,
+            ..source.clone()
+        };
+        assert!(!source.is_normal().normal);
+        assert!(normal_form.is_normal().normal);
+    }
+}
+
+/// The text, set in by so many spaces.
+fn set_in(spaces: usize, lines: &str) -> String {
+    let margin = " ".repeat(spaces);
+    let line = |line: &str| match line {
+        "" => String::from("\n"),
+        _ => format!("{margin}{line}\n"),
+    };
+    lines.lines().map(line).collect()
+}
+
+/// The lines of the term that stands under this heading.
+fn term_under<'a>(heading: &str, text: &'a str) -> &'a str {
+    let start = text.find(heading).expect("the heading");
+    let start = start + text[start..].find('\n').expect("a line") + 1;
+    let after = text[start..].find("\nsteps").map(|length| length + 1);
+    &text[start..after.map_or(text.len(), |length| start + length)]
+}
+
+#[test]
+fn the_readme_quotes_the_files() {
+    let text = |path: &str| String::from_utf8(committed(path)).expect("a text");
+    let readme = text("README.md");
+    let quotes = |lines: String| {
+        assert!(!lines.is_empty());
+        assert!(readme.contains(&lines), "not in README.md:\n{lines}");
+    };
+    for path in ["sample.listing", "register.listing", "register.words"] {
+        quotes(set_in(4, &text(&format!("examples/{path}"))));
+    }
+    for name in ["register", "tithe"] {
+        let shown = text(&format!("examples/{name}.txt"));
+        for heading in ["before: ", "after: "] {
+            quotes(set_in(2, term_under(heading, &shown)));
+        }
+    }
+}
