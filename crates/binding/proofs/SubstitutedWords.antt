@@ -1,16 +1,15 @@
 -- Substitution into a buffer: the value is written for its variable, other variables are lowered past it, any other word is copied.
-use Prim.Native.Nat.{ℕ, suc, _+_, _-_, _^_, _≤_, _<_}
+use Prim.Native.Nat.{ℕ, _+_, _-_, _^_, _≤_, _<_}
 use native.Mathlib.Omega.{arith}
-use native.Mathlib.Decide.{ℕ-discrete}
 use mathlib.Core.Path.{_≡_, refl, sym, _∙_, ap, subst, fun-ext}
 use mathlib.Core.Logic.{_≢_}
-use mathlib.Core.Bool.{Bool, true, false, _&&_, cond}
+use mathlib.Core.Bool.{Bool, true, false, cond}
 use mathlib.Core.List.{List, [], _∷_, _++_, append-nil}
 use lib.Dec.{ltb}
 use lib.ListN.{length, getD, set, take, drop, take-append-drop, List·getD-append}
 use lib.Seq.{sets, paste, take-all, length-take-le}
 use borrow.Rule.Slice.PartMut.{midOf, postOf, putMid, same-len-mid}
-use borrow.Author.Tests.{ltb-true, ltb-false, eq-eqb, ne-eqb}
+use borrow.Author.Tests.{ltb-true, ltb-false}
 use Rattle.syntax.specs.Words.{kindOf, numberOf, pack}
 use Rattle.syntax.specs.Term.{Term, var, node}
 use Rattle.syntax.specs.Encoding.{wordOf, encode, size}
@@ -22,14 +21,13 @@ use Rattle.syntax.specs.Under.{underBy, raiseAt, onlyAt}
 use Rattle.syntax.proofs.Algebra.{rename-id}
 use Rattle.syntax.proofs.Sizes.{size-rename}
 use Rattle.syntax.proofs.Under.{onlyAt-below, onlyAt-at, onlyAt-above}
-use Rattle.words.specs.Reach.{outer, inner}
-use Rattle.words.specs.Depths.{Opens}
+use Rattle.words.specs.Depths.{OpensParts}
 use Rattle.words.specs.Fronts.{Holds, Whole}
 use Rattle.binding.specs.Writes.{Room, Renames, RoomFor, Substitutes, loweredWord, Raises}
 use Rattle.words.proofs.PastedWords.{pasted-sets}
 use Rattle.words.proofs.Rows.{march-within}
 use Rattle.syntax.proofs.ByKind.{by-kind}
-use Rattle.binding.proofs.TermWritten.{put, putAll, put-node, Trace, trace-begin, trace-end, put-room, trace-node, trace-leaf}
+use Rattle.binding.proofs.TermWritten.{put, Trace, trace-begin, trace-end, put-room, trace-leaf, trace-variable, trace-node}
 
 -- a value is put for a variable
 abbrev pub valued : (calls value : List ℕ) → Whole calls value → ℕ → Term
@@ -52,7 +50,8 @@ module _ {calls value old new : List ℕ} {at by : ℕ} where
       → Raises calls value old new at by (length value)
   unfolding underBy
   raises-copied z kept e = record {
-    told = λ v. pasted-sets value old new 0 (length value) at kept e ∙ ap (sets old at) (take-all (length value) value (omega arith) ∙ v .is ∙ ap encode (sym (same v)));
+    told = λ v. pasted-sets value old new 0 (length value) at kept e
+        ∙ ap (sets old at) (take-all (length value) value (omega arith) ∙ v .is ∙ ap encode (sym (same v)));
     size-is = refl;
   }
     where
@@ -66,44 +65,22 @@ module _ {calls value old new : List ℕ} {at by : ℕ} where
     size-is = n .told (w .term) [] (whole-holds w) .read-is ∙ ap (λ (l : List ℕ). length l) (sym (w .is));
   }
 
--- the word of a variable other than the one that goes
-lower-variable : (w d n : ℕ) (v : Term) → w ≡ pack 0 n 0 → kindOf w ≡ 0 → numberOf w ≡ n → w ≢ pack 0 d 0
-    → encode (onlyAt d v n) ≡ loweredWord d w ∷ []
+-- the word of a variable other than the one that goes, lowered
+lower-variable : (w d n : ℕ) (v : Term) → w ≡ pack 0 n 0 → numberOf w ≡ n → w ≢ pack 0 d 0 → encode (onlyAt d v n) ≡ loweredWord d w ∷ []
 unfolding encode node
-lower-variable w d n v e k m h = go (ltb d n) refl
+lower-variable w d n v e m h = go (ltb d n) refl
   where
-    choice : (b : Bool) → ltb d n ≡ b → loweredWord d w ≡ cond b (w - 2 ^ 30) w
-    choice b f = ap (λ (x : Bool). cond (x && ltb d (numberOf w)) (w - 2 ^ 30) w) (eq-eqb (kindOf w) 0 k)
-        ∙ ap (λ (x : Bool). cond x (w - 2 ^ 30) w) (ap (ltb d) m ∙ f)
+    chosen : (b : Bool) → ltb d n ≡ b → loweredWord d w ≡ cond b (w - 2 ^ 30) w
+    chosen b f = ap (λ (x : Bool). cond x (w - 2 ^ 30) w) (ap (ltb d) m ∙ f)
 
     below : n ≤ d → n < d
     below le = let q : n ≢ d = λ x. h (omega (arith, e, x)) in omega (arith, le, q)
 
     go : (b : Bool) → ltb d n ≡ b → encode (onlyAt d v n) ≡ loweredWord d w ∷ []
     go true f = ap encode (onlyAt-above d v n (ltb-true d n f))
-        ∙ ap {B = List ℕ} (λ (i : ℕ). i ∷ []) (omega (arith, e, ltb-true d n f) ∙ sym (choice true f))
+        ∙ ap {B = List ℕ} (λ (i : ℕ). i ∷ []) (omega (arith, e, ltb-true d n f) ∙ sym (chosen true f))
     go false f = ap encode (onlyAt-below d v n (below (ltb-false d n f)))
-        ∙ ap {B = List ℕ} (λ (i : ℕ). i ∷ []) (sym e ∙ sym (choice false f))
-
--- a node other than that variable: its word, its variable lowered, and then its parts
-pub lower-node : (calls value : List ℕ) (w d : ℕ) → w ≢ pack 0 d 0 → (t : Term) → w ≡ wordOf t → kindOf w ≡ node t .kind
-    → numberOf w ≡ node t .number → (v : Whole calls value)
-    → encode (traverse substitution t (onlyAt d (v .term)))
-    ≡ loweredWord d w ∷ (putAll substitution (valued calls value) v (outer t) d ++ putAll substitution (valued calls value) v (inner t) (suc d))
-unfolding node traverse encode outer inner
-lower-node calls value w d h t e k n v = go (ℕ-discrete (node t .kind) 0)
-  where
-    Goal : Term → Type 0
-    Goal x = encode (traverse substitution x (onlyAt d (v .term)))
-        ≡ loweredWord d w ∷ (putAll substitution (valued calls value) v (outer x) d ++ putAll substitution (valued calls value) v (inner x) (suc d))
-
-    go : Dec (node t .kind ≡ 0) → Goal t
-    go (yes z) = by-kind (λ x. w ≡ wordOf x → numberOf w ≡ node x .number → Goal x) 0 t z
-        (λ m f g. lower-variable w d m (v .term) f (k ∙ z) g h) e n
-    go (no z) = put-node substitution (valued calls value) v t d z
-        ∙ ap {B = List ℕ}
-        (λ (i : ℕ). i ∷ (putAll substitution (valued calls value) v (outer t) d ++ putAll substitution (valued calls value) v (inner t) (suc d)))
-        (sym e ∙ ap (λ (b : Bool). cond (b && ltb d (numberOf w)) (w - 2 ^ 30) w) (sym (ne-eqb (kindOf w) 0 (λ y. z (sym k ∙ y)))))
+        ∙ ap {B = List ℕ} (λ (i : ℕ). i ∷ []) (sym e ∙ sym (chosen false f))
 
 -- the loop's invariant
 abbrev pub Substituting : (calls body value old : List ℕ) (depth at : ℕ) (p new : List ℕ) (owed i o : ℕ) → Type 0
@@ -115,28 +92,25 @@ pub substitute-begin : {calls body value old : List ℕ} {at : ℕ} (p : List �
 substitute-begin {calls} {value = value} p depth r =
     trace-begin substitution (valued calls value) p depth (r .start) (r .whole) (r .room) (omega (arith, r .spare))
 
--- a node other than the variable
-pub substitute-node : {calls body value old : List ℕ} {depth at : ℕ} {p new : List ℕ} {owed i o : ℕ}
-    → Substituting calls body value old depth at p new owed i o → 1 ≤ owed → getD body i 0 ≢ pack 0 (getD p (owed - 1) 0) 0
-    → (q : List ℕ) (r x : ℕ) → length q ≡ length p → x ≡ loweredWord (getD p (owed - 1) 0) (getD body i 0)
-    → Opens calls (getD body i 0) (getD p (owed - 1) 0) p q (owed - 1) r
-    → Substituting calls body value old depth at q (set new (at + o) x) r (i + 1) (o + 1)
-substitute-node {calls} {body} {value} {at = at} {p = p} {owed = owed} {i = i} {o = o} g lt h q r x l e ops =
-    let w = getD body i 0 in
-    let under = getD p (owed - 1) 0 in
-    let f = valued calls value in
-    trace-node substitution f g lt w under refl refl q r x (at + o) l ops refl λ t a b c v.
-    lower-node calls value w under h t a b c v
-    ∙ ap {B = List ℕ} (λ (z : ℕ). z ∷ (putAll substitution f v (outer t) under ++ putAll substitution f v (inner t) (suc under))) (sym e)
+module _ {calls body value old : List ℕ} {depth at : ℕ} {p new : List ℕ} {owed i o : ℕ}
+    (g : Substituting calls body value old depth at p new owed i o) where
+  -- another variable
+  pub substitute-variable : 1 ≤ owed → kindOf (getD body i 0) ≡ 0 → getD body i 0 ≢ pack 0 (getD p (owed - 1) 0) 0 → (x : ℕ)
+      → x ≡ loweredWord (getD p (owed - 1) 0) (getD body i 0)
+      → Substituting calls body value old depth at p (set new (at + o) x) (owed - 1) (i + 1) (o + 1)
+  unfolding traverse
+  substitute-variable lt z h x e =
+      trace-variable substitution (valued calls value) g lt (getD body i 0) (getD p (owed - 1) 0) refl refl z x (at + o) refl λ n f c v.
+      lower-variable _ _ n (v .term) f c h ∙ ap {B = List ℕ} (λ (w : ℕ). w ∷ []) (sym e)
 
-pub substitute-end : {calls body value old : List ℕ} {depth at : ℕ} {p new : List ℕ} {owed i o : ℕ}
-    → Substituting calls body value old depth at p new owed i o → owed ≡ 0
-    → Substitutes calls body value old new at depth (record { read = i; wrote = o })
-substitute-end {calls} {value = value} g z = record {
-  told = λ t rest h v.
-      let e = trace-end substitution (valued calls value) g z t rest h v in
-      record { written = record { read-is = e .0; new-is = e .2 }; wrote-is = e .1 };
-}
+  pub substitute-node : 1 ≤ owed → (kindOf (getD body i 0) ≡ 0 → ⊥) → (q : List ℕ) (r : ℕ) → length q ≡ length p
+      → OpensParts calls (getD body i 0) (getD p (owed - 1) 0) p q (owed - 1) r
+      → Substituting calls body value old depth at q (set new (at + o) (getD body i 0)) r (i + 1) (o + 1)
+  substitute-node lt z q r l ops =
+      trace-node substitution (valued calls value) g lt (getD body i 0) (getD p (owed - 1) 0) refl refl z q r (at + o) l ops refl
+
+  pub substitute-end : owed ≡ 0 → Substitutes calls body value old new at depth
+  substitute-end z = record { told = λ t rest h v. trace-end substitution (valued calls value) g z t rest h v .1 }
 
 -- the depths before a part of the buffer that is lent stay
 lent-kept : (p ys : List ℕ) (a k j : ℕ) → a ≤ length p → j < a → getD (putMid a k p ys) j 0 ≡ getD p j 0
@@ -162,7 +136,8 @@ module _ {calls body value old : List ℕ} {depth at : ℕ} {p new : List ℕ} {
 
   value-size : (v : Whole calls value) → length value ≡ size (put substitution (valued calls value) v (var under) under)
   unfolding size traverse
-  value-size v = ap (λ (l : List ℕ). length l) (v .is) ∙ sym (size-rename (v .term) (λ n. under + n)) ∙ ap size (sym (onlyAt-at under (v .term)))
+  value-size v = ap (λ (l : List ℕ). length l) (v .is) ∙ sym (size-rename (v .term) (λ n. under + n))
+      ∙ ap size (sym (onlyAt-at under (v .term)))
 
   pub value-room : at + o + length value ≤ length new
   value-room = put-room substitution (valued calls value) g lt w under we ue (length value) λ t a b c v.

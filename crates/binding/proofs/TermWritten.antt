@@ -5,19 +5,22 @@ use mathlib.Core.Path.{_≡_, refl, sym, _∙_, ap, subst}
 use mathlib.Core.List.{List, [], _∷_, _++_, append-assoc, append-nil}
 use lib.ListN.{length, getD, set, length-set}
 use lib.Seq.{sets, getD-set-same}
-use Rattle.syntax.specs.Words.{kindOf, numberOf}
-use Rattle.syntax.specs.Term.{Term, Terms, done, arg, node}
+use Rattle.syntax.specs.Words.{kindOf, numberOf, pack}
+use Rattle.syntax.specs.Term.{Term, Terms, var, done, arg, node}
 use Rattle.syntax.specs.Encoding.{wordOf, encode, encodeAll, size}
+use Rattle.syntax.specs.Kinds.{partsOfKind}
 use Rattle.syntax.specs.Parts.{partCount}
+use Rattle.syntax.specs.Tables.{arity}
 use Rattle.syntax.specs.Shaped.{count}
 use Rattle.syntax.specs.Substitution.{Kit, traverse, traverseAll}
 use Rattle.syntax.specs.Under.{underBy}
+use Rattle.syntax.proofs.ByKind.{by-kind}
 use Rattle.syntax.proofs.Sizes.{sizeAll, size-positive, size-arg, size-done}
 use Rattle.syntax.proofs.Under.{under-underBy}
 use Rattle.words.specs.Fronts.{Holds, Starts}
 use Rattle.words.specs.Joined.{joined}
 use Rattle.words.specs.Reach.{outer, inner, outerCount}
-use Rattle.words.specs.Depths.{Opens}
+use Rattle.words.specs.Depths.{OpensParts}
 use Rattle.words.proofs.Joined.{none-left}
 use Rattle.words.proofs.Reach.{encode-binding}
 use Rattle.words.proofs.Stretches.{Writing, write-none, write-next, write-all, write-room}
@@ -59,13 +62,15 @@ module _ {X A : Type 0} (kit : Kit X) (f : A → ℕ → X) where
   }
 
   putAll-one : (a : A) (t : Term) (d : ℕ) → putAll a (arg t done) d ≡ encode (put a t d)
-  putAll-one a t d = putAll-arg a t done d ∙ ap (λ (l : List ℕ). encode (put a t d) ++ l) (putAll-done a d) ∙ append-nil (encode (put a t d))
+  putAll-one a t d = putAll-arg a t done d ∙ ap (λ (l : List ℕ). encode (put a t d) ++ l) (putAll-done a d)
+      ∙ append-nil (encode (put a t d))
 
   -- a node that is no variable: its word, and then its parts
   pub put-node : (a : A) (t : Term) (d : ℕ) → (node t .kind ≡ 0 → ⊥)
       → encode (put a t d) ≡ wordOf t ∷ (putAll a (outer t) d ++ putAll a (inner t) (suc d))
   put-node a t d z = encode-binding kit (underBy kit d (f a)) t z
-      ∙ ap {B = List ℕ} (λ (g : ℕ → X). wordOf t ∷ (putAll a (outer t) d ++ encodeAll (traverseAll kit (inner t) g))) (under-underBy kit d (f a))
+      ∙ ap {B = List ℕ} (λ (g : ℕ → X). wordOf t ∷ (putAll a (outer t) d ++ encodeAll (traverseAll kit (inner t) g)))
+      (under-underBy kit d (f a))
 
   -- o words are written from `at` on, before the row ahead
   abbrev pub Ahead : (old : List ℕ) (d at : ℕ) (p new : List ℕ) (o : ℕ) → Terms → Terms → Type 0
@@ -100,16 +105,11 @@ module _ {X A : Type 0} (kit : Kit X) (f : A → ℕ → X) where
   module _ {calls words old : List ℕ} {d at m : ℕ} {p new : List ℕ} {owed i o : ℕ} (g : Trace calls words old d at m p new owed i o) where
     -- no term is owed
     pub trace-end : owed ≡ 0 → (t : Term) (rest : List ℕ) → Holds calls words t rest → (a : A)
-        → (i ≡ size t) × (o ≡ size (put a t d)) × (new ≡ sets old at (encode (put a t d)))
+        → (i ≡ size t) × (new ≡ sets old at (encode (put a t d)))
     unfolding ahead size
     trace-end z t rest h a =
         let e = march-end calls words (g .going) z (arg t done) rest (one-holds h) in
-        let w = write-all (e .1 a) in
-        let u = putAll-one a t d in (
-          omega (arith, e .0, size-arg t done, size-done),
-          w .1 ∙ ap (λ (x : List ℕ). length x) u,
-          w .0 ∙ ap (sets old at) u,
-        )
+        (omega (arith, e .0, size-arg t done, size-done), write-all (e .1 a) .0 ∙ ap (sets old at) (putAll-one a t d))
 
     -- what comes next has room
     next-room : (xs left : List ℕ) → Writing old new at o (putAll (g .given) (g .going .start .terms) d) (xs ++ left)
@@ -129,7 +129,8 @@ module _ {X A : Type 0} (kit : Kit X) (f : A → ℕ → X) where
       first : Visit calls words (Ahead old d at p new o) i owed (g .going .start .terms) (g .going .start .rest)
       first = visit calls words (g .going) lt _ _ (g .going .start .holds)
 
-      at-term : {ts : Terms} {rest : List ℕ} (P : Term → A → Type 0) (v : Visit calls words (Ahead old d at p new o) i owed ts rest) → OfTerm P
+      at-term : {ts : Terms} {rest : List ℕ} (P : Term → A → Type 0) (v : Visit calls words (Ahead old d at p new o) i owed ts rest)
+          → OfTerm P
           → (a : A) → P (v .term) a
       at-term P v h a = h (v .term) (we ∙ v .word) (ap kindOf we ∙ v .kind) (ap numberOf we ∙ v .number) a
 
@@ -160,30 +161,38 @@ module _ {X A : Type 0} (kit : Kit X) (f : A → ℕ → X) where
             at-term (λ t a. k ≡ size (put a t under)) v h (g .given),
           )
 
-      -- a node: its word x is written, and then its parts are ahead
-      pub trace-node : (q : List ℕ) (r x y : ℕ) → length q ≡ length p → Opens calls w under p q (owed - 1) r → y ≡ at + o
-          → OfTerm (λ t a. encode (put a t under) ≡ x ∷ (putAll a (outer t) under ++ putAll a (inner t) (suc under)))
-          → Trace calls words old d at m q (set new y x) r (i + 1) (o + 1)
+      -- a node that is no variable: its word is written, and then its parts are ahead
+      pub trace-node : (kindOf w ≡ 0 → ⊥) → (q : List ℕ) (r y : ℕ) → length q ≡ length p → OpensParts calls w under p q (owed - 1) r
+          → y ≡ at + o
+          → Trace calls words old d at m q (set new y w) r (i + 1) (o + 1)
       unfolding march-on
-      trace-node q r x y l ops ye h = record {
+      trace-node nz q r y l ops ye = record {
         going = march-on calls words (g .going) lt _ r (ops .many ∙ ap (λ (z : ℕ). owed - 1 + partCount calls z) we) λ ts rest v a.
             let os = outer (v .term) in
             let is = inner (v .term) in
             let c : owed - 1 ≡ count (v .later) = omega (arith, v .many) in
-            let e = at-term (λ t a. encode (put a t under) ≡ x ∷ (putAll a (outer t) under ++ putAll a (inner t) (suc under))) v h a in
+            let e = at-term Opened v opened a in
             let j = ahead-opened (putting a) (ops .opened) os is (v .later) c
             (ap (λ (z : ℕ). outerCountOf z) we ∙ v .outers) (ap (partCount calls) we ∙ v .parts) in
-            subst (Writing old (set new y x) at (o + 1) (putAll a ts d))
+            subst (Writing old (set new y w) at (o + 1) (putAll a ts d))
             (append-assoc (putAll a os under) (putAll a is (suc under)) (ahead (putting a) p (v .later)) ∙ sym j)
-            (write-next (x ∷ []) _ y 1
-            (subst (λ (z : List ℕ). Writing old new at o (putAll a ts d) (z ++ ahead (putting a) p (v .later))) e (to-write v a)) ye refl refl);
+            (write-next (w ∷ []) _ y 1
+            (subst (λ (z : List ℕ). Writing old new at o (putAll a ts d) (z ++ ahead (putting a) p (v .later))) e (to-write v a))
+            ye refl refl);
         given = g .given;
         room = g .room;
         spare = omega (arith, g .spare, l);
-        len = length-set new y x ∙ g .len;
-        near = near-next p q d i owed r (g .near) lt (subst (λ (x : ℕ). Opens calls w x p q (owed - 1) r) ue ops);
+        len = length-set new y w ∙ g .len;
+        near = near-next p q d i owed r (g .near) lt (subst (λ (x : ℕ). OpensParts calls w x p q (owed - 1) r) ue ops);
       }
         where
+          Opened : Term → A → Type 0
+          Opened t a = encode (put a t under) ≡ w ∷ (putAll a (outer t) under ++ putAll a (inner t) (suc under))
+
+          opened : OfTerm Opened
+          opened t e k n a = put-node a t under (λ z. nz (k ∙ z))
+              ∙ ap {B = List ℕ} (λ (v : ℕ). v ∷ (putAll a (outer t) under ++ putAll a (inner t) (suc under))) (sym e)
+
           outerCountOf : ℕ → ℕ
           outerCountOf z = outerCount (kindOf z) (partCount calls z)
 
@@ -210,3 +219,19 @@ module _ {X A : Type 0} (kit : Kit X) (f : A → ℕ → X) where
         len = ln ∙ g .len;
         near = λ j c. omega (arith, same j c, g .near j (omega (arith, c)));
       }
+
+      -- a variable: the word x is written for it
+      pub trace-variable : kindOf w ≡ 0 → (x y : ℕ) → y ≡ at + o
+          → ((n : ℕ) → w ≡ pack 0 n 0 → numberOf w ≡ n → (a : A) → encode (put a (var n) under) ≡ x ∷ [])
+          → Trace calls words old d at m p (set new y x) (owed - 1) (i + 1) (o + 1)
+      unfolding node size partCount
+      trace-variable z x y ye h =
+          let none = ap (partsOfKind (arity calls (numberOf w))) z in
+          trace-leaf p (set new y x) 1 y refl (λ j c. refl) (length-set new y x) none ye λ t e k n a.
+          by-kind (λ u. w ≡ wordOf u → numberOf w ≡ node u .number → Put u a) 0 t (sym k ∙ z) (λ v f c. of-word (var v) a (h v f c a)) e n
+        where
+          Put : Term → A → Type 0
+          Put t a = (set new y x ≡ sets new y (encode (put a t under))) × (1 ≡ size (put a t under))
+
+          of-word : (t : Term) (a : A) → encode (put a t under) ≡ x ∷ [] → Put t a
+          of-word t a e = (ap (sets new y) (sym e), ap (λ (l : List ℕ). length l) (sym e))

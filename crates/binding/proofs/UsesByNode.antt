@@ -19,8 +19,8 @@ use Rattle.words.specs.Fronts.{Starts}
 use Rattle.words.specs.Ends.{Sized}
 use Rattle.words.specs.Joined.{joined}
 use Rattle.words.specs.Reach.{outer, inner}
-use Rattle.binding.specs.UseCounts.{Counts}
-use Rattle.words.specs.Depths.{Opens}
+use Rattle.binding.specs.UseCounts.{CountsUses}
+use Rattle.words.specs.Depths.{OpensParts}
 use Rattle.binding.specs.declared.uses.Uses.{Uses}
 use Rattle.words.proofs.Reach.{uses-binding}
 use Rattle.syntax.proofs.ByKind.{by-kind}
@@ -83,7 +83,8 @@ count-begin {calls} {words} p d s sp =
       space = omega (arith, sp, l);
       near = near-begin p d (omega (arith, sp));
       going = march-from calls words (Counting (set p 0 d) d 0) 1 (one-starts s) λ ts e.
-          let a : ahead used (set p 0 d) ts ≡ usesAll ts d = ahead-one used (set p 0 d) d ts e (getD-set-same p 0 d 0 (omega (arith, sp))) in
+          let a : ahead used (set p 0 d) ts ≡ usesAll ts d =
+          ahead-one used (set p 0 d) d ts e (getD-set-same p 0 d 0 (omega (arith, sp))) in
           omega (arith, a);
     }
 
@@ -92,7 +93,7 @@ module _ {calls words p : List ℕ} {d owed at u : ℕ} (g : Tally calls words p
   tally-inside = march-inside calls words (g .going)
 
   -- no term is owed
-  pub count-end : (r : Uses) → owed ≡ 0 → r .end ≡ at → r .uses ≡ u → Counts calls words d r
+  pub count-end : (r : Uses) → owed ≡ 0 → r .end ≡ at → r .uses ≡ u → CountsUses calls words d r
   unfolding uses ahead
   count-end r z re ru = record {
     few = omega (arith, g .few, re, ru);
@@ -108,8 +109,9 @@ module _ {calls words p : List ℕ} {d owed at u : ℕ} (g : Tally calls words p
     tally-opens = opens-room p d 2 (g .going) (g .near) (omega (arith, march-fits calls words (g .going), g .space)) (omega arith) lt far
 
     -- a node
-    pub count-node : (q : List ℕ) (s r : ℕ) → length q ≡ length p → s ≡ counts (eqb (getD words at 0) (pack 0 (getD p (owed - 1) 0) 0)) → s ≤ 1
-        → Opens calls (getD words at 0) (getD p (owed - 1) 0) p q (owed - 1) r → Tally calls words q d r (at + 1) (u + s)
+    pub count-node : (q : List ℕ) (s r : ℕ) → length q ≡ length p → s ≡ counts (eqb (getD words at 0) (pack 0 (getD p (owed - 1) 0) 0))
+        → s ≤ 1
+        → OpensParts calls (getD words at 0) (getD p (owed - 1) 0) p q (owed - 1) r → Tally calls words q d r (at + 1) (u + s)
     unfolding ahead uses used
     count-node q s r l se sl w =
         let under = getD p (owed - 1) 0 in
@@ -135,5 +137,5 @@ module _ {calls words p : List ℕ} {d owed at u : ℕ} (g : Tally calls words p
         }
 
 -- a use count tells the size too
-pub counts-sized : {calls words : List ℕ} {n : ℕ} {r : Uses} → Counts calls words n r → Sized calls words (r .end)
+pub counts-sized : {calls words : List ℕ} {n : ℕ} {r : Uses} → CountsUses calls words n r → Sized calls words (r .end)
 counts-sized c = record { within = c .within; told = λ t rest h. c .told t rest h .end-is }

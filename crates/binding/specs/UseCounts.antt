@@ -13,7 +13,7 @@ pub record Counted (t : Term) (n : ℕ) (r : Uses) : Type 0 where
   pub end-is : r .end ≡ size t
   pub uses-is : r .uses ≡ uses t n
 
-pub record Counts (calls words : List ℕ) (n : ℕ) (r : Uses) : Type 0 where
+pub record CountsUses (calls words : List ℕ) (n : ℕ) (r : Uses) : Type 0 where
   pub few : r .uses ≤ r .end
   pub within : r .end ≤ length words
   pub told : (t : Term) (rest : List ℕ) → Holds calls words t rest → Counted t n r

@@ -1,18 +1,17 @@
 -- What the functions that write a term into a buffer ask and say, for whatever term is at the front.
 use Prim.Native.Nat.{ℕ, _+_, _-_, _*_, _^_, _≤_}
-use mathlib.Core.Bool.{cond, _&&_}
-use lib.Dec.{eqb, leb, ltb}
+use mathlib.Core.Bool.{cond}
+use lib.Dec.{leb, ltb}
 use mathlib.Core.Path.{_≡_}
 use mathlib.Core.List.{List}
 use lib.ListN.{length}
 use lib.Seq.{sets}
-use Rattle.syntax.specs.Words.{kindOf, numberOf}
+use Rattle.syntax.specs.Words.{numberOf}
 use Rattle.syntax.specs.Term.{Term}
 use Rattle.syntax.specs.Encoding.{encode, size}
 use Rattle.syntax.specs.Substitution.{rename, substitute}
 use Rattle.syntax.specs.Under.{raiseAt, onlyAt}
 use Rattle.words.specs.Fronts.{Holds, Starts, Whole}
-use Rattle.binding.specs.declared.substitute.Moved.{Moved}
 
 -- a term starts here, and fits into len words from `at` on
 pub record Room (calls src : List ℕ) (len at : ℕ) : Type 0 where
@@ -20,13 +19,13 @@ pub record Room (calls src : List ℕ) (len at : ℕ) : Type 0 where
   pub room : at + size (start .term) ≤ len
 
 -- t was read, and y written from `at` on
-pub record Written (read : ℕ) (old new : List ℕ) (at : ℕ) (t y : Term) : Type 0 where
+pub record WritesTerm (read : ℕ) (old new : List ℕ) (at : ℕ) (t y : Term) : Type 0 where
   pub read-is : read ≡ size t
   pub new-is : new ≡ sets old at (encode y)
 
 -- the term at the front is written with its variables from `cut` on raised
 pub record Renames (calls src old new : List ℕ) (at cut by r : ℕ) : Type 0 where
-  pub told : (t : Term) (rest : List ℕ) → Holds calls src t rest → Written r old new at t (rename t (raiseAt cut by))
+  pub told : (t : Term) (rest : List ℕ) → Holds calls src t rest → WritesTerm r old new at t (rename t (raiseAt cut by))
 
 -- a body starts here, the other words are a value, the body with the value in it fits into len words from `at` on, and there is space for
 -- the depths of the parts of both
@@ -36,23 +35,18 @@ pub record RoomFor (calls body value : List ℕ) (len at depth space : ℕ) : Ty
   pub room : at + size (substitute (start .term) (onlyAt depth (whole .term))) ≤ len
   pub spare : size (start .term) + length value + 2 ≤ space
 
--- t was read, and y written from `at` on, so many words
-pub record Placed (r : Moved) (old new : List ℕ) (at : ℕ) (t y : Term) : Type 0 where
-  pub written : Written (r .read) old new at t y
-  pub wrote-is : r .wrote ≡ size y
-
 -- the term at the front of body is written with the value for the variable `depth`
-pub record Substitutes (calls body value old new : List ℕ) (at depth : ℕ) (r : Moved) : Type 0 where
+pub record Substitutes (calls body value old new : List ℕ) (at depth : ℕ) : Type 0 where
   pub told : (t : Term) (rest : List ℕ) → Holds calls body t rest → (v : Whole calls value)
-      → Placed r old new at t (substitute t (onlyAt depth (v .term)))
+      → new ≡ sets old at (encode (substitute t (onlyAt depth (v .term))))
 
--- a word with its variable raised, if it is that of one from `cut` on
+-- a variable's word, raised if it is that of one from `cut` on
 abbrev pub raisedWord : (cut by w : ℕ) → ℕ
-raisedWord cut by w = cond (eqb (kindOf w) 0 && leb cut (numberOf w)) (w + by * 2 ^ 30) w
+raisedWord cut by w = cond (leb cut (numberOf w)) (w + by * 2 ^ 30) w
 
--- a word with its variable lowered by one, if it is that of one past `depth`
+-- a variable's word, lowered by one if it is that of one past `depth`
 abbrev pub loweredWord : (depth w : ℕ) → ℕ
-loweredWord depth w = cond (eqb (kindOf w) 0 && ltb depth (numberOf w)) (w - 2 ^ 30) w
+loweredWord depth w = cond (ltb depth (numberOf w)) (w - 2 ^ 30) w
 
 -- the value was written from `at` on, its variables raised
 pub record Raises (calls value old new : List ℕ) (at by r : ℕ) : Type 0 where

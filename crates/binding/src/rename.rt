@@ -2,20 +2,19 @@
 ghost use mathlib.Core.Path.{_≡_};
 ghost use Prim.Native.Nat.{_+_, _≤_};
 ghost use lib.ListN.{length};
+ghost use Rattle.syntax.specs.Words.{kindOf};
 ghost use Rattle.binding.specs.Writes.{raisedWord, Room, Renames};
 use words::depths::open_parts;
 use words::fields::kind;
 use words::fields::number;
 
-// a word, its variable raised if it is that of one from `cut` on
+// a variable's word, raised if it is that of one from `cut` on
 fn raised(w: u64, cut: u64, by: usize) -> u64
-    requires { ⌜ by ≤ 65536 ⌝ }
+    requires { ⌜ (kindOf w ≡ 0) × (by ≤ 65536) ⌝ }
     ensures { λ r. ⌜ r ≡ raisedWord cut by w ⌝ }
 {
-    if kind(w) == 0 {
-        if cut <= number(w) {
-            return w + by as u64 * 1073741824;
-        }
+    if cut <= number(w) {
+        return w + by as u64 * 1073741824;
     }
     w
 }

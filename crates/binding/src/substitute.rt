@@ -10,20 +10,12 @@ use words::fields::kind;
 use words::fields::number;
 use words::moves::copy;
 
-// words read of a part, and words written
-pub struct Moved {
-    pub read: usize,
-    pub wrote: usize,
-}
-
-// a word, its variable lowered by one if it is that of one past `depth`
+// a variable's word, lowered by one if it is that of one past `depth`
 fn lowered(w: u64, depth: u64) -> u64
     ensures { λ r. ⌜ r ≡ loweredWord depth w ⌝ }
 {
-    if kind(w) == 0 {
-        if depth < number(w) {
-            return w - 1073741824;
-        }
+    if depth < number(w) {
+        return w - 1073741824;
     }
     w
 }
@@ -37,7 +29,8 @@ fn put_value(
     by: usize,
     pending: &mut [u64],
 ) -> usize
-    requires { ⌜ Whole (now calls) (now value) × (at + length (now value) ≤ length (now dst)) × (length (now value) ≤ 8192) × (by ≤ 65536) ⌝ }
+    requires { ⌜ Whole (now calls) (now value) × (at + length (now value) ≤ length (now dst)) × (length (now value) ≤ 8192)
+        × (by ≤ 65536) ⌝ }
     requires { ⌜ length (now value) + 2 ≤ length (now pending) ⌝ }
     ensures { λ r. ⌜ Raises (now (calls .entry)) (now (value .entry)) (now (dst .entry)) (now (dst .exit)) at by r ⌝ }
 {
@@ -59,10 +52,11 @@ pub fn substitute_into(
     at: usize,
     depth: usize,
     pending: &mut [u64],
-) -> Moved
+)
     requires { ⌜ RoomFor (now calls) (now body) (now value) (length (now dst)) at depth (length (now pending)) ⌝ }
     requires { ⌜ (depth + length (now body) ≤ 65536) × (length (now value) ≤ 8192) ⌝ }
-    ensures { λ r. ⌜ Substitutes (now (calls .entry)) (now (body .entry)) (now (value .entry)) (now (dst .entry)) (now (dst .exit)) at depth r ⌝ }
+    ensures { λ _. ⌜ Substitutes (now (calls .entry)) (now (body .entry)) (now (value .entry)) (now (dst .entry)) (now (dst .exit)) at
+        depth ⌝ }
 {
     let mut owed: usize = 1;
     let mut i: usize = 0;
@@ -94,5 +88,4 @@ pub fn substitute_into(
             owed = open_parts(calls, w, under, pending, last);
         }
     }
-    Moved { read: i, wrote: o }
 }

@@ -6,7 +6,7 @@ ghost use lib.ListN.{length};
 ghost use Rattle.syntax.specs.Values.{counts};
 ghost use Rattle.syntax.specs.Words.{pack};
 ghost use Rattle.words.specs.Fronts.{Starts};
-ghost use Rattle.binding.specs.UseCounts.{Counts};
+ghost use Rattle.binding.specs.UseCounts.{CountsUses};
 use words::depths::open_parts;
 
 // where a part ends, and how often it uses a variable
@@ -29,7 +29,7 @@ fn is_variable(w: u64, depth: u64) -> usize
 // where the part at the front ends, and how often it uses the variable `depth`; `pending` has the depths of the parts still to come
 pub fn count_uses(calls: &[u64], t: &[u64], depth: usize, pending: &mut [u64]) -> Uses
     requires { ⌜ Starts (now calls) (now t) × (depth + length (now t) ≤ 65536) × (length (now t) + 2 ≤ length (now pending)) ⌝ }
-    ensures { λ r. ⌜ Counts (now (calls .entry)) (now (t .entry)) depth r ⌝ }
+    ensures { λ r. ⌜ CountsUses (now (calls .entry)) (now (t .entry)) depth r ⌝ }
 {
     let mut owed: usize = 1;
     let mut at: usize = 0;

@@ -16,7 +16,7 @@ use Rattle.syntax.specs.Parts.{partCount}
 use Rattle.syntax.specs.Shaped.{count}
 use Rattle.words.specs.Fronts.{Starts}
 use Rattle.words.specs.Reach.{outer, inner}
-use Rattle.words.specs.Depths.{Opens}
+use Rattle.words.specs.Depths.{OpensParts}
 use Rattle.words.proofs.RowAtDepths.{Gathering, ahead, ahead-one, ahead-opened, Near, near-begin, near-next, opens-room}
 use Rattle.words.proofs.Rows.{Marching, Visit, visit, march-from, march-inside, march-fits, march-on, march-end}
 use Rattle.words.proofs.Rows.{one-starts, one-holds}
@@ -134,7 +134,7 @@ module _ {calls words p : List ℕ} {m owed at : ℕ} (g : Scan calls words p m 
 
       -- a node in scope
       pub scan-node : (q : List ℕ) (r : ℕ) → length q ≡ length p → below under (variableOf (getD words at 0)) ≡ true
-          → Opens calls (getD words at 0) under p q (owed - 1) r → Scan calls words q m r (at + 1)
+          → OpensParts calls (getD words at 0) under p q (owed - 1) r → Scan calls words q m r (at + 1)
       unfolding inside
       scan-node q r l e w = record {
         space = omega (arith, g .space, l);

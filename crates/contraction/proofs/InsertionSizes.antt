@@ -18,17 +18,18 @@ use Rattle.reduction.specs.declared.Rule.the-variants.{LetInsertion}
 use Rattle.reduction.proofs.Fires.{Fires, f-insertion}
 use Rattle.reduction.proofs.NextSize.{size-letInsertion}
 use Rattle.words.specs.Joined.{joined}
-use Rattle.words.specs.Fronts.{Holds, Starts, HoldsAll, StartsAll, from}
+use Rattle.words.specs.Fronts.{Holds, HoldsAll, StartsAll, from}
 use Rattle.words.specs.Ends.{Sized, SizedAll}
 use Rattle.words.proofs.Joined.{size-joined, count-joined}
 use Rattle.words.proofs.Traversal.{front-of, from-length}
 use Rattle.words.proofs.PartsAt.{PartsAt, parts-of, part-here, parts-past}
 use Rattle.words.proofs.Rows.{row-holds, row-behind}
-use Rattle.search.specs.Operands.{allValues, FirstComputation, Finds}
-use Rattle.search.specs.declared.fits.Operand.{Operand}
+use Rattle.search.specs.Operands.{allValues, FirstComputation, FindsOperand}
+use Rattle.search.specs.declared.fits.FoundOperand.{FoundOperand}
 use Rattle.search.proofs.ValueByNode.{apart}
 use Rattle.contraction.specs.declared.plan.Plan.the-variants.{Insert as InsertPlan}
-use Rattle.contraction.specs.Plans.{StartsRedex, Laid, inserts, Inserted, partSize, MeasuredAs, Measures}
+use Rattle.contraction.specs.Sizes.{StartsAt}
+use Rattle.contraction.specs.Plans.{StartsRedex, PlanMakes, inserts, Inserted, partSize, MeasuredAs, Measures}
 use Rattle.contraction.proofs.RedexRows.{fired}
 use Rattle.contraction.proofs.NamedPart.{NamedPart, named-part}
 
@@ -58,7 +59,7 @@ unfolding joined count partSize
 size-behind done ts p = refl
 size-behind (arg t fs) ts p = size-behind fs ts p
 
-module _ (calls words : List ℕ) (r : Operand) where
+module _ {calls words : List ℕ} {r : FoundOperand} where
   module _ {x : Term} {rest : List ℕ} (h : Holds calls words x rest) (c : FirstComputation x r) where
     -- the part that is bound, and those behind it
     bound-at : PartsAt calls words (r .start) (arg (c .part) (c .later)) rest
@@ -75,7 +76,7 @@ module _ (calls words : List ℕ) (r : Operand) where
         omega (arith, front-of h .parts, ap count (c .parts), count-joined (c .front) (arg (c .part) (c .later)), c .index-is)
 
   -- a redex of let insertion at the front
-  module _ (f : Finds calls words r) (s : StartsRedex LetInsertion calls words) where
+  module _ (f : FindsOperand calls words r) (s : StartsRedex LetInsertion calls words) where
     found : r .found ≡ true
     unfolding fire
     found = f .told (s .start .term) (s .start .rest) (s .start .holds) .found-is ∙ ap isSome (s .fires)
@@ -83,16 +84,14 @@ module _ (calls words : List ℕ) (r : Operand) where
     first : {x : Term} {rest : List ℕ} → Holds calls words x rest → FirstComputation x r
     first {x} {rest} h = f .told x rest h .first found
 
-    pub bound-starts : Starts calls (from words (r .start))
+    pub bound-starts : StartsAt calls words (r .start)
     bound-starts =
         let h = s .start .holds in
-        record { term = first h .part; rest = _; holds = part-here calls words (bound-at h (first h)) }
-
-    pub start-inside : r .start ≤ length words
-    start-inside = let h = s .start .holds in omega (arith, bound-at h (first h) .inside)
+        let b = bound-at h (first h) in
+        record { inside = omega (arith, b .inside); start = record { term = first h .part; rest = _; holds = part-here calls words b } }
 
     -- the part that is bound has m words
-    module _ (m : ℕ) (z : Sized calls (from words (r .start)) m) where
+    module _ {m : ℕ} (z : Sized calls (from words (r .start)) m) where
       module _ {x : Term} {rest : List ℕ} (h : Holds calls words x rest) where
         size-is : m ≡ size (first h .part)
         size-is = z .told _ _ (part-here calls words (bound-at h (first h)))
@@ -120,15 +119,15 @@ module _ (calls words : List ℕ) (r : Operand) where
               size-is h,
             )
 
-        laid : {y : Term} → NamedPart x y → Laid calls words (InsertPlan (r .index) (r .start) m) y
-        laid n =
+        makes : {y : Term} → NamedPart x y → PlanMakes calls words (InsertPlan (r .index) (r .start) m) y
+        makes n =
             let c = first h in
             let e = same-first (n .front) (c .front) (n .part) (c .part) (n .later) (c .later) (sym (n .parts) ∙ c .parts) (n .values)
             (c .values) (n .computation) (c .computation) in
             let i : count (n .front) ≡ r .index = ap count (e .0) ∙ sym (c .index-is) in
             let hp = subst (λ (t : Term). Holds calls (from words (r .start)) t (encodeAll (c .later) ++ rest)) (sym (e .1))
             (part-here calls words (bound-at h c)) in
-            subst (Laid calls words (InsertPlan (r .index) (r .start) m)) (sym (n .is))
+            subst (PlanMakes calls words (InsertPlan (r .index) (r .start) m)) (sym (n .is))
             (inserts h (subst (λ (j : ℕ). Inserted j x (n .node-under)) i (n .inserted)) hp (size-is h ∙ ap size (sym (e .1)))
             (record { told = λ t more g. found-size g }))
 
@@ -137,15 +136,15 @@ module _ (calls words : List ℕ) (r : Operand) where
         inserted n (f-insertion i) e = record {
           read-is = e;
           wrote-is = omega (arith, e, size-letInsertion i);
-          laid = laid (named-part i);
+          makes = makes (named-part i);
         }
 
       pub bound-inside : r .start + m ≤ length words
       bound-inside = omega (arith, later-at (s .start .holds) .inside)
 
-      module _ (n : ℕ) (ne : n ≡ partCount calls (getD words 0 0)) where
-        pub index-below : r .index + 1 ≤ n
-        index-below = let h = s .start .holds in omega (arith, ne, count-by-later h (first h))
+      module _ {n : ℕ} (ne : n ≡ partCount calls (getD words 0 0)) where
+        pub index-in : r .index + 1 ≤ n
+        index-in = let h = s .start .holds in omega (arith, ne, count-by-later h (first h))
 
         later-holds : {x : Term} {rest : List ℕ} (h : Holds calls words x rest)
             → HoldsAll calls (from words (r .start + m)) (n - 1 - r .index) (first h .later) rest
@@ -155,7 +154,7 @@ module _ (calls words : List ℕ) (r : Operand) where
         later-starts = let h = s .start .holds in record { terms = first h .later; rest = s .start .rest; holds = later-holds h }
 
         -- the node ends where the l words of the parts behind do
-        module _ (l : ℕ) (b : SizedAll calls (from words (r .start + m)) (n - 1 - r .index) l) where
+        module _ {l : ℕ} (b : SizedAll calls (from words (r .start + m)) (n - 1 - r .index) l) where
           pub end-inside : r .start + m + l ≤ length words
           end-inside = omega (arith, b .within, from-length words (r .start + m), bound-inside)
 

@@ -36,18 +36,18 @@ unfolding isComputation
 computes t h = is-false (isValue t) h
 
 -- the part the variable stands for, and the others
-part-replaced : (i j b : ℕ) (t : Term) → j ≡ i → var 0 ≡ insertPart (eqb j i) b t
-part-replaced i j b t e = ap (λ (c : Bool). insertPart c b t) (sym (eq-eqb j i e))
+variable-for-part : (i j b : ℕ) (t : Term) → j ≡ i → var 0 ≡ insertPart (eqb j i) b t
+variable-for-part i j b t e = ap (λ (c : Bool). insertPart c b t) (sym (eq-eqb j i e))
 
-part-kept : (i j b : ℕ) (t : Term) → (j ≡ i → ⊥) → rename t (raiseAt b 1) ≡ insertPart (eqb j i) b t
-part-kept i j b t h = ap (λ (c : Bool). insertPart c b t) (sym (ne-eqb j i h))
+other-part-moves : (i j b : ℕ) (t : Term) → (j ≡ i → ⊥) → rename t (raiseAt b 1) ≡ insertPart (eqb j i) b t
+other-part-moves i j b t h = ap (λ (c : Bool). insertPart c b t) (sym (ne-eqb j i h))
 
 -- the arguments of a call behind the one that is named
 arguments-after : (i j : ℕ) (ts : Terms) → i < j → traverseAll renaming ts suc ≡ insertParts 1 i j ts
 unfolding traverse insertParts bindersAt
 arguments-after i j done lt = refl
 arguments-after i j (arg t ts) lt =
-    ap₂ arg (weaken-raiseAt t ∙ part-kept i j 0 t (λ e. omega (arith, e, lt))) (arguments-after i (suc j) ts (omega (arith, lt)))
+    ap₂ arg (weaken-raiseAt t ∙ other-part-moves i j 0 t (λ e. omega (arith, e, lt))) (arguments-after i (suc j) ts (omega (arith, lt)))
 
 record NamedArgument (ts : Terms) (p : Term) (us : Terms) : Type 0 where
   front : Terms
@@ -65,7 +65,7 @@ named-argument (this {t = t} {ts = ts} h) = record {
   parts = refl;
   values = refl;
   computation = computes t h;
-  inserted = λ j. ap₂ arg (part-replaced (j + 0) j 0 t (omega arith)) (arguments-after (j + 0) (suc j) ts (omega arith));
+  inserted = λ j. ap₂ arg (variable-for-part (j + 0) j 0 t (omega arith)) (arguments-after (j + 0) (suc j) ts (omega arith));
 }
 named-argument (next {t = t} {p = p} {ts = ts} {us = us} h n) =
     let s = named-argument n in
@@ -75,7 +75,7 @@ named-argument (next {t = t} {p = p} {ts = ts} {us = us} h n) =
       parts = ap (arg t) (s .parts);
       values = rw (is-true (isValue t) h) (s .values);
       computation = s .computation;
-      inserted = λ j. ap₂ arg (weaken-raiseAt t ∙ part-kept (j + suc (count (s .front))) j 0 t (λ e. omega (arith, e)))
+      inserted = λ j. ap₂ arg (weaken-raiseAt t ∙ other-part-moves (j + suc (count (s .front))) j 0 t (λ e. omega (arith, e)))
           (s .inserted (suc j) ∙ ap (λ (i : ℕ). insertParts 1 i (suc j) ts) (moved j (count (s .front))));
     }
   where

@@ -20,9 +20,10 @@ use Rattle.syntax.proofs.Sizes.{size-positive, size-rename}
 use Rattle.words.specs.Fronts.{Holds, Starts, from}
 use Rattle.words.specs.Ends.{Sized}
 use Rattle.binding.specs.Writes.{Room, Renames}
-use Rattle.binding.specs.declared.substitute.Moved.{Moved}
+use Rattle.contraction.specs.declared.insert.Moved.{Moved}
 use Rattle.words.proofs.Sized.{same-size}
-use Rattle.words.proofs.Traversal.{fits, front-of, first-word, Going, enter, enter-start, Does, upcoming, reached, onward, onward-start, leave}
+use Rattle.words.proofs.Traversal.{fits, front-of, first-word, Going, enter, enter-start}
+use Rattle.words.proofs.Traversal.{Does, upcoming, reached, onward, onward-start, leave}
 use Rattle.words.proofs.Stretches.{Writing, write-none, write-next, write-all, write-room}
 use Rattle.contraction.specs.Plans.{insertPart, insertParts, Inserted, partSize}
 use Rattle.contraction.specs.Insertion.{PartRoom, InsertsPart, NodeRoom, InsertsNode}
@@ -43,7 +44,7 @@ module _ {calls src : List ℕ} {here : Bool} {n len at cut : ℕ} (r : PartRoom
     );
   }
 
-module _ (calls src : List ℕ) (here : Bool) (old : List ℕ) (at cut n : ℕ) where
+module _ {calls src : List ℕ} {here : Bool} {old : List ℕ} {at cut n : ℕ} where
   pub part-replaced : here ≡ true → Sized calls src n
       → InsertsPart calls src here old (set old at 0) at cut (record { read = n; wrote = 1 })
   unfolding encode size node
@@ -51,9 +52,9 @@ module _ (calls src : List ℕ) (here : Bool) (old : List ℕ) (at cut n : ℕ) 
     told = λ t rest h. rw e (record { written = record { read-is = s .told t rest h; new-is = refl }; wrote-is = refl });
   }
 
-  pub part-moved : (new : List ℕ) → here ≡ false → Renames calls src old new at cut 1 n
+  pub part-moved : {new : List ℕ} → here ≡ false → Renames calls src old new at cut 1 n
       → InsertsPart calls src here old new at cut (record { read = n; wrote = n })
-  part-moved new e f = record {
+  part-moved e f = record {
     told = λ t rest h.
         let w = f .told t rest h in
         rw e (record { written = w; wrote-is = w .read-is ∙ sym (size-rename t (raiseAt cut 1)) });
@@ -64,9 +65,9 @@ pub node-space : {calls src : List ℕ} {i n len at : ℕ} → NodeRoom calls sr
 node-space r = omega (arith, r .room, size-positive (r .node))
 
 -- as much room in a buffer of the same length
-pub node-room : {calls src : List ℕ} {i n len at : ℕ} → NodeRoom calls src i n len at → (len′ : ℕ) → len′ ≡ len
+pub node-room : {calls src : List ℕ} {i n len at : ℕ} → NodeRoom calls src i n len at → {len′ : ℕ} → len′ ≡ len
     → NodeRoom calls src i n len′ at
-node-room r len′ e =
+node-room r e =
     record { start = r .start; sized = r .sized; node = r .node; inserted = r .inserted; room = omega (arith, e, r .room) }
 
 -- the words of the node with the new variable in it

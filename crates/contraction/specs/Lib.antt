@@ -1,3 +1,4 @@
+pub mod Sizes
 pub mod Plans
 pub mod Insertion
 pub mod Writers

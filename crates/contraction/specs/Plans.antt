@@ -1,4 +1,4 @@
--- What a redex becomes, as a plan says it: from which words it is put together.
+-- What a redex becomes by a plan, from which words it is put together, and what is measured of it.
 use Prim.Native.Nat.{ℕ, zero, suc, _+_, _≤_}
 use mathlib.Core.Path.{_≡_}
 use mathlib.Core.Bool.{Bool, true, false}
@@ -15,11 +15,9 @@ use Rattle.reduction.specs.MayDrop.{mayDrop}
 use Rattle.reduction.specs.Rules.{fire}
 use Rattle.reduction.specs.declared.Rule.{Rule}
 use Rattle.words.specs.Fronts.{Holds, Starts, from}
-use Rattle.words.specs.Ends.{Sized}
 use Rattle.contraction.specs.declared.plan.Plan.{Plan}
 use Rattle.contraction.specs.declared.plan.Plan.the-variants.{Substitute, Copy, MoveLet, MoveCase, Insert}
 use Rattle.contraction.specs.declared.plan.Measured.{Measured}
-use Rattle.contraction.specs.declared.plan.Body.{Body}
 
 -- a part under b binders of a node that moves under a new binder: the part moved too, or the new variable for it
 abbrev pub insertPart : Bool → ℕ → Term → Term
@@ -46,37 +44,29 @@ partSize (arg t ts) (suc i) = partSize ts i
 pub record PartSized (calls words : List ℕ) (i n : ℕ) : Type 0 where
   pub told : (x : Term) (rest : List ℕ) → Holds calls words x rest → n ≡ partSize (node x .parts) i
 
--- what a plan writes: the parts stand where it says; a body and a value do not overlap, so they have no more words together than there are
-pub data Laid (calls words : List ℕ) : Plan → Term → Type 0 where
+-- the term that a plan makes: the parts stand where it says. A body and a value do not overlap, so they have no more words together than
+-- there are.
+pub data PlanMakes (calls words : List ℕ) : Plan → Term → Type 0 where
   substitutes : {body value n : ℕ} {b v : Term} {l m : List ℕ} → Holds calls (from words body) b l → Holds calls (from words value) v m
       → n ≡ size v → size b + n ≤ length words
-      → Laid calls words (Substitute body value n) (b ⟦ v ⟧)
-  copies : {start : ℕ} {y : Term} {m : List ℕ} → Holds calls (from words start) y m → Laid calls words (Copy start) y
+      → PlanMakes calls words (Substitute body value n) (b ⟦ v ⟧)
+  copies : {start : ℕ} {y : Term} {m : List ℕ} → Holds calls (from words start) y m → PlanMakes calls words (Copy start) y
   moves-let : {second third : ℕ} {p b c : Term} {l m n : List ℕ} → Holds calls (from words 2) p l → Holds calls (from words second) b m
       → Holds calls (from words third) c n → second ≡ 2 + size p → third ≡ second + size b
-      → Laid calls words (MoveLet second third) (bind p (bind b (weakenBody c)))
+      → PlanMakes calls words (MoveLet second third) (bind p (bind b (weakenBody c)))
   moves-case : {right third z : ℕ} {l r c : Term} {k m n o : List ℕ} → Holds calls (from words 2) (var z) k
       → Holds calls (from words 3) l m → Holds calls (from words right) r n → Holds calls (from words third) c o
       → right ≡ 3 + size l → third ≡ right + size r
-      → Laid calls words (MoveCase right third) (case (var z) (bind l (weakenBody c)) (bind r (weakenBody c)))
+      → PlanMakes calls words (MoveCase right third) (case (var z) (bind l (weakenBody c)) (bind r (weakenBody c)))
   inserts : {index start n : ℕ} {x p z : Term} {m o : List ℕ} → Holds calls words x m → Inserted index x z
       → Holds calls (from words start) p o → n ≡ size p → PartSized calls words index n
-      → Laid calls words (Insert index start n) (bind p z)
-
--- with a value of n words for the variable that its node binds, the term at the front has w words
-pub record SizedWith (calls words : List ℕ) (n w : ℕ) : Type 0 where
-  pub told : (b v : Term) (rest : List ℕ) → Holds calls words b rest → n ≡ size v → w ≡ size (b ⟦ v ⟧)
-
--- how many words the body at the front has, and how many with a value of n words for the variable that its node binds
-pub record BodyWith (calls words : List ℕ) (n : ℕ) (r : Body) : Type 0 where
-  pub ends : Sized calls words (r .end)
-  pub becomes : SizedWith calls words n (r .wrote)
+      → PlanMakes calls words (Insert index start n) (bind p z)
 
 -- what was measured of a node x that becomes y
 pub record MeasuredAs (calls words : List ℕ) (x y : Term) (r : Measured) : Type 0 where
   pub read-is : r .read ≡ size x
   pub wrote-is : r .wrote ≡ size y
-  pub laid : Laid calls words (r .plan) y
+  pub makes : PlanMakes calls words (r .plan) y
 
 -- the words begin with a redex of the rule
 pub record StartsRedex (rule : Rule) (calls words : List ℕ) : Type 0 where

@@ -8,10 +8,10 @@ use Rattle.syntax.specs.Encoding.{encode, size}
 use Rattle.syntax.specs.Substitution.{weakenBody}
 use Rattle.words.specs.Fronts.{Holds, from}
 use Rattle.contraction.specs.declared.plan.Plan.{Plan}
-use Rattle.contraction.specs.Plans.{Laid}
+use Rattle.contraction.specs.Plans.{PlanMakes}
 
 -- y was written from `at` on, so many words
-pub record Wrote (old new : List ℕ) (at : ℕ) (y : Term) (n : ℕ) : Type 0 where
+pub record WroteTerm (old new : List ℕ) (at : ℕ) (y : Term) (n : ℕ) : Type 0 where
   pub new-is : new ≡ sets old at (encode y)
   pub wrote-is : n ≡ size y
 
@@ -31,18 +31,18 @@ pub record LetRoom (calls words : List ℕ) (start end body len at : ℕ) : Type
   pub room : at + size (bind bound (weakenBody under)) ≤ len
 
 pub record WritesLet (calls words : List ℕ) (start end body : ℕ) (old new : List ℕ) (at r : ℕ) : Type 0 where
-  pub told : (e c : Term) → LetParts calls words start end body e c → Wrote old new at (bind e (weakenBody c)) r
+  pub told : (e c : Term) → LetParts calls words start end body e c → WroteTerm old new at (bind e (weakenBody c)) r
 
 -- what the plan says fits into len words
-pub record Planned (calls words : List ℕ) (plan : Plan) (len : ℕ) : Type 0 where
+pub record PlanRoom (calls words : List ℕ) (plan : Plan) (len : ℕ) : Type 0 where
   pub term : Term
-  pub laid : Laid calls words plan term
+  pub makes : PlanMakes calls words plan term
   pub room : size term ≤ len
 
 -- and has so many words
-pub record PlannedAs (calls words : List ℕ) (plan : Plan) (len wrote : ℕ) : Type 0 where
-  pub planned : Planned calls words plan len
-  pub wrote-is : wrote ≡ size (planned .term)
+pub record SizedPlanRoom (calls words : List ℕ) (plan : Plan) (len wrote : ℕ) : Type 0 where
+  pub plan-room : PlanRoom calls words plan len
+  pub wrote-is : wrote ≡ size (plan-room .term)
 
-pub record Writes (calls words : List ℕ) (plan : Plan) (old new : List ℕ) : Type 0 where
-  pub told : (y : Term) → Laid calls words plan y → new ≡ sets old 0 (encode y)
+pub record WritesPlan (calls words : List ℕ) (plan : Plan) (old new : List ℕ) : Type 0 where
+  pub told : (y : Term) → PlanMakes calls words plan y → new ≡ sets old 0 (encode y)

@@ -3,10 +3,15 @@ ghost use Prim.Native.Nat.{_≤_};
 ghost use lib.ListN.{length};
 ghost use Rattle.contraction.specs.Insertion.{PartRoom, InsertsPart, NodeRoom, InsertsNode};
 use binding::rename::rename_into;
-use binding::substitute::Moved;
 use words::fields::kind;
 use words::shape::binders;
 use words::shape::part_count;
+
+// words read of a part, and words written
+pub struct Moved {
+    pub read: usize,
+    pub wrote: usize,
+}
 
 // a part moves too, its variables from `cut` on raised, or the new variable stands for it; `size` is then how many words it has
 fn insert_part(

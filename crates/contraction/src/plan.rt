@@ -1,18 +1,16 @@
 // How many words a redex has, how many it becomes, and how these are written.
-ghost use mathlib.Core.Path.{_≡_};
-ghost use Prim.Native.Nat.{_+_, _-_, _*_, _≤_};
+ghost use Prim.Native.Nat.{_≤_};
 ghost use lib.ListN.{length};
-ghost use Rattle.words.specs.Fronts.{Starts, from};
-ghost use Rattle.words.specs.Ends.{Sized};
-ghost use Rattle.binding.specs.UseCounts.{Counts};
 ghost use Rattle.reduction.specs.declared.Rule.the-variants.{LetInsertion, LetOfLet, LetOfCase, Apply, First, Second, LeftCase, RightCase};
 ghost use Rattle.reduction.specs.declared.Rule.the-variants.{LetValue, Drop};
-ghost use Rattle.contraction.specs.Plans.{StartsRedex, BodyWith, Measures};
-use binding::uses::Uses;
-use binding::uses::count_uses;
+ghost use Rattle.contraction.specs.Plans.{StartsRedex, Measures};
+use crate::sizes::body_with;
+use crate::sizes::size_from;
+use crate::sizes::substituted;
+use crate::sizes::two_sizes;
+use crate::sizes::uses_from;
 use reduction::Rule;
 use search::fits::first_computation;
-use words::ends::part_size;
 use words::ends::parts_size;
 use words::shape::part_count;
 
@@ -33,57 +31,6 @@ pub struct Measured {
     pub plan: Plan,
     pub read: usize,
     pub wrote: usize,
-}
-
-// how many words a body has, and how many it becomes with a value for its variable
-pub struct Body {
-    pub end: usize,
-    pub wrote: usize,
-}
-
-// the size of a body of so many words that uses its variable so often, with a value of so many words for it
-fn substituted(end: usize, uses: usize, size: usize) -> usize
-    requires { ⌜ (uses ≤ end) × (end ≤ 8192) × (size ≤ 8192) ⌝ }
-    ensures { λ r. ⌜ r ≡ end - uses + uses * size ⌝ }
-{
-    uses * size + (end - uses)
-}
-
-// how many words the part that starts at an index has
-fn size_from(calls: &[u64], t: &[u64], at: usize) -> usize
-    requires { ⌜ Starts (now calls) (from (now t) at) × (at ≤ length (now t)) × (length (now t) ≤ 8192) ⌝ }
-    ensures { λ r. ⌜ Sized (now (calls .entry)) (from (now (t .entry)) at) r ⌝ }
-{
-    part_size(calls, &t[at..])
-}
-
-// where the part that starts at an index ends, counted from there, and how often it uses the variable that its node binds
-fn uses_from(calls: &[u64], t: &[u64], at: usize, pending: &mut [u64]) -> Uses
-    requires { ⌜ Starts (now calls) (from (now t) at) × (at ≤ length (now t)) × (length (now t) ≤ 8192) × (8194 ≤ length (now pending)) ⌝ }
-    ensures { λ r. ⌜ Counts (now (calls .entry)) (from (now (t .entry)) at) 0 r ⌝ }
-{
-    count_uses(calls, &t[at..], 0, pending)
-}
-
-// the body that starts at an index, with a value of `size` words for the variable that its node binds; a value of one word leaves it as long
-// as it is, so uses are counted only for longer ones
-fn body_with(calls: &[u64], t: &[u64], at: usize, size: usize, pending: &mut [u64]) -> Body
-    requires { ⌜ Starts (now calls) (from (now t) at) × (at ≤ length (now t)) × (length (now t) ≤ 8192) × (size ≤ 8192)
-        × (8194 ≤ length (now pending)) ⌝ }
-    ensures { λ r. ⌜ BodyWith (now (calls .entry)) (from (now (t .entry)) at) size r ⌝ }
-{
-    if size == 1 {
-        let end = size_from(calls, t, at);
-        return Body {
-            end: end,
-            wrote: end,
-        };
-    }
-    let body = uses_from(calls, t, at, pending);
-    Body {
-        end: body.end,
-        wrote: substituted(body.end, body.uses, size),
-    }
 }
 
 // apply: the body stands at 2, the value behind it; the body comes first, so its uses are counted for every value
@@ -121,13 +68,12 @@ fn drop_let(calls: &[u64], t: &[u64]) -> Measured
     requires { ⌜ StartsRedex Drop (now calls) (now t) × (length (now t) ≤ 8192) ⌝ }
     ensures { λ r. ⌜ Measures Drop (now (calls .entry)) (now (t .entry)) r ⌝ }
 {
-    let size = size_from(calls, t, 1);
-    let start = 1 + size;
-    let end = size_from(calls, t, start);
+    let parts = two_sizes(calls, t, 1);
+    let start = 1 + parts.first;
     Measured {
-        plan: Plan::Substitute(start, 1, size),
-        read: start + end,
-        wrote: end,
+        plan: Plan::Substitute(start, 1, parts.first),
+        read: start + parts.second,
+        wrote: parts.second,
     }
 }
 
@@ -153,13 +99,12 @@ fn right_case(calls: &[u64], t: &[u64], pending: &mut [u64]) -> Measured
     requires { ⌜ StartsRedex RightCase (now calls) (now t) × (length (now t) ≤ 8192) × (8194 ≤ length (now pending)) ⌝ }
     ensures { λ r. ⌜ Measures RightCase (now (calls .entry)) (now (t .entry)) r ⌝ }
 {
-    let size = size_from(calls, t, 2);
-    let left = 2 + size;
-    let other = size_from(calls, t, left);
-    let right = left + other;
-    let body = body_with(calls, t, right, size, pending);
+    let parts = two_sizes(calls, t, 2);
+    let left = 2 + parts.first;
+    let right = left + parts.second;
+    let body = body_with(calls, t, right, parts.first, pending);
     Measured {
-        plan: Plan::Substitute(right, 2, size),
+        plan: Plan::Substitute(right, 2, parts.first),
         read: right + body.end,
         wrote: body.wrote,
     }
@@ -170,13 +115,11 @@ fn first(calls: &[u64], t: &[u64]) -> Measured
     requires { ⌜ StartsRedex First (now calls) (now t) × (length (now t) ≤ 8192) ⌝ }
     ensures { λ r. ⌜ Measures First (now (calls .entry)) (now (t .entry)) r ⌝ }
 {
-    let left = size_from(calls, t, 2);
-    let start = 2 + left;
-    let right = size_from(calls, t, start);
+    let halves = two_sizes(calls, t, 2);
     Measured {
         plan: Plan::Copy(2),
-        read: start + right,
-        wrote: left,
+        read: 2 + halves.first + halves.second,
+        wrote: halves.first,
     }
 }
 
@@ -185,13 +128,12 @@ fn second(calls: &[u64], t: &[u64]) -> Measured
     requires { ⌜ StartsRedex Second (now calls) (now t) × (length (now t) ≤ 8192) ⌝ }
     ensures { λ r. ⌜ Measures Second (now (calls .entry)) (now (t .entry)) r ⌝ }
 {
-    let left = size_from(calls, t, 2);
-    let start = 2 + left;
-    let right = size_from(calls, t, start);
+    let halves = two_sizes(calls, t, 2);
+    let start = 2 + halves.first;
     Measured {
         plan: Plan::Copy(start),
-        read: start + right,
-        wrote: right,
+        read: start + halves.second,
+        wrote: halves.second,
     }
 }
 
@@ -200,8 +142,9 @@ fn let_of_let(calls: &[u64], t: &[u64]) -> Measured
     requires { ⌜ StartsRedex LetOfLet (now calls) (now t) × (length (now t) ≤ 8192) ⌝ }
     ensures { λ r. ⌜ Measures LetOfLet (now (calls .entry)) (now (t .entry)) r ⌝ }
 {
-    let second = 2 + size_from(calls, t, 2);
-    let third = second + size_from(calls, t, second);
+    let parts = two_sizes(calls, t, 2);
+    let second = 2 + parts.first;
+    let third = second + parts.second;
     let end = third + size_from(calls, t, third);
     Measured {
         plan: Plan::MoveLet(second, third),
@@ -215,8 +158,9 @@ fn let_of_case(calls: &[u64], t: &[u64]) -> Measured
     requires { ⌜ StartsRedex LetOfCase (now calls) (now t) × (length (now t) ≤ 8192) ⌝ }
     ensures { λ r. ⌜ Measures LetOfCase (now (calls .entry)) (now (t .entry)) r ⌝ }
 {
-    let right = 3 + size_from(calls, t, 3);
-    let third = right + size_from(calls, t, right);
+    let branches = two_sizes(calls, t, 3);
+    let right = 3 + branches.first;
+    let third = right + branches.second;
     let body = size_from(calls, t, third);
     let end = third + body;
     Measured {

@@ -2,7 +2,7 @@
 ghost use Prim.Native.Nat.{_+_, _≤_};
 ghost use lib.ListN.{length};
 ghost use Rattle.contraction.specs.declared.plan.Plan.the-variants.{Substitute, MoveLet, MoveCase, Insert};
-ghost use Rattle.contraction.specs.Writers.{LetRoom, WritesLet, Planned, PlannedAs, Writes};
+ghost use Rattle.contraction.specs.Writers.{LetRoom, WritesLet, PlanRoom, SizedPlanRoom, WritesPlan};
 use crate::insert::insert_node;
 use crate::plan::Plan;
 use binding::rename::rename_into;
@@ -20,7 +20,8 @@ fn let_over(
     at: usize,
     pending: &mut [u64],
 ) -> usize
-    requires { ⌜ LetRoom (now calls) (now t) start end body (length (now dst)) at × (length (now t) ≤ 8192) × (8194 ≤ length (now pending)) ⌝ }
+    requires { ⌜ LetRoom (now calls) (now t) start end body (length (now dst)) at × (length (now t) ≤ 8192)
+        × (8194 ≤ length (now pending)) ⌝ }
     ensures { λ r. ⌜ WritesLet (now (calls .entry)) (now (t .entry)) start end body (now (dst .entry)) (now (dst .exit)) at r ⌝ }
 {
     let size = end - start;
@@ -39,9 +40,9 @@ fn substitute(
     dst: &mut [u64],
     pending: &mut [u64],
 )
-    requires { ⌜ Planned (now calls) (now t) (Substitute body value size) (length (now dst)) × (length (now t) ≤ 8192)
+    requires { ⌜ PlanRoom (now calls) (now t) (Substitute body value size) (length (now dst)) × (length (now t) ≤ 8192)
         × (8194 ≤ length (now pending)) ⌝ }
-    ensures { λ r. ⌜ Writes (now (calls .entry)) (now (t .entry)) (Substitute body value size) (now (dst .entry)) (now (dst .exit)) ⌝ }
+    ensures { λ r. ⌜ WritesPlan (now (calls .entry)) (now (t .entry)) (Substitute body value size) (now (dst .entry)) (now (dst .exit)) ⌝ }
 {
     let end = value + size;
     substitute_into(calls, &t[body..], &t[value..end], dst, 0, 0, pending);
@@ -56,8 +57,9 @@ fn move_let(
     dst: &mut [u64],
     pending: &mut [u64],
 )
-    requires { ⌜ Planned (now calls) (now t) (MoveLet second third) (length (now dst)) × (length (now t) ≤ 8192) × (8194 ≤ length (now pending)) ⌝ }
-    ensures { λ r. ⌜ Writes (now (calls .entry)) (now (t .entry)) (MoveLet second third) (now (dst .entry)) (now (dst .exit)) ⌝ }
+    requires { ⌜ PlanRoom (now calls) (now t) (MoveLet second third) (length (now dst)) × (length (now t) ≤ 8192)
+        × (8194 ≤ length (now pending)) ⌝ }
+    ensures { λ r. ⌜ WritesPlan (now (calls .entry)) (now (t .entry)) (MoveLet second third) (now (dst .entry)) (now (dst .exit)) ⌝ }
 {
     dst[0] = 4611686018427387904;
     copy(t, 2, second - 2, dst, 1);
@@ -73,8 +75,9 @@ fn move_case(
     dst: &mut [u64],
     pending: &mut [u64],
 )
-    requires { ⌜ Planned (now calls) (now t) (MoveCase right third) (length (now dst)) × (length (now t) ≤ 8192) × (8194 ≤ length (now pending)) ⌝ }
-    ensures { λ r. ⌜ Writes (now (calls .entry)) (now (t .entry)) (MoveCase right third) (now (dst .entry)) (now (dst .exit)) ⌝ }
+    requires { ⌜ PlanRoom (now calls) (now t) (MoveCase right third) (length (now dst)) × (length (now t) ≤ 8192)
+        × (8194 ≤ length (now pending)) ⌝ }
+    ensures { λ r. ⌜ WritesPlan (now (calls .entry)) (now (t .entry)) (MoveCase right third) (now (dst .entry)) (now (dst .exit)) ⌝ }
 {
     dst[0] = 11529215046068469760;
     dst[1] = t[2];
@@ -92,9 +95,9 @@ fn insert_let(
     dst: &mut [u64],
     pending: &mut [u64],
 )
-    requires { ⌜ Planned (now calls) (now t) (Insert index start size) (length (now dst)) × (length (now t) ≤ 8192)
+    requires { ⌜ PlanRoom (now calls) (now t) (Insert index start size) (length (now dst)) × (length (now t) ≤ 8192)
         × (8194 ≤ length (now pending)) ⌝ }
-    ensures { λ r. ⌜ Writes (now (calls .entry)) (now (t .entry)) (Insert index start size) (now (dst .entry)) (now (dst .exit)) ⌝ }
+    ensures { λ r. ⌜ WritesPlan (now (calls .entry)) (now (t .entry)) (Insert index start size) (now (dst .entry)) (now (dst .exit)) ⌝ }
 {
     dst[0] = 4611686018427387904;
     copy(t, start, size, dst, 1);
@@ -110,8 +113,9 @@ pub fn write(
     wrote: usize,
     pending: &mut [u64],
 )
-    requires { ⌜ PlannedAs (now calls) (now t) plan (length (now dst)) wrote × (length (now t) ≤ 8192) × (8194 ≤ length (now pending)) ⌝ }
-    ensures { λ r. ⌜ Writes (now (calls .entry)) (now (t .entry)) plan (now (dst .entry)) (now (dst .exit)) ⌝ }
+    requires { ⌜ SizedPlanRoom (now calls) (now t) plan (length (now dst)) wrote × (length (now t) ≤ 8192)
+        × (8194 ≤ length (now pending)) ⌝ }
+    ensures { λ r. ⌜ WritesPlan (now (calls .entry)) (now (t .entry)) plan (now (dst .entry)) (now (dst .exit)) ⌝ }
 {
     match plan {
         Plan::Substitute(body, value, size) => substitute(

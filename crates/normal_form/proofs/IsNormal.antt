@@ -13,7 +13,6 @@ use Rattle.typing.specs.TableChecks.{lengthsFit}
 use Rattle.typing.specs.Refusals.{elaborate, otherLimit}
 use Rattle.typing.proofs.Accepted.{Passed}
 use Rattle.reduction.specs.MayDrop.{mayDrop}
-use Rattle.reduction.specs.Grammar.{inGrammar}
 use Rattle.outcomes.specs.Check.{checkedOf}
 use Rattle.outcomes.specs.IsNormal.{testedOf, isNormalOutcome}
 use Rattle.outcomes.specs.declared.Checked.{Checked}
@@ -22,7 +21,7 @@ use Rattle.theory.proofs.GrammarNormal.{grammar-is-normal}
 use Rattle.words.specs.Fronts.{Starts}
 use Rattle.checker.proofs.Verdicts.{Accepts, accepted-of, refused-of, accepted-holds}
 use Rattle.search.specs.Marks.{Space}
-use Rattle.normal_form.specs.NormalTest.{Tests, Decides}
+use Rattle.normal_form.specs.NormalTest.{isNormalForm, TestsNormal, Decides}
 use Rattle.normal_form.specs.declared.normal.Part.{Part}
 
 -- no binder is in scope yet: marks for as many as there can be words
@@ -33,7 +32,7 @@ space-none l le = record {
   low = λ d h. absurd (omega arith);
 }
 
-pub decides : {calls words : List ℕ} {depth : ℕ} {old new : List ℕ} {r : Part} → Tests (inGrammar (mayDrop calls)) calls words depth old new r
+pub decides : {calls words : List ℕ} {depth : ℕ} {old new : List ℕ} {r : Part} → TestsNormal isNormalForm calls words depth old new r
     → Decides calls words (r .ok)
 decides a = record { told = λ t rest h. a .told t rest h .ok-is }
 

@@ -2,12 +2,10 @@
 ghost use mathlib.Core.Path.{_≡_};
 ghost use Prim.Native.Nat.{_≤_};
 ghost use lib.ListN.{length};
-ghost use Rattle.reduction.specs.MayDrop.{mayDrop};
-ghost use Rattle.reduction.specs.Grammar.{inGrammar};
 ghost use Rattle.words.specs.Fronts.{Starts};
 ghost use Rattle.search.specs.Marks.{Space};
 ghost use Rattle.normal_form.specs.Roles.{firstRole, laterRole, roleOf, suits, operationKind, keepsVariable};
-ghost use Rattle.normal_form.specs.NormalTest.{isNormalValue, Tests, Decides};
+ghost use Rattle.normal_form.specs.NormalTest.{isNormalForm, isNormalValue, TestsNormal, Decides};
 use checker::check::OTHER_LIMIT;
 use search::marks::mark;
 use search::value::value_kind;
@@ -17,20 +15,20 @@ use words::shape::binders;
 use words::shape::part_count;
 
 // where a part ends, and whether it passed its test; the end is 0 if not
-pub struct Part {
+struct Part {
     pub end: usize,
     pub ok: bool,
 }
 
 // what a part of an operation, a let or a case in normal form has to be
-pub enum Role {
+enum Role {
     Variable,
     Value,
     Operation,
     Normal,
 }
 
-// the kinds of operations: call, application, first, second
+// the kinds of operations: call, application, first, second. A question about single kinds, and not about their parts.
 fn operation_kind(k: u64) -> bool
     ensures { λ r. ⌜ r ≡ operationKind k ⌝ }
 {
@@ -40,6 +38,7 @@ fn operation_kind(k: u64) -> bool
     }
 }
 
+// what the first part of a node has to be: a match, as only a call and a let differ from the rest
 fn first_role(k: u64) -> Role
     ensures { λ r. ⌜ r ≡ firstRole k ⌝ }
 {
@@ -50,6 +49,7 @@ fn first_role(k: u64) -> Role
     }
 }
 
+// what a later part has to be: a match, as only a call and an application differ from the rest
 fn later_role(k: u64) -> Role
     ensures { λ r. ⌜ r ≡ laterRole k ⌝ }
 {
@@ -95,9 +95,9 @@ fn keeps(k: u64, j: usize, uses: u64) -> bool
 }
 
 // whether the part at the front is a value in normal form, and where it ends
-pub fn value_test(calls: &[u64], t: &[u64], used: &mut [u64], depth: usize) -> Part
+fn normal_value_test(calls: &[u64], t: &[u64], used: &mut [u64], depth: usize) -> Part
     requires { ⌜ Starts (now calls) (now t) × Space 1 (now used) depth (length (now t)) ⌝ }
-    ensures { λ r. ⌜ Tests (isNormalValue (now (calls .entry))) (now (calls .entry)) (now (t .entry)) depth (now (used .entry)) (now (used .exit)) r ⌝ }
+    ensures { λ r. ⌜ TestsNormal isNormalValue (now (calls .entry)) (now (t .entry)) depth (now (used .entry)) (now (used .exit)) r ⌝ }
 {
     let w = t[0];
     let k = kind(w);
@@ -123,7 +123,7 @@ pub fn value_test(calls: &[u64], t: &[u64], used: &mut [u64], depth: usize) -> P
     let mut at: usize = 1;
     let mut j: usize = 0;
     while j < n {
-        let part = value_test(calls, &t[at..], used, depth);
+        let part = normal_value_test(calls, &t[at..], used, depth);
         if !part.ok {
             return Part { end: 0, ok: false };
         }
@@ -134,14 +134,14 @@ pub fn value_test(calls: &[u64], t: &[u64], used: &mut [u64], depth: usize) -> P
 }
 
 // whether the part at the front is in normal form, and where it ends
-pub fn normal_test(calls: &[u64], t: &[u64], used: &mut [u64], depth: usize) -> Part
+fn normal_test(calls: &[u64], t: &[u64], used: &mut [u64], depth: usize) -> Part
     requires { ⌜ Starts (now calls) (now t) × Space 1 (now used) depth (length (now t)) ⌝ }
-    ensures { λ r. ⌜ Tests (inGrammar (mayDrop (now (calls .entry)))) (now (calls .entry)) (now (t .entry)) depth (now (used .entry)) (now (used .exit)) r ⌝ }
+    ensures { λ r. ⌜ TestsNormal isNormalForm (now (calls .entry)) (now (t .entry)) depth (now (used .entry)) (now (used .exit)) r ⌝ }
 {
     let w = t[0];
     let k = kind(w);
     if value_kind(k) {
-        return value_test(calls, t, used, depth);
+        return normal_value_test(calls, t, used, depth);
     }
     let n = part_count(calls, w);
     let mut at: usize = 1;

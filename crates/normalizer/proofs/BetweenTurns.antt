@@ -32,7 +32,7 @@ use Rattle.theory.proofs.NextReduction.{next-reduction, operands-next}
 use Rattle.search.specs.PhasePremise.{PhasePremise}
 use Rattle.step.specs.Currents.{Gapped, Current}
 use Rattle.step.specs.Gaps.{Seekable, Seeks}
-use Rattle.step.specs.Turns.{At, Ready, Turned, stops, spent, full, goes, Turns}
+use Rattle.step.specs.Turns.{CurrentClear, Ready, Turned, stops, spent, full, goes, Turns}
 use Rattle.search.specs.NextFrom.{nextFrom}
 use Rattle.step.specs.declared.turn.Turn.{Turn}
 use Rattle.step.specs.declared.turn.Turn.the-variants.{Stop, Refused, Step as Stepped}
@@ -117,7 +117,7 @@ module _ (tables : Tables) (capacity : ℕ) (whole : Progress) where
   pub record StandsFor (s : State) : Type 0 where
     pub term : Term
     pub type : ℕ
-    pub at : At (s .phase) (tables .calls) (s .words) (s .start) (s .end) term
+    pub at : CurrentClear (s .phase) (tables .calls) (s .words) (s .start) (s .end) term
     pub typed : infer tables term (tables .inputs) ≡ some type
     pub long : length (s .words) ≡ capacity
     pub same : onwards pure capacity (s .phase) (runPhase pure capacity (s .phase) (s .left) term (s .counts)) ≡ whole

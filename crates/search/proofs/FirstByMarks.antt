@@ -37,8 +37,8 @@ use Rattle.words.specs.Reach.{inner}
 use Rattle.words.proofs.Sized.{same-term}
 use Rattle.words.proofs.PartsAt.{first-from}
 use Rattle.words.proofs.Traversal.{front-of}
-use Rattle.search.specs.Unused.{openMark, finalMark, Passed, Scans, FindsUnused}
-use Rattle.search.specs.declared.unused.Scan.{Scan}
+use Rattle.search.specs.Unused.{openMark, finalMark, NoUnusedBefore, Scans, FindsUnused}
+use Rattle.search.specs.declared.unused.PartScan.{PartScan}
 use Rattle.search.proofs.OpenMarks.{other-mark}
 
 -- the words from an index on, of the words from an index on
@@ -49,15 +49,16 @@ placed : (base n i : ℕ) → base + n + i ≡ base + (n + i)
 placed base n i = omega arith
 
 module _ {calls words : List ℕ} {base x : ℕ} where
-  pub passed-none : Passed calls words base x 0
+  pub passed-none : NoUnusedBefore calls words base x 0
   passed-none = record { marks = λ i t rest l h. absurd (omega (arith, l)) }
 
-  pub passed-back : {m : ℕ} (n : ℕ) → n ≤ m → Passed calls words base x m → Passed calls words base x n
+  pub passed-back : {m : ℕ} (n : ℕ) → n ≤ m → NoUnusedBefore calls words base x m → NoUnusedBefore calls words base x n
   passed-back n le p = record { marks = λ i t rest l h. p .marks i t rest (omega (arith, l, le)) h }
 
   -- one node more
-  pub passed-next : {n : ℕ} → Passed calls words base x n
-      → ((t : Term) (rest : List ℕ) → Holds calls (from words n) t rest → x ≤ finalMark (base + n) t) → Passed calls words base x (n + 1)
+  pub passed-next : {n : ℕ} → NoUnusedBefore calls words base x n
+      → ((t : Term) (rest : List ℕ) → Holds calls (from words n) t rest → x ≤ finalMark (base + n) t)
+      → NoUnusedBefore calls words base x (n + 1)
   passed-next {n} p q = record { marks = λ i t rest l h. go i t rest l h (ℕ-discrete i n) }
     where
       go : (i : ℕ) (t : Term) (rest : List ℕ) → i < n + 1 → Holds calls (from words i) t rest → Dec (i ≡ n) → x ≤ finalMark (base + i) t
@@ -66,14 +67,15 @@ module _ {calls words : List ℕ} {base x : ℕ} where
 
   -- the nodes of the words from n on
   module _ (n l : ℕ) where
-    pub passed-behind : Passed calls words base x (n + l) → Passed calls (from words n) (base + n) x l
+    pub passed-behind : NoUnusedBefore calls words base x (n + l) → NoUnusedBefore calls (from words n) (base + n) x l
     passed-behind p = record {
       marks = λ i t rest lt h.
           subst (λ (j : ℕ). x ≤ finalMark j t) (sym (placed base n i))
           (p .marks (n + i) t rest (omega (arith, lt)) (subst (λ (ws : List ℕ). Holds calls ws t rest) (from-from words n i) h));
     }
 
-    pub passed-row : Passed calls words base x n → Passed calls (from words n) (base + n) x l → Passed calls words base x (n + l)
+    pub passed-row : NoUnusedBefore calls words base x n → NoUnusedBefore calls (from words n) (base + n) x l
+        → NoUnusedBefore calls words base x (n + l)
     passed-row p q = record { marks = λ i t rest lt h. go i t rest lt h (decLt i n) }
       where
         behind : (i : ℕ) (t : Term) (rest : List ℕ) → i < l → Holds calls (from words (n + i)) t rest → x ≤ finalMark (base + (n + i)) t
@@ -160,7 +162,7 @@ finds-none {calls} {words} free small = record {
         ap kindOf (sym (first-from words j)) ∙ front-of (subterm-at t s w j p e) .kind in
         absurd (omega (arith, m, other-mark j (p .subterm) (λ z. free j below (same ∙ z)), below, small))
 
-module _ {calls words old new : List ℕ} {r : Scan} (a : Scans calls words 0 0 old new r) (t : Term) (s : Shaped calls t)
+module _ {calls words old new : List ℕ} {r : PartScan} (a : Scans calls words 0 0 old new r) (t : Term) (s : Shaped calls t)
     (w : words ≡ encode t) (small : size t ≤ 8192) where
   ends : r .end ≡ size t
   ends = a .told t [] (record { shaped = s; is = w ∙ sym (append-nil (encode t)) }) .0
@@ -206,26 +208,28 @@ module _ {calls words old new : List ℕ} {r : Scan} (a : Scans calls words 0 0 
         judged i u rest l h (stays f m) = omega (arith, m, lt)
         judged i u rest l h (drops c f e m) = go i u rest l h (decLt i (r .first)) (ℕ-discrete i (r .first)) m
 
-        passed : Passed calls words 0 (r .first + 1) (r .end)
+        passed : NoUnusedBefore calls words 0 (r .first + 1) (r .end)
         passed = record { marks = λ i u rest l h. judged i u rest l h (judge calls (0 + i) u) }
 
     first-unused : Redex Drop (r .first) ≡ firstRedex (mayDrop calls) Dropping t
     unfolding firstRedex
     first-unused = sym (inside (decLt (r .first) (size t)))
       where
-        here : (p : PositionAt t (r .first)) → Judged calls (0 + r .first) (p .position .subterm) → firstRedex (mayDrop calls) Dropping t ≡ Redex Drop (r .first)
+        here : (p : PositionAt t (r .first)) → Judged calls (0 + r .first) (p .position .subterm)
+            → firstRedex (mayDrop calls) Dropping t ≡ Redex Drop (r .first)
         here p (stays f m) = absurd (no-further λ u rest l h.
             subst (λ (z : Term). 65536 ≤ finalMark (0 + r .first) z)
             (sym (same-term h (subterm-at t s w (r .first) (p .position) (p .is)))) m)
         here p (drops c f q m) =
-            ap foundOf (first-at (mayDrop calls) Dropping t (r .first) (p .position) c (clear-first (r .first) (omega arith) (omega (arith, lt))) (p .is) f)
+            ap foundOf (first-at (mayDrop calls) Dropping t (r .first) (p .position) c
+            (clear-first (r .first) (omega arith) (omega (arith, lt))) (p .is) f)
             ∙ ap (λ (k : Rule). Redex k (r .first)) q
 
         inside : Dec (r .first < size t) → firstRedex (mayDrop calls) Dropping t ≡ Redex Drop (r .first)
         inside (yes l) = let p = position-at t (r .first) l in here p (judge calls (0 + r .first) (p .position .subterm))
         inside (no l) = absurd (no-further λ u rest b h. absurd (omega (arith, l, b, ends)))
 
-module _ {calls words old new : List ℕ} {r : Scan} (a : Scans calls words 0 0 old new r) (small : length words ≤ 8192) where
+module _ {calls words old new : List ℕ} {r : PartScan} (a : Scans calls words 0 0 old new r) (small : length words ≤ 8192) where
   short : (t : Term) → words ≡ encode t → size t ≤ 8192
   unfolding size
   short t w = omega (arith, small, ap (λ (l : List ℕ). length l) w)

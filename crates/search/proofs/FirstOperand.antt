@@ -14,15 +14,15 @@ use Rattle.syntax.specs.Values.{isValue}
 use Rattle.words.specs.Fronts.{Holds, Starts, from}
 use Rattle.words.proofs.Traversal.{front-of, Going, enter, Does, reached, onward, next}
 use Rattle.words.specs.Joined.{joined}
-use Rattle.search.specs.ValueTest.{Tests}
-use Rattle.search.specs.Operands.{operandCount, allValues, Finds}
-use Rattle.search.specs.declared.value.Value.{Value}
-use Rattle.search.specs.declared.fits.Operand.{Operand}
+use Rattle.search.specs.ValueTest.{TestsValue}
+use Rattle.search.specs.Operands.{operandCount, allValues, FindsOperand}
+use Rattle.search.specs.declared.value.ValueEnd.{ValueEnd}
+use Rattle.search.specs.declared.fits.FoundOperand.{FoundOperand}
 use Rattle.search.proofs.ValueByNode.{apart}
 use Rattle.search.proofs.InsertionFits.{valuesTo, operandsOf, inserts-is, operands-are-parts, behind, values-front, computation-next}
 
 -- j parts of t are passed, all of them values; the words of ts start at `at`
-pub record Passed (at j : ℕ) (t : Term) (ts : Terms) : Type 0 where
+pub record ValuesBefore (at j : ℕ) (t : Term) (ts : Terms) : Type 0 where
   pub front : Terms
   pub parts : node t .parts ≡ joined front ts
   pub values : allValues front ≡ true
@@ -57,7 +57,7 @@ pass-words (arg u us) t = omega (
 
 -- the loop's invariant: m is the number of operands of whatever term is at the front
 pub record Seeking (calls words : List ℕ) (n m at j : ℕ) : Type 0 where
-  pub going : Going calls words (Passed at j) n at j
+  pub going : Going calls words (ValuesBefore at j) n at j
   pub parts : n ≡ partCount calls (getD words 0 0)
   pub operands : (t : Term) (rest : List ℕ) → Holds calls words t rest → m ≡ operandsOf t
 
@@ -66,7 +66,7 @@ pub find-enter : (calls words : List ℕ) (k n m : ℕ) → Starts calls words �
     → n ≡ partCount calls (getD words 0 0) → m ≡ operandCount k n → Seeking calls words n m 1 0
 unfolding joined allValues count encode
 find-enter calls words k n m s ke ne me = record {
-  going = enter calls words (Passed 1 0) n s ne λ t rest h.
+  going = enter calls words (ValuesBefore 1 0) n s ne λ t rest h.
       record { front = done; parts = refl; values = refl; many = refl; start = refl };
   parts = ne;
   operands = λ t rest h.
@@ -76,7 +76,7 @@ find-enter calls words k n m s ke ne me = record {
 
 module _ {calls words : List ℕ} {n m at j : ℕ} (g : Seeking calls words n m at j) where
   -- no operand is left
-  pub find-none : (r : Operand) → m ≤ j → r .found ≡ false → Finds calls words r
+  pub find-none : (r : FoundOperand) → m ≤ j → r .found ≡ false → FindsOperand calls words r
   find-none r le e = record {
     told = λ t rest h.
         let s = g .going .stand t rest h in
@@ -95,9 +95,9 @@ module _ {calls words : List ℕ} {n m at j : ℕ} (g : Seeking calls words n m 
         let h = g .going .start .holds in
         omega (arith, g .operands _ _ h, operands-are-parts (g .going .start .term), g .parts, front-of h .parts)
 
-    module _ {v : Value} (a : Tests calls (from words at) v) where
+    module _ {v : ValueEnd} (a : TestsValue calls (from words at) v) where
       -- an operand that is no value
-      pub find-first : (r : Operand) → v .value ≡ false → r .found ≡ true → r .index ≡ j → r .start ≡ at → Finds calls words r
+      pub find-first : (r : FoundOperand) → v .value ≡ false → r .found ≡ true → r .index ≡ j → r .start ≡ at → FindsOperand calls words r
       find-first r vf e ie se = record {
         told = λ t rest h.
             let x = next calls words (g .going) find-part t rest h in
@@ -122,7 +122,7 @@ module _ {calls words : List ℕ} {n m at j : ℕ} (g : Seeking calls words n m 
       }
 
       module _ (vt : v .value ≡ true) where
-        passes : Does calls words (Passed at j) (Passed (at + v .end) (j + 1)) at (v .end)
+        passes : Does calls words (ValuesBefore at j) (ValuesBefore (at + v .end) (j + 1)) at (v .end)
         passes t rest h part later holds p =
             let c = a .told part (encodeAll later ++ rest) holds in
             let s = c .end-is vt in (
@@ -137,12 +137,12 @@ module _ {calls words : List ℕ} {n m at j : ℕ} (g : Seeking calls words n m 
             )
 
         pub find-reached : at + v .end ≤ length words
-        find-reached = reached calls words (Passed (at + v .end) (j + 1)) (v .end) (g .going) find-part passes
+        find-reached = reached calls words (ValuesBefore (at + v .end) (j + 1)) (v .end) (g .going) find-part passes
 
         -- a turn of the loop
         pub find-next : Seeking calls words n m (at + v .end) (j + 1)
         find-next = record {
-          going = onward calls words (Passed (at + v .end) (j + 1)) (v .end) (g .going) find-part passes;
+          going = onward calls words (ValuesBefore (at + v .end) (j + 1)) (v .end) (g .going) find-part passes;
           parts = g .parts;
           operands = g .operands;
         }

@@ -13,7 +13,7 @@ use Rattle.reduction.specs.declared.Found.the-variants.{Redex, Nothing}
 use Rattle.words.specs.Fronts.{Starts}
 use Rattle.search.specs.Fits.{Scannable}
 use Rattle.search.specs.Searches.{Onward, Continues, movedBy, FindsFirst}
-use Rattle.search.specs.Unused.{Open, FindsUnused}
+use Rattle.search.specs.Unused.{MarkSpace, FindsUnused}
 use Rattle.search.specs.PhasePremise.{PhasePremise}
 use Rattle.search.specs.Finds.{SearchAt, Searchable, Finds}
 
@@ -53,7 +53,7 @@ module _ {calls rest : List ℕ} where
     holds = record { shaped = s .at .shaped; is = whole (s .at) ∙ sym (append-nil (encode (s .term))) };
   }
 
-  pub marks-open : {phase : Phase} {marks : List ℕ} → Searchable phase calls rest marks → Open marks 0 (length rest)
+  pub marks-open : {phase : Phase} {marks : List ℕ} → Searchable phase calls rest marks → MarkSpace marks 0 (length rest)
   marks-open s = record { deep = omega (arith, s .deep); small = s .marks-small; low = λ d l. absurd (omega (arith, l)) }
 
   pub finds-unused : {r : Found} → FindsUnused calls rest r → Finds Dropping calls rest r

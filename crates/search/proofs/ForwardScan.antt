@@ -30,14 +30,16 @@ use Rattle.search.specs.Fits.{rootRedex, ruleOf, Scannable, Fits}
 use Rattle.search.specs.Searches.{Onward, Continues, FindsFirst}
 
 -- what is known of a term is known of its subterms
-scannable-site : (calls : List ℕ) (phase : Phase) (t : Term) (i : ℕ) (p : Position Term) → getElem? (positions t) i ≡ some p → Scannable calls phase t
+scannable-site : (calls : List ℕ) (phase : Phase) (t : Term) (i : ℕ) (p : Position Term) → getElem? (positions t) i ≡ some p
+    → Scannable calls phase t
     → Scannable calls phase (p .subterm)
 scannable-site calls Insertion t i p e h = tt
 scannable-site calls Reduction t i p e h = not-inserted (mayDrop calls) (p .subterm) (each-site Ops t (inserted (mayDrop calls) t h) i p e)
 scannable-site calls Dropping t i p e h = h
 
 -- no rule fits, and one does
-no-rule : (calls : List ℕ) (phase : Phase) (t : Term) → rootRedex (ruleOf calls phase t) ≡ Nothing → contract (mayDrop calls) (rules phase) t ≡ none
+no-rule : (calls : List ℕ) (phase : Phase) (t : Term) → rootRedex (ruleOf calls phase t) ≡ Nothing
+    → contract (mayDrop calls) (rules phase) t ≡ none
 unfolding ruleOf
 no-rule calls phase t e = go (contract (mayDrop calls) (rules phase) t) e
   where
@@ -50,7 +52,8 @@ record Rules (calls : List ℕ) (phase : Phase) (t : Term) (r : Rule) : Type 0 w
   is : contract (mayDrop calls) (rules phase) t ≡ some contraction
   rule-is : contraction .rule ≡ r
 
-a-rule : (calls : List ℕ) (phase : Phase) (t : Term) (r : Rule) (k : ℕ) → rootRedex (ruleOf calls phase t) ≡ Redex r k → Rules calls phase t r
+a-rule : (calls : List ℕ) (phase : Phase) (t : Term) (r : Rule) (k : ℕ) → rootRedex (ruleOf calls phase t) ≡ Redex r k
+    → Rules calls phase t r
 unfolding ruleOf
 a-rule calls phase t r k e = go (contract (mayDrop calls) (rules phase) t) refl e
   where
@@ -60,7 +63,8 @@ a-rule calls phase t r k e = go (contract (mayDrop calls) (rules phase) t) refl 
     go (some c) f d = record { contraction = c; is = f; rule-is = cc }
 
 -- a node that a rule fits, where no redex stands before it, is the first redex
-redex-at : (calls : List ℕ) (phase : Phase) (t : Term) (i : ℕ) (p : Position Term) (r : Rule) → Clear (mayDrop calls) phase t i → getElem? (positions t) i ≡ some p
+redex-at : (calls : List ℕ) (phase : Phase) (t : Term) (i : ℕ) (p : Position Term) (r : Rule) → Clear (mayDrop calls) phase t i
+    → getElem? (positions t) i ≡ some p
     → Rules calls phase (p .subterm) r → firstRedex (mayDrop calls) phase t ≡ Redex r i
 unfolding firstRedex
 redex-at calls phase t i p r h e c = ap foundOf (first-at (mayDrop calls) phase t i p (c .contraction) h e (c .is))
@@ -73,8 +77,8 @@ module _ (phase : Phase) (calls words : List ℕ) where
     pub clear : (t : Term) (i : ℕ) → Onward phase calls words t i → Clear (mayDrop calls) phase t (i + k)
 
   -- before the first word
-  pub scan-enter : Scanned 0
-  scan-enter = record {
+  pub forward-enter : Scanned 0
+  forward-enter = record {
     within = omega arith;
     clear = λ t i o. clear-down (mayDrop calls) phase (i + 0) (omega arith) (o .clear);
   }
@@ -98,24 +102,24 @@ module _ (phase : Phase) (calls words : List ℕ) where
 
   module _ (k : ℕ) (lt : k < length words) where
     -- a term starts at word k
-    pub scan-starts : Continues phase calls words → Starts calls (from words k)
-    scan-starts c =
+    pub forward-starts : Continues phase calls words → Starts calls (from words k)
+    forward-starts c =
         let o = c .onward in
         let p = position-at (c .term) (c .index + k) (omega (arith, ends (c .term) (c .index) o)) in
         record { term = p .position .subterm; rest = _; holds = subterm-at (c .term) (c .index) o k (p .position) (p .is) }
 
     module _ (s : Scanned k) {f : Found} (a : Fits phase calls (from words k) f) where
       -- no rule fits there
-      pub scan-next : f ≡ Nothing → Scanned (k + 1)
-      scan-next e = record {
+      pub forward-next : f ≡ Nothing → Scanned (k + 1)
+      forward-next e = record {
         within = omega arith;
         clear = λ t i o. clear-down (mayDrop calls) phase (i + (k + 1)) (omega arith)
             (clear-suc (mayDrop calls) phase (s .clear t i o) λ p d. no-rule calls phase (p .subterm) (sym (fit-at t i o k p d a) ∙ e));
       }
 
       -- a rule fits there
-      pub scan-found : (r : Rule) (x : ℕ) → f ≡ Redex r x → FindsFirst phase calls words (Redex r k)
-      scan-found r x e = record {
+      pub forward-found : (r : Rule) (x : ℕ) → f ≡ Redex r x → FindsFirst phase calls words (Redex r k)
+      forward-found r x e = record {
         told = λ t i o.
             let p = position-at t (i + k) (omega (arith, ends t i o)) in
             let q = p .position in
@@ -124,9 +128,9 @@ module _ (phase : Phase) (calls words : List ℕ) where
       }
 
   -- after the last word
-  pub scan-end : (k : ℕ) → Scanned k → length words ≤ k → FindsFirst phase calls words Nothing
+  pub forward-end : (k : ℕ) → Scanned k → length words ≤ k → FindsFirst phase calls words Nothing
   unfolding firstRedex
-  scan-end k s ge = record {
+  forward-end k s ge = record {
     told = λ t i o. sym (ap foundOf (clear-all (mayDrop calls) phase t
         (clear-down (mayDrop calls) phase (size t) (omega (arith, ends t i o)) (s .clear t i o))));
   }

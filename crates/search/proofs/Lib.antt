@@ -10,4 +10,5 @@ pub mod Lets
 pub mod RowInTwo
 pub mod UnusedRows
 pub mod UnusedSteps
+pub mod UnusedNodes
 mod FirstRedexFound

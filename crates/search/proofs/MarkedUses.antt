@@ -73,19 +73,19 @@ space-raisable {by} s le n h =
     record { deep = omega (arith, s .deep); low = λ d b. omega (arith, s .low d b, le-mul-of-pos-right by le, h) }
 
 -- the marks as a part under b binders finds them: those of the binders in scope as they were, its own at zero
-pub record Opened (used opened : List ℕ) (depth b : ℕ) : Type 0 where
+pub record OpenedMark (used opened : List ℕ) (depth b : ℕ) : Type 0 where
   pub len : length opened ≡ length used
   pub below : (d : ℕ) → d < depth → getD opened d 0 ≡ getD used d 0
   pub own : b ≡ 1 → getD opened depth 0 ≡ 0
 
-pub open-set : (used : List ℕ) (depth b : ℕ) → depth < length used → Opened used (set used depth 0) depth b
+pub open-set : (used : List ℕ) (depth b : ℕ) → depth < length used → OpenedMark used (set used depth 0) depth b
 open-set used depth b lt = record {
   len = length-set used depth 0;
   below = λ d h. getD-set-other used depth d 0 0 (λ e. omega arith);
   own = λ e. getD-set-same used depth 0 0 lt;
 }
 
-pub open-none : (used : List ℕ) (depth : ℕ) → Opened used used depth 0
+pub open-none : (used : List ℕ) (depth : ℕ) → OpenedMark used used depth 0
 open-none used depth = record { len = refl; below = λ d h. refl; own = λ e. absurd (omega arith) }
 
 -- after its parts up to j are gone through, a term's parts ts are still to be marked
@@ -103,7 +103,7 @@ pub mark-leave : {old new : List ℕ} {depth k j : ℕ} {t : Term} → Marking o
 unfolding usesParts
 mark-leave m = record { marks = λ d h. omega (arith, m .so-far d h) }
 
-module _ {mid opened new : List ℕ} {depth b : ℕ} {part : Term} (o : Opened mid opened depth b)
+module _ {mid opened new : List ℕ} {depth b : ℕ} {part : Term} (o : OpenedMark mid opened depth b)
     (a : Marked 1 part (depth + b) opened new) where
   -- a part adds its uses to the marks of the binders in scope
   pub part-marks : (d : ℕ) → d < depth → getD new d 0 ≡ getD mid d 0 + uses part (depth - 1 - d + b)
@@ -141,7 +141,7 @@ pub record Grown (old new : List ℕ) (depth at : ℕ) : Type 0 where
 pub grown-none : (old : List ℕ) (depth at : ℕ) → Grown old old depth at
 grown-none old depth at = record { len = refl; by = λ d h. omega arith }
 
-pub grown-next : {old mid opened new : List ℕ} {depth b at : ℕ} {part : Term} → Opened mid opened depth b
+pub grown-next : {old mid opened new : List ℕ} {depth b at : ℕ} {part : Term} → OpenedMark mid opened depth b
     → Marked 1 part (depth + b) opened new
     → length new ≡ length opened → Grown old mid depth at → (l : ℕ) → l ≡ size part → Grown old new depth (at + l)
 grown-next {depth = depth} {b = b} {part = part} o a le g l e = record {
@@ -150,7 +150,7 @@ grown-next {depth = depth} {b = b} {part = part} o a le g l e = record {
 }
 
 -- the words from `at` on can be gone through under b binders more
-pub space-next : {old mid opened : List ℕ} {depth b at : ℕ} (l more : ℕ) → Opened mid opened depth b → b ≤ 1 → Grown old mid depth at
+pub space-next : {old mid opened : List ℕ} {depth b at : ℕ} (l more : ℕ) → OpenedMark mid opened depth b → b ≤ 1 → Grown old mid depth at
     → Space 1 old depth l → 1 ≤ at → at ≤ l → more ≡ l - at → Space 1 opened (depth + b) more
 space-next {old} {mid} {opened} {depth} {b} {at} l more o bl g s low high e = record {
   deep = omega (arith, s .deep, o .len, g .len);

@@ -19,9 +19,9 @@ use Rattle.reduction.specs.declared.Found.{Found}
 use Rattle.reduction.specs.Redex.{Contraction, contract}
 use Rattle.theory.proofs.Operands.{inserted}
 use Rattle.theory.proofs.FitByKinds.{fit-by-kinds}
-use Rattle.search.specs.Operands.{Finds}
+use Rattle.search.specs.Operands.{FindsOperand}
 use Rattle.search.specs.Fits.{rootRedex, ruleOf, Scannable, Fits}
-use Rattle.search.specs.declared.fits.Operand.{Operand}
+use Rattle.search.specs.declared.fits.FoundOperand.{FoundOperand}
 
 rule-insertion : (calls : List ℕ) (t : Term) → given (isSome (letInsertion t)) LetInsertion ≡ ruleOf calls Insertion t
 unfolding ruleOf contract rules fire
@@ -34,7 +34,7 @@ rule-insertion calls t = go (letInsertion t)
     go (some u) = refl
 
 module _ {phase : Phase} (calls words : List ℕ) {r : Found} where
-  pub fits-insertion : {o : Operand} → phase ≡ Insertion → Finds calls words o → r ≡ rootRedex (given (o .found) LetInsertion)
+  pub fits-insertion : {o : FoundOperand} → phase ≡ Insertion → FindsOperand calls words o → r ≡ rootRedex (given (o .found) LetInsertion)
       → Fits phase calls words r
   fits-insertion e f d = record {
     told = λ t rest h ready.
@@ -49,7 +49,8 @@ module _ {phase : Phase} (calls words : List ℕ) {r : Found} where
     told = λ t rest h ready.
         d ∙ (λ i. rootRedex (ruleByKinds (e₀ i) (e₁ i) (e₂ i)))
         ∙ ap (λ (ws : List ℕ). rootRedex (ruleByKinds (kindOf (getD ws 0 0)) (kindOf (getD ws 1 0)) (kindOf (getD ws 2 0)))) (h .is)
-        ∙ ap rootRedex (sym (fit-by-kinds calls (mayDrop calls) t rest (h .shaped) (inserted (mayDrop calls) t (subst (λ p. Scannable calls p t) e ready))))
+        ∙ ap rootRedex (sym (fit-by-kinds calls (mayDrop calls) t rest (h .shaped)
+        (inserted (mayDrop calls) t (subst (λ p. Scannable calls p t) e ready))))
         ∙ ap (λ (p : Phase). rootRedex (ruleOf calls p t)) (sym e);
   }
 

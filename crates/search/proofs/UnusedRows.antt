@@ -1,5 +1,5 @@
--- The search of phase 3 node by node. Ahead are the terms of a front and, under one binder more, those of a back. Every binder in scope has a
--- final mark: its mark now and what the terms ahead add to it.
+-- The search of phase 3 node by node. Ahead are the terms of a front and, under one binder more, those of a back. Every binder in scope
+-- has a final mark: its mark now and what the terms ahead add to it.
 use Prim.Native.Nat.{ℕ, _+_, _-_, _*_, _^_, _≤_, _<_}
 use native.Mathlib.Omega.{arith}
 use native.Mathlib.Decide.{ℕ-discrete}
@@ -21,8 +21,8 @@ use Rattle.words.proofs.Traversal.{from-length}
 use Rattle.words.proofs.Rows.{Cut, Marching, march, march-inside, march-end, march-said, march-first, one-holds}
 use Rattle.words.proofs.Rows.{one-starts}
 use Rattle.search.specs.Marks.{Raisable}
-use Rattle.search.specs.Unused.{Passed, Open, LeastMark, Scans}
-use Rattle.search.specs.declared.unused.Scan.{Scan}
+use Rattle.search.specs.Unused.{NoUnusedBefore, MarkSpace, LeastMark, Scans}
+use Rattle.search.specs.declared.unused.PartScan.{PartScan}
 use Rattle.search.proofs.MarkedUses.{space-raisable}
 use Rattle.search.proofs.FirstByMarks.{passed-none}
 use Rattle.search.proofs.RowInTwo.{uses-none, no-terms}
@@ -39,7 +39,7 @@ extend-other u v f d n = ap (λ (b : Bool). cond b v (f d)) (ne-eqb d u n)
 
 module _ (calls words : List ℕ) (base depth : ℕ) (old : List ℕ) where
   -- x is at most the least found in the parts gone through, the final marks of the binders gone into, and that of the one to be gone into
-  pub record Bound (final : ℕ → ℕ) (under later fresh first : ℕ) (back : Terms) (x : ℕ) : Type 0 where
+  pub record DropBound (final : ℕ → ℕ) (under later fresh first : ℕ) (back : Terms) (x : ℕ) : Type 0 where
     pub found : x ≤ first
     pub spine : (d : ℕ) → depth ≤ d → d < under → x ≤ final d
     pub opened : 1 ≤ later → x ≤ fresh + 65536 * usesAll back 0
@@ -48,8 +48,8 @@ module _ (calls words : List ℕ) (base depth : ℕ) (old : List ℕ) where
     pub final : ℕ → ℕ
     pub now : (d : ℕ) → d < under → final d ≡ getD cur d 0 + 65536 * (usesAll front (under - 1 - d) + usesAll back (under - d))
     pub around : (d : ℕ) → d < depth → final d ≡ getD old d 0 + 65536 * usesAll ts (depth - 1 - d)
-    pub passes : (x : ℕ) → x ≤ 65536 → Bound final under later fresh first back x → Passed calls words base x at
-    pub bounds : (x : ℕ) → x ≤ 65536 → Passed calls words base x at → Bound final under later fresh first back x
+    pub passes : (x : ℕ) → x ≤ 65536 → DropBound final under later fresh first back x → NoUnusedBefore calls words base x at
+    pub bounds : (x : ℕ) → x ≤ 65536 → NoUnusedBefore calls words base x at → DropBound final under later fresh first back x
 
   -- the loop's invariant
   pub record Scanning (cur : List ℕ) (owed later under at fresh first : ℕ) : Type 0 where
@@ -63,7 +63,7 @@ module _ (calls words : List ℕ) (base depth : ℕ) (old : List ℕ) where
     pub low : (d : ℕ) → d < under → getD cur d 0 + 65536 * (length words - at) ≤ 2 ^ 40
     pub going : Marching calls words (λ ts us. Cut owed (Facts cur under later at fresh first ts) us) 1 at (owed + later)
 
-  pub scan-begin : Starts calls words → Open old depth (length words) → Scanning old 1 0 depth 0 0 65536
+  pub scan-begin : Starts calls words → MarkSpace old depth (length words) → Scanning old 1 0 depth 0 0 65536
   unfolding uses
   scan-begin s o = record {
     len = refl;
@@ -94,18 +94,18 @@ module _ (calls words : List ℕ) (base depth : ℕ) (old : List ℕ) where
 
   module _ {cur : List ℕ} {owed later under at fresh first : ℕ} (g : Scanning cur owed later under at fresh first) where
     -- nothing is ahead
-    pub scan-end : (r : Scan) → owed + later ≡ 0 → r .end ≡ at → LeastMark cur depth under first (r .first)
+    pub scan-end : (r : PartScan) → owed + later ≡ 0 → r .end ≡ at → LeastMark cur depth under first (r .first)
         → Scans calls words base depth old cur r
     unfolding uses
     scan-end r z re m = record {
       within = omega (arith, march-inside calls words (g .going), re);
-      before = λ x l lim. subst (λ (i : ℕ). Passed calls words base x i) (sym re) (f .passes x lim (record {
+      before = λ x l lim. subst (λ (i : ℕ). NoUnusedBefore calls words base x i) (sym re) (f .passes x lim (record {
         found = omega (arith, l, m .first-least);
         spine = λ d a b. omega (arith, l, m .least d a b, f .now d b);
         opened = λ b. absurd (omega (arith, b, z));
       }));
       greatest = λ x lim p.
-          let b = f .bounds x lim (subst (λ (i : ℕ). Passed calls words base x i) re p) in
+          let b = f .bounds x lim (subst (λ (i : ℕ). NoUnusedBefore calls words base x i) re p) in
           m .greatest x (b .found) λ d a l. omega (arith, b .spine d a l, settled start l);
       told = λ t rest h.
           let e = march-end calls words (g .going) z (arg t done) rest (one-holds h) in (
@@ -141,7 +141,8 @@ module _ (calls words : List ℕ) (base depth : ℕ) (old : List ℕ) where
       near-open = λ l. absurd (omega (arith, l));
       small = g .small;
       low = λ d l. low-at d l (ℕ-discrete d under);
-      going = subst (Marching calls words (λ ts us. Cut later (Facts (set cur under fresh) (under + 1) 0 at fresh first ts) us) 1 at) (swapped later)
+      going = subst (Marching calls words (λ ts us. Cut later (Facts (set cur under fresh) (under + 1) 0 at fresh first ts) us) 1 at)
+          (swapped later)
           (march-said calls words (g .going) _ said);
     }
       where
@@ -173,7 +174,11 @@ module _ (calls words : List ℕ) (base depth : ℕ) (old : List ℕ) where
             });
             bounds = λ x lim p.
                 let b = c .facts .bounds x lim p in
-                record { found = b .found; spine = λ d a l. spine-at x b d a l (ℕ-discrete d under); opened = λ l. absurd (omega (arith, l)) };
+                record {
+                  found = b .found;
+                  spine = λ d a l. spine-at x b d a l (ℕ-discrete d under);
+                  opened = λ l. absurd (omega (arith, l));
+                };
           };
         }
           where
@@ -202,14 +207,14 @@ module _ (calls words : List ℕ) (base depth : ℕ) (old : List ℕ) where
                   ap (usesAll (c .later)) i,
                 )
 
-            spine-at : (x : ℕ) → Bound (c .facts .final) under later fresh first (c .later) x → (d : ℕ) → depth ≤ d → d < under + 1
+            spine-at : (x : ℕ) → DropBound (c .facts .final) under later fresh first (c .later) x → (d : ℕ) → depth ≤ d → d < under + 1
                 → Dec (d ≡ under) → x ≤ extend under own (c .facts .final) d
             spine-at x b d a l (yes e) = subst (λ (i : ℕ). x ≤ extend under own (c .facts .final) i) (sym e)
                 (subst (λ (i : ℕ). x ≤ i) (sym (extend-own under own (c .facts .final))) (b .opened le))
             spine-at x b d a l (no e) = subst (λ (i : ℕ). x ≤ i) (sym (extend-other under own (c .facts .final) d e))
                 (b .spine d a (omega (arith, l, e)))
 
-    module _ (o : Open old depth (length words)) where
+    module _ (o : MarkSpace old depth (length words)) where
       -- there is a mark for the binder to be gone into
       pub scan-deep : 1 ≤ later → under < length cur
       scan-deep le = omega (arith, g .near-open le, o .deep, g .len, march-inside calls words (g .going))
@@ -225,7 +230,7 @@ module _ (calls words : List ℕ) (base depth : ℕ) (old : List ℕ) where
       pub scan-starts : Starts calls (from words at)
       scan-starts = march-first calls words (g .going) scan-ahead
 
-      pub scan-room : Open old depth (length words) → Open cur under (length (from words at))
+      pub scan-room : MarkSpace old depth (length words) → MarkSpace cur under (length (from words at))
       scan-room o = record {
         deep = omega (arith, from-length words at, g .near, o .deep, g .len, scan-inside);
         small = omega (arith, o .small, g .len);
@@ -233,5 +238,5 @@ module _ (calls words : List ℕ) (base depth : ℕ) (old : List ℕ) where
       }
 
       -- a use can be marked
-      pub scan-raisable : Open old depth (length words) → (n : ℕ) → n ≤ 65536 → Raisable n cur under
+      pub scan-raisable : MarkSpace old depth (length words) → (n : ℕ) → n ≤ 65536 → Raisable n cur under
       scan-raisable o = space-raisable (scan-room o) (omega (arith, from-length words at, scan-inside))

@@ -1,5 +1,5 @@
--- The search of phase 3, one node or one term further.
-use Prim.Native.Nat.{ℕ, suc, _+_, _-_, _*_, _^_, _≤_, _<_}
+-- The search of phase 3, one term further by a call or one variable.
+use Prim.Native.Nat.{ℕ, _+_, _-_, _*_, _^_, _≤_, _<_}
 use native.Mathlib.Omega.{arith}
 use mathlib.Core.Path.{_≡_, refl, sym, _∙_, ap, subst}
 use mathlib.Core.List.{List}
@@ -9,26 +9,22 @@ use Rattle.syntax.specs.Tables.{arity}
 use Rattle.syntax.specs.Kinds.{partsOfKind}
 use Rattle.syntax.specs.Term.{Term, Terms, var, arg, node}
 use Rattle.syntax.specs.Parts.{partCount}
-use Rattle.syntax.specs.Shaped.{count}
-use Rattle.syntax.specs.Values.{uses, usesAll}
+use Rattle.syntax.specs.Values.{uses}
 use Rattle.syntax.proofs.Sizes.{size-var, size-positive}
 use Rattle.words.specs.Fronts.{Holds, from}
 use Rattle.words.specs.Joined.{joined}
 use Rattle.words.specs.Ends.{Sized}
 use Rattle.words.specs.Reach.{outer, inner, outerCount}
-use Rattle.words.proofs.Joined.{uses-joined, count-joined, joined-assoc, none-left}
-use Rattle.words.proofs.Reach.{uses-binding}
 use Rattle.words.proofs.Traversal.{from-length}
-use Rattle.words.proofs.Sized.{same-term}
 use Rattle.syntax.proofs.ByKind.{by-kind}
-use Rattle.words.proofs.Rows.{Cut, Marching, Visit, march-term, march-on, visit}
+use Rattle.words.proofs.Rows.{Cut, Marching, march-term, march-on, visit}
 use Rattle.search.specs.Marks.{Marked}
-use Rattle.search.specs.Unused.{openMark, finalMark, Passed, Opens, Least, Scans}
-use Rattle.search.specs.declared.unused.Scan.{Scan}
+use Rattle.search.specs.Unused.{NoUnusedBefore, Least, Scans}
+use Rattle.search.specs.declared.unused.PartScan.{PartScan}
 use Rattle.search.proofs.MarkedUses.{uses-size}
 use Rattle.search.proofs.FirstByMarks.{passed-back, passed-next, passed-behind, passed-row, flat-mark}
-use Rattle.search.proofs.RowInTwo.{uses-none, flat-at, First, cut-first}
-use Rattle.search.proofs.UnusedRows.{Bound, Facts, Scanning, scan-ahead, scan-inside, scan-starts}
+use Rattle.search.proofs.RowInTwo.{flat-at, First, cut-first}
+use Rattle.search.proofs.UnusedRows.{DropBound, Facts, Scanning, scan-ahead, scan-inside, scan-starts}
 
 module _ {calls words : List ℕ} {base depth : ℕ} {old cur : List ℕ} {owed later under at fresh first : ℕ}
     (g : Scanning calls words base depth old cur owed later under at fresh first) (lt : 1 ≤ owed) where
@@ -39,7 +35,7 @@ module _ {calls words : List ℕ} {base depth : ℕ} {old cur : List ℕ} {owed 
   Known = Facts calls words base depth old
 
   abbrev Limits : (final : ℕ → ℕ) (under later fresh first : ℕ) (back : Terms) (x : ℕ) → Type 0
-  Limits = Bound calls words base depth old
+  Limits = DropBound calls words base depth old
 
   ahead : 1 ≤ owed + later
   ahead = scan-ahead calls words base depth old g lt
@@ -50,20 +46,20 @@ module _ {calls words : List ℕ} {base depth : ℕ} {old cur : List ℕ} {owed 
   -- past a node without inner parts
   module _ {ts front back : Terms} (f : Known cur under later at fresh first ts front back)
       (e : outerCount (kindOf (getD words at 0)) (partCount calls (getD words at 0)) ≡ partCount calls (getD words at 0)) where
-    passes-on : (x : ℕ) → x ≤ 65536 → Limits (f .final) under later fresh first back x → Passed calls words base x (at + 1)
+    pub passes-on : (x : ℕ) → x ≤ 65536 → Limits (f .final) under later fresh first back x → NoUnusedBefore calls words base x (at + 1)
     passes-on x l b = passed-next (f .passes x l b) λ t rest h. omega (arith, l, flat-mark (base + at) t (flat-at words at h e))
 
-    bounds-on : (x : ℕ) → x ≤ 65536 → Passed calls words base x (at + 1) → Limits (f .final) under later fresh first back x
+    pub bounds-on : (x : ℕ) → x ≤ 65536 → NoUnusedBefore calls words base x (at + 1) → Limits (f .final) under later fresh first back x
     bounds-on x l p = f .bounds x l (passed-back at (omega arith) p)
 
   -- a term has a word at least
-  pub part-moves : {new : List ℕ} {part : Scan} → Scans calls (from words at) (base + at) under cur new part → 1 ≤ part .end
+  pub part-moves : {new : List ℕ} {part : PartScan} → Scans calls (from words at) (base + at) under cur new part → 1 ≤ part .end
   part-moves a =
       let s = scan-starts calls words base depth old g lt in
       omega (arith, a .told (s .term) (s .rest) (s .holds) .0, size-positive (s .term))
 
   -- a whole term, by a call
-  pub scan-part : (part : Scan) (new : List ℕ) (least : ℕ) → Scans calls (from words at) (base + at) under cur new part
+  pub scan-part : (part : PartScan) (new : List ℕ) (least : ℕ) → Scans calls (from words at) (base + at) under cur new part
       → Least first (part .first) least → length new ≡ length cur → State new (owed - 1) later under (at + part .end) fresh least
   unfolding uses
   scan-part part new least a m le = record {
@@ -76,7 +72,8 @@ module _ {calls words : List ℕ} {base depth : ℕ} {old cur : List ℕ} {owed 
     small = g .small;
     low = λ d l. low-at d l (visit calls words (g .going) ahead _ _ (g .going .start .holds) .term) _
         (visit calls words (g .going) ahead _ _ (g .going .start .holds) .holds);
-    going = subst (Marching calls words (λ ts us. Cut (owed - 1) (Known new under later (at + part .end) fresh least ts) us) 1 (at + part .end))
+    going = subst (Marching calls words (λ ts us. Cut (owed - 1) (Known new under later (at + part .end) fresh least ts) us) 1
+        (at + part .end))
         (one-less later) (march-term calls words (g .going) ahead _ (part .end) sized step);
   }
     where
@@ -102,7 +99,8 @@ module _ {calls words : List ℕ} {base depth : ℕ} {old cur : List ℕ} {owed 
       )
 
       step : (ts us : Terms) (t : Term) (rest : List ℕ) → Holds calls (from words at) t rest
-          → Cut owed (Known cur under later at fresh first ts) (arg t us) → Cut (owed - 1) (Known new under later (at + part .end) fresh least ts) us
+          → Cut owed (Known cur under later at fresh first ts) (arg t us)
+          → Cut (owed - 1) (Known new under later (at + part .end) fresh least ts) us
       step ts us t rest h q =
           let c = cut-first q lt in
           let f = c .facts in
@@ -170,121 +168,3 @@ module _ {calls words : List ℕ} {base depth : ℕ} {old cur : List ℕ} {owed 
             bounds = bounds-on (c .facts) flat;
           };
         }
-
-    module _ (z : k ≡ 0 → ⊥) (m o : ℕ) (me : m ≡ partCount calls (getD words at 0)) (oe : o ≡ outerCount k m) where
-      outers : {ts : Terms} {rest : List ℕ} {Q : Terms → Terms → Type 0} (v : Visit calls words Q at (owed + later) ts rest)
-          → count (outer (v .term)) ≡ o
-      outers v = sym (v .outers) ∙ ap (λ (i : ℕ). outerCount i (partCount calls (getD words at 0))) (sym ke) ∙ ap (outerCount k) (sym me)
-          ∙ sym oe
-
-      -- the outer parts are no more than all
-      pub outer-few : o ≤ m
-      outer-few =
-          let v = visit calls words (g .going) ahead _ _ (g .going .start .holds) in
-          omega (arith, me, v .parts, outers v)
-
-      -- a node without inner parts
-      pub scan-flat : o ≡ m → State cur (owed - 1 + m) later under (at + 1) fresh first
-      unfolding joined uses
-      scan-flat e = record {
-        len = g .len;
-        short = g .short;
-        known = g .known;
-        further = λ y. omega arith;
-        near = omega (arith, g .near);
-        near-open = λ l. omega (arith, g .near-open l);
-        small = g .small;
-        low = λ d l. omega (arith, g .low d l);
-        going = march-on calls words (g .going) ahead _ (owed - 1 + m + later) (omega (arith, me, lt)) λ ts rest v.
-            step (v .term) (outers v) (omega (arith, me, v .parts, outers v, e)) (λ y. z (ke ∙ v .kind ∙ y)) (cut-first (v .to-do) lt);
-      }
-        where
-          flat : outerCount (kindOf (getD words at 0)) (partCount calls (getD words at 0)) ≡ partCount calls (getD words at 0)
-          flat = ap (λ (i : ℕ). outerCount i (partCount calls (getD words at 0))) (sym ke) ∙ ap (outerCount k) (sym me) ∙ sym oe ∙ e ∙ me
-
-          step : {ts us : Terms} (t : Term) → count (outer t) ≡ o → count (inner t) ≡ 0 → (node t .kind ≡ 0 → ⊥)
-              → First (owed - 1) (Known cur under later at fresh first ts) t us
-              → Cut (owed - 1 + m) (Known cur under later (at + 1) fresh first ts) (joined (outer t) (joined (inner t) us))
-          step {ts} {us} t os is y c = record {
-            front = joined (outer t) (c .others);
-            later = c .back;
-            is = none-left (λ x. joined (outer t) (joined x us) ≡ joined (joined (outer t) (c .others)) (c .back)) (inner t) is
-                (ap (joined (outer t)) (c .is) ∙ sym (joined-assoc (outer t) (c .others) (c .back)));
-            many = omega (arith, count-joined (outer t) (c .others), os, c .many, e);
-            facts = record {
-              final = c .facts .final;
-              now = λ d l. omega (
-                arith,
-                c .facts .now d l,
-                uses-binding t (under - 1 - d) y,
-                uses-none (inner t) (suc (under - 1 - d)) is,
-                uses-joined (outer t) (c .others) (under - 1 - d),
-              );
-              around = c .facts .around;
-              passes = passes-on (c .facts) flat;
-              bounds = bounds-on (c .facts) flat;
-            };
-          }
-
-      -- the last node, with inner parts
-      pub scan-enter : (r : ℕ) → (o ≡ m → ⊥) → owed + later ≡ 1 → Opens calls (from words at) (base + at) r
-          → State cur o (m - o) under (at + 1) r first
-      unfolding joined uses finalMark
-      scan-enter r ne e op = record {
-        len = g .len;
-        short = g .short;
-        known = g .known;
-        further = λ y. omega arith;
-        near = omega (arith, g .near);
-        near-open = λ l. omega (arith, g .near);
-        small = op .small;
-        low = λ d l. omega (arith, g .low d l);
-        going = march-on calls words (g .going) ahead _ (o + (m - o)) (omega (arith, me, e, outer-few)) λ ts rest v.
-            step (v .term) (v .holds) (outers v) (λ y. z (ke ∙ v .kind ∙ y)) (omega (arith, v .many, e)) (cut-first (v .to-do) lt);
-      }
-        where
-          step : {ts us : Terms} (t : Term) {rest : List ℕ} → Holds calls (from words at) t rest → count (outer t) ≡ o
-              → (node t .kind ≡ 0 → ⊥) → count us ≡ 0 → First (owed - 1) (Known cur under later at fresh first ts) t us
-              → Cut o (Known cur under (m - o) (at + 1) r first ts) (joined (outer t) (joined (inner t) us))
-          step {ts} {us} t {rest} h os y none c = record {
-            front = outer t;
-            later = joined (inner t) us;
-            is = refl;
-            many = os;
-            facts = record {
-              final = c .facts .final;
-              now = λ d l.
-                  let i : suc (under - 1 - d) ≡ under - d = omega (arith, l) in
-                  omega (
-                    arith,
-                    c .facts .now d l,
-                    uses-binding t (under - 1 - d) y,
-                    uses-none (c .others) (under - 1 - d) others,
-                    uses-none (c .back) (under - d) backs,
-                    uses-joined (inner t) us (under - d),
-                    uses-none us (under - d) none,
-                    ap (usesAll (inner t)) i,
-                  );
-              around = c .facts .around;
-              passes = λ x lim b. passed-next
-                  (c .facts .passes x lim (record { found = b .found; spine = b .spine; opened = λ l. absurd (omega (arith, l, e, lt)) }))
-                  λ u more hu. subst (λ (s : Term). x ≤ finalMark (base + at) s) (same-term h hu)
-                  (omega (arith, b .opened (omega (arith, ne, outer-few)), own));
-              bounds = λ x lim p.
-                  let b = c .facts .bounds x lim (passed-back at (omega arith) p) in
-                  record {
-                    found = b .found;
-                    spine = b .spine;
-                    opened = λ l. omega (arith, p .marks at t rest (omega arith) h, own);
-                  };
-            };
-          }
-            where
-              others : count (c .others) ≡ 0
-              others = omega (arith, c .many, e, lt)
-
-              backs : count (c .back) ≡ 0
-              backs = omega (arith, ap count (c .is), count-joined (c .others) (c .back), none)
-
-              own : r + 65536 * usesAll (joined (inner t) us) 0 ≡ openMark (base + at) t + 65536 * usesAll (inner t) 0
-              own = omega (arith, op .told t rest h, uses-joined (inner t) us 0, uses-none us 0 none)

@@ -20,9 +20,9 @@ use Rattle.words.proofs.Reach.{node-parts}
 use Rattle.words.proofs.PartsAt.{first-from}
 use Rattle.words.proofs.Rows.{Marching, march, one-starts, one-holds, march-end, visit, march-first, march-term, march-on}
 use Rattle.words.specs.Ends.{Sized}
-use Rattle.search.specs.ValueTest.{Tests}
+use Rattle.search.specs.ValueTest.{TestsValue}
 use Rattle.search.specs.Operands.{allValues}
-use Rattle.search.specs.declared.value.Value.{Value}
+use Rattle.search.specs.declared.value.ValueEnd.{ValueEnd}
 use Rattle.syntax.proofs.ByKind.{by-kind}
 
 -- true is not false
@@ -64,23 +64,24 @@ other-kind (case s l r) h = refl
 values-joined : (ts us : Terms) → allValues (joined ts us) ≡ (allValues ts && allValues us)
 unfolding allValues joined
 values-joined done us = refl
-values-joined (arg t ts) us = ap (λ (x : Bool). isValue t && x) (values-joined ts us) ∙ sym (and-assoc (isValue t) (allValues ts) (allValues us))
+values-joined (arg t ts) us = ap (λ (x : Bool). isValue t && x) (values-joined ts us)
+    ∙ sym (and-assoc (isValue t) (allValues ts) (allValues us))
 
 -- the nodes passed are values' so far: the row holds values only if the row ahead does
-abbrev pub Testing : Terms → Terms → Type 0
-Testing ts us = allValues ts ≡ allValues us
+abbrev pub ValuesSoFar : Terms → Terms → Type 0
+ValuesSoFar ts us = allValues ts ≡ allValues us
 
 -- a row of one term
 values-one : (t : Term) → allValues (arg t done) ≡ isValue t
 unfolding allValues
 values-one t = and-true (isValue t)
 
-pub test-begin : {calls words : List ℕ} → Starts calls words → Marching calls words Testing 1 0 1
-test-begin {calls} {words} s = march calls words Testing 1 (one-starts s) λ ts. refl
+pub test-begin : {calls words : List ℕ} → Starts calls words → Marching calls words ValuesSoFar 1 0 1
+test-begin {calls} {words} s = march calls words ValuesSoFar 1 (one-starts s) λ ts. refl
 
-module _ {calls words : List ℕ} {at owed : ℕ} (g : Marching calls words Testing 1 at owed) where
+module _ {calls words : List ℕ} {at owed : ℕ} (g : Marching calls words ValuesSoFar 1 at owed) where
   -- no term is owed
-  pub test-end : (r : Value) → owed ≡ 0 → r .end ≡ at → r .value ≡ true → Tests calls words r
+  pub test-end : (r : ValueEnd) → owed ≡ 0 → r .end ≡ at → r .value ≡ true → TestsValue calls words r
   unfolding allValues
   test-end r z re rv = record {
     told = λ t rest h.
@@ -93,9 +94,9 @@ module _ {calls words : List ℕ} {at owed : ℕ} (g : Marching calls words Test
 
   module _ (lt : 1 ≤ owed) {k : ℕ} (ke : k ≡ kindOf (getD words at 0)) where
     -- a computation
-    pub test-fails : (r : Value) → valueKind k ≡ false → r .value ≡ false → Tests calls words r
+    pub test-computation : (r : ValueEnd) → valueKind k ≡ false → r .value ≡ false → TestsValue calls words r
     unfolding allValues
-    test-fails r kf e = record {
+    test-computation r kf e = record {
       told = λ t rest h.
           let v = visit calls words g lt (arg t done) rest (one-holds h) in
           let c = other-kind (v .term) (ap valueKind (sym (v .kind) ∙ sym ke) ∙ kf) in
@@ -106,9 +107,9 @@ module _ {calls words : List ℕ} {at owed : ℕ} (g : Marching calls words Test
     }
 
     -- a function, passed as a whole
-    pub test-function : (l : ℕ) → k ≡ 2 → Sized calls (from words at) l → Marching calls words Testing 1 (at + l) (owed - 1)
+    pub test-function : (l : ℕ) → k ≡ 2 → Sized calls (from words at) l → Marching calls words ValuesSoFar 1 (at + l) (owed - 1)
     unfolding allValues
-    test-function l e s = march-term calls words g lt Testing l s λ ts us t rest h q.
+    test-function l e s = march-term calls words g lt ValuesSoFar l s λ ts us t rest h q.
         q ∙ ap (λ (x : Bool). x && allValues us) (function-value t (sym (front-of h .kind) ∙ same ∙ sym ke ∙ e))
       where
         same : kindOf (getD (from words at) 0 0) ≡ kindOf (getD words at 0)
@@ -116,9 +117,9 @@ module _ {calls words : List ℕ} {at owed : ℕ} (g : Marching calls words Test
 
     -- any other value's node: its parts come first
     pub test-open : (m : ℕ) → valueKind k ≡ true → (k ≡ 2 → ⊥) → m ≡ partCount calls (getD words at 0)
-        → Marching calls words Testing 1 (at + 1) (owed - 1 + m)
+        → Marching calls words ValuesSoFar 1 (at + 1) (owed - 1 + m)
     unfolding allValues
-    test-open m kt k2 me = march-on calls words g lt Testing (owed - 1 + m) (omega (arith, me)) λ ts rest v.
+    test-open m kt k2 me = march-on calls words g lt ValuesSoFar (owed - 1 + m) (omega (arith, me)) λ ts rest v.
         let t = v .term in
         let f : node t .kind ≡ k = sym (v .kind) ∙ sym ke in
         v .to-do

@@ -13,7 +13,7 @@ use Rattle.syntax.specs.Values.{isValue}
 use Rattle.reduction.specs.Rules.{letInsertion}
 use Rattle.words.specs.Fronts.{Holds}
 use Rattle.words.specs.Joined.{joined}
-use Rattle.search.specs.declared.fits.Operand.{Operand}
+use Rattle.search.specs.declared.fits.FoundOperand.{FoundOperand}
 
 -- how many parts of a node of kind k, of its n parts the first ones, are operands: none of a function's and a let's, a case's subject,
 -- and all parts of any other node
@@ -26,7 +26,7 @@ allValues done = true
 allValues (arg t ts) = isValue t && allValues ts
 
 -- the first operand of t that is a computation: its index among the parts, and where its words start
-pub record FirstComputation (t : Term) (r : Operand) : Type 0 where
+pub record FirstComputation (t : Term) (r : FoundOperand) : Type 0 where
   pub front : Terms
   pub part : Term
   pub later : Terms
@@ -38,9 +38,9 @@ pub record FirstComputation (t : Term) (r : Operand) : Type 0 where
   pub start-is : r .start ≡ 1 + length (encodeAll front)
 
 -- whether t has such an operand, which is whether let insertion fits, and which
-pub record Inserts (t : Term) (r : Operand) : Type 0 where
+pub record Inserts (t : Term) (r : FoundOperand) : Type 0 where
   pub found-is : r .found ≡ isSome (letInsertion t)
   pub first : r .found ≡ true → FirstComputation t r
 
-pub record Finds (calls words : List ℕ) (r : Operand) : Type 0 where
+pub record FindsOperand (calls words : List ℕ) (r : FoundOperand) : Type 0 where
   pub told : (t : Term) (rest : List ℕ) → Holds calls words t rest → Inserts t r

@@ -18,7 +18,7 @@ use Rattle.reduction.specs.declared.Found.{Found}
 use Rattle.reduction.specs.MayDrop.{mayDrop}
 use Rattle.reduction.specs.Redex.{firstRedex}
 use Rattle.search.specs.Marks.{Marked, Space}
-use Rattle.search.specs.declared.unused.Scan.{Scan}
+use Rattle.search.specs.declared.unused.PartScan.{PartScan}
 
 -- whether some word is a let's
 unfoldable pub hasLet : List ℕ → Bool
@@ -44,15 +44,15 @@ unfoldable pub finalMark : ℕ → Term → ℕ
 finalMark p t = openMark p t + 65536 * usesAll (inner t) 0
 
 -- of the nodes at the first n words, none is a let before place x that can be dropped; places are counted from base
-pub record Passed (calls words : List ℕ) (base x n : ℕ) : Type 0 where
+pub record NoUnusedBefore (calls words : List ℕ) (base x n : ℕ) : Type 0 where
   pub marks : (i : ℕ) (t : Term) (rest : List ℕ) → i < n → Holds calls (from words i) t rest → x ≤ finalMark (base + i) t
 
 -- so many words more can be gone through
-abbrev pub Open : List ℕ → ℕ → ℕ → Type 0
-Open used depth more = Space 65536 used depth more
+abbrev pub MarkSpace : List ℕ → ℕ → ℕ → Type 0
+MarkSpace used depth more = Space 65536 used depth more
 
 -- the mark of the binder of whatever term is at the front
-pub record Opens (calls words : List ℕ) (place r : ℕ) : Type 0 where
+pub record MarksBinder (calls words : List ℕ) (place r : ℕ) : Type 0 where
   pub small : r ≤ 65536
   pub told : (t : Term) (rest : List ℕ) → Holds calls words t rest → r ≡ openMark place t
 
@@ -70,10 +70,10 @@ pub record LeastMark (used : List ℕ) (start end first r : ℕ) : Type 0 where
 
 -- the part at the front is gone through: its end, the least place in it of a let that can be dropped, or 65536, and the marks of the
 -- binders around it
-pub record Scans (calls words : List ℕ) (base depth : ℕ) (old new : List ℕ) (r : Scan) : Type 0 where
+pub record Scans (calls words : List ℕ) (base depth : ℕ) (old new : List ℕ) (r : PartScan) : Type 0 where
   pub within : r .end ≤ length words
-  pub before : (x : ℕ) → x ≤ r .first → x ≤ 65536 → Passed calls words base x (r .end)
-  pub greatest : (x : ℕ) → x ≤ 65536 → Passed calls words base x (r .end) → x ≤ r .first
+  pub before : (x : ℕ) → x ≤ r .first → x ≤ 65536 → NoUnusedBefore calls words base x (r .end)
+  pub greatest : (x : ℕ) → x ≤ 65536 → NoUnusedBefore calls words base x (r .end) → x ≤ r .first
   pub told : (t : Term) (rest : List ℕ) → Holds calls words t rest → (r .end ≡ size t) × Marked 65536 t depth old new
 
 -- the first redex of phase 3 in whatever term the words are

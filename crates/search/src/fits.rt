@@ -6,7 +6,7 @@ ghost use Rattle.syntax.specs.Words.{kindOf};
 ghost use Rattle.syntax.specs.Maybe.{given};
 ghost use Rattle.words.specs.Fronts.{Starts};
 ghost use Rattle.reduction.specs.FitByKinds.{letByKinds, ruleByKinds};
-ghost use Rattle.search.specs.Operands.{operandCount, Finds};
+ghost use Rattle.search.specs.Operands.{operandCount, FindsOperand};
 ghost use Rattle.search.specs.Fits.{rootRedex, caseByKind, Fits};
 use crate::value::value_kind;
 use crate::value::value_test;
@@ -16,7 +16,7 @@ use reduction::Rule;
 use words::fields::kind;
 use words::shape::part_count;
 
-// how many of a node's n parts are operands: the first ones
+// how many of a node's n parts are operands: the first ones. A match, as only three kinds differ from the rest.
 fn operand_count(k: u64, n: usize) -> usize
     ensures { λ r. ⌜ r ≡ operandCount k n ⌝ }
 {
@@ -29,16 +29,16 @@ fn operand_count(k: u64, n: usize) -> usize
 }
 
 // an operand that is a computation, if one was found: its index among the parts, and where its words start
-pub struct Operand {
+pub struct FoundOperand {
     pub found: bool,
     pub index: usize,
     pub start: usize,
 }
 
 // the first operand that is a computation; let insertion fits exactly if there is one
-pub fn first_computation(calls: &[u64], t: &[u64]) -> Operand
+pub fn first_computation(calls: &[u64], t: &[u64]) -> FoundOperand
     requires { ⌜ Starts (now calls) (now t) × (length (now t) ≤ 8192) ⌝ }
-    ensures { λ r. ⌜ Finds (now (calls .entry)) (now (t .entry)) r ⌝ }
+    ensures { λ r. ⌜ FindsOperand (now (calls .entry)) (now (t .entry)) r ⌝ }
 {
     let w = t[0];
     let n = part_count(calls, w);
@@ -48,7 +48,7 @@ pub fn first_computation(calls: &[u64], t: &[u64]) -> Operand
     while j < m {
         let part = value_test(calls, &t[at..]);
         if !part.value {
-            return Operand {
+            return FoundOperand {
                 found: true,
                 index: j,
                 start: at,
@@ -57,7 +57,7 @@ pub fn first_computation(calls: &[u64], t: &[u64]) -> Operand
         at = at + part.end;
         j += 1;
     }
-    Operand {
+    FoundOperand {
         found: false,
         index: 0,
         start: 0,
@@ -106,7 +106,8 @@ fn fit_case(k1: u64) -> Found
     }
 }
 
-// the rule of phase 2 that fits a node, by its kind, its first part's, and that part's first part's
+// the rule of phase 2 that fits a node, by its kind, its first part's, and that part's first part's: what a kind asks here is a rule, and
+// no number of parts
 fn fit_kinds(k0: u64, k1: u64, k2: u64) -> Found
     ensures { λ r. ⌜ r ≡ rootRedex (ruleByKinds k0 k1 k2) ⌝ }
 {

@@ -1,9 +1,9 @@
-// The phases in turn, and where the search of a phase goes on.
+// Where the search of a phase goes on after a step.
 ghost use mathlib.Core.Path.{_≡_};
 ghost use Rattle.search.specs.NextFrom.{nextFrom};
 use reduction::Phase;
 
-// where the search of a phase goes on after a step at a place
+// the place from which the phase is searched after a step at this place: before it no rule of the phase fits
 pub fn next_from(phase: Phase, place: usize) -> usize
     ensures { λ r. ⌜ r ≡ nextFrom phase place ⌝ }
 {

@@ -6,7 +6,8 @@ use crate::fits::fit;
 use reduction::Found;
 use reduction::Phase;
 
-// the first node of these words that a rule of the phase fits, by a forward scan: the nodes of a term are its words, in index order
+// the first node of these words that a rule of the phase fits, by a forward scan: the nodes of a term are its words, in index order.
+// The definition `firstRedex` is about every phase, this function about phases 1 and 2.
 pub fn first_redex(phase: Phase, calls: &[u64], rest: &[u64]) -> Found
     requires { ⌜ Continues phase (now calls) (now rest) × (length (now rest) ≤ 8192) ⌝ }
     ensures { λ r. ⌜ FindsFirst phase (now (calls .entry)) (now (rest .entry)) r ⌝ }

@@ -3,7 +3,7 @@ ghost use mathlib.Core.Path.{_≡_};
 ghost use Prim.Native.Nat.{_+_, _≤_};
 ghost use lib.ListN.{length};
 ghost use Rattle.words.specs.Fronts.{Starts};
-ghost use Rattle.search.specs.Unused.{hasLet, Open, Opens, Least, LeastMark, Scans, FindsUnused};
+ghost use Rattle.search.specs.Unused.{hasLet, MarkSpace, MarksBinder, Least, LeastMark, Scans, FindsUnused};
 use crate::marks::mark;
 use crate::value::value_kind;
 use crate::value::value_test;
@@ -18,7 +18,7 @@ use words::shape::part_count;
 const NO_PLACE: u64 = 65536;
 
 // where a part ends, and the least place in it of a let that can be dropped, or NO_PLACE
-pub struct Scan {
+struct PartScan {
     pub end: usize,
     pub first: u64,
 }
@@ -35,7 +35,7 @@ fn lesser(a: u64, b: u64) -> u64
 // the mark of the node's binder before any use: its place if it is a let that binds a computation
 fn open_mark(calls: &[u64], t: &[u64], place: usize) -> u64
     requires { ⌜ Starts (now calls) (now t) × (length (now t) ≤ 8192) × (place ≤ 65536) ⌝ }
-    ensures { λ r. ⌜ Opens (now (calls .entry)) (now (t .entry)) place r ⌝ }
+    ensures { λ r. ⌜ MarksBinder (now (calls .entry)) (now (t .entry)) place r ⌝ }
 {
     if kind(t[0]) == 4 {
         if !value_kind(kind(t[1])) {
@@ -66,8 +66,8 @@ fn least_mark(used: &[u64], start: usize, end: usize, first: u64) -> u64
 
 // goes through the part at the front, which begins at the place `base`. `owed` parts are ahead, and then `later` ones under one binder
 // more, whose mark is `fresh`; a node that binds is gone into if it is the last one ahead, any other by a call of its own.
-fn scan_part(calls: &[u64], t: &[u64], used: &mut [u64], depth: usize, base: usize) -> Scan
-    requires { ⌜ Starts (now calls) (now t) × Open (now used) depth (length (now t)) ⌝ }
+fn scan_part(calls: &[u64], t: &[u64], used: &mut [u64], depth: usize, base: usize) -> PartScan
+    requires { ⌜ Starts (now calls) (now t) × MarkSpace (now used) depth (length (now t)) ⌝ }
     requires { ⌜ (length (now t) ≤ 8192) × (base + length (now t) ≤ 65536) ⌝ }
     ensures { λ r. ⌜ Scans (now (calls .entry)) (now (t .entry)) base depth (now (used .entry)) (now (used .exit)) r ⌝ }
 {
@@ -111,7 +111,7 @@ fn scan_part(calls: &[u64], t: &[u64], used: &mut [u64], depth: usize, base: usi
             }
         }
     }
-    Scan {
+    PartScan {
         end: at,
         first: least_mark(used, depth, under, first),
     }
@@ -133,7 +133,7 @@ fn has_let(t: &[u64]) -> bool
 
 // the first let in the part at the front that can be dropped; uses are marked only where there is a let
 pub fn first_unused(calls: &[u64], t: &[u64], used: &mut [u64]) -> Found
-    requires { ⌜ Starts (now calls) (now t) × Open (now used) 0 (length (now t)) × (length (now t) ≤ 8192) ⌝ }
+    requires { ⌜ Starts (now calls) (now t) × MarkSpace (now used) 0 (length (now t)) × (length (now t) ≤ 8192) ⌝ }
     ensures { λ r. ⌜ FindsUnused (now (calls .entry)) (now (t .entry)) r ⌝ }
 {
     if !has_let(t) {

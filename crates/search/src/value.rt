@@ -4,18 +4,19 @@ ghost use Prim.Native.Nat.{_≤_};
 ghost use lib.ListN.{length};
 ghost use Rattle.words.specs.Fronts.{Starts};
 ghost use Rattle.reduction.specs.FitByKinds.{valueKind};
-ghost use Rattle.search.specs.ValueTest.{Tests};
+ghost use Rattle.search.specs.ValueTest.{TestsValue};
 use words::ends::part_size;
 use words::fields::kind;
 use words::shape::shape_of;
 
 // whether a part is a value, and where it ends if it is
-pub struct Value {
+pub struct ValueEnd {
     pub end: usize,
     pub value: bool,
 }
 
-// the kinds of values: the variable, and those that carry their type (function, pair, left and right injection)
+// the kinds of values: the variable, and those that carry their type (function, pair, left and right injection); the shape of a kind tells
+// which do
 pub fn value_kind(k: u64) -> bool
     ensures { λ r. ⌜ r ≡ valueKind k ⌝ }
 {
@@ -31,9 +32,9 @@ const FUNCTION: usize = 4;
 
 // whether the part at the front is a value, and its end if it is: word by word, as long as they can be those of a value;
 // a function is one whatever its body, any other value is one if its parts are
-pub fn value_test(calls: &[u64], t: &[u64]) -> Value
+pub fn value_test(calls: &[u64], t: &[u64]) -> ValueEnd
     requires { ⌜ Starts (now calls) (now t) × (length (now t) ≤ 8192) ⌝ }
-    ensures { λ r. ⌜ Tests (now (calls .entry)) (now (t .entry)) r ⌝ }
+    ensures { λ r. ⌜ TestsValue (now (calls .entry)) (now (t .entry)) r ⌝ }
 {
     // by kind: how many parts a value's node has; FUNCTION; 5 if the kind is no value's
     let counts: [u8; 16] = [0, 5, 4, 5, 5, 2, 5, 5, 1, 1, 5, 5, 5, 5, 5, 5];
@@ -49,13 +50,13 @@ pub fn value_test(calls: &[u64], t: &[u64]) -> Value
             at = at + part_size(calls, &t[at..]);
             owed -= 1;
         } else {
-            return Value {
+            return ValueEnd {
                 end: 0,
                 value: false,
             };
         }
     }
-    Value {
+    ValueEnd {
         end: at,
         value: true,
     }

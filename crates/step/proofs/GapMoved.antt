@@ -53,7 +53,8 @@ module _ {words : List ℕ} {start end place : ℕ} (s : Seekable words start en
       record {
         ordered = omega (arith, to, up, s .ordered);
         inside = omega (arith, same, up, s .inside);
-        same = ap₂ {C = List ℕ} (λ (x y : List ℕ). x ++ y) front back ∙ sym (append-assoc (take place words) (take n moved) (drop end words))
+        same = ap₂ {C = List ℕ} (λ (x y : List ℕ). x ++ y) front back
+            ∙ sym (append-assoc (take place words) (take n moved) (drop end words))
             ∙ ap (λ (x : List ℕ). x ++ drop end words) (sym (take-add place n words) ∙ ap (λ (k : ℕ). take k words) to);
       }
 

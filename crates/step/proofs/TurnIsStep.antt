@@ -27,8 +27,8 @@ use Rattle.search.specs.Searches.{movedBy}
 use Rattle.step.specs.Currents.{Gapped}
 use Rattle.step.specs.Gaps.{Seekable, Seeks}
 use Rattle.search.specs.Finds.{SearchAt, Searchable, Finds}
-use Rattle.step.specs.Rewrites.{RedexAt, Rewritable, RewrittenTo, full, next, Rewrites}
-use Rattle.step.specs.Turns.{At, Ready, Turned, stops, spent, full as too-long, goes, Turns}
+use Rattle.step.specs.Rewrites.{RedexAt, Rewritable, RewrittenTo, too-long, there, RewritesRedex}
+use Rattle.step.specs.Turns.{CurrentClear, Ready, Turned, stops, spent, full, goes, Turns}
 use Rattle.search.specs.NextFrom.{nextFrom}
 use Rattle.step.specs.declared.rewrite.Rewritten.{Rewritten}
 use Rattle.step.specs.declared.rewrite.Rewritten.the-variants.{Full, Next}
@@ -53,7 +53,8 @@ contract-fires pure (r ∷ rs) t c e = go (fire pure r t) refl e (contract-fires
         subst (λ (x : Contraction). fire pure (x .rule) t ≡ some (x .contractum)) q d
 
 -- where the search goes on is within the next term
-inside-next : (pure : Term → Bool) (phase : Phase) (t : Term) (s : Step) → step pure phase t ≡ some s → nextFrom phase (s .place) ≤ size (s .next)
+inside-next : (pure : Term → Bool) (phase : Phase) (t : Term) (s : Step) → step pure phase t ≡ some s
+    → nextFrom phase (s .place) ≤ size (s .next)
 unfolding nextFrom
 inside-next pure phase t s e = below phase (place-inside t s e)
   where
@@ -67,9 +68,20 @@ inside-next pure phase t s e = below phase (place-inside t s e)
     below Reduction h = omega (arith, h)
     below Dropping h = omega arith
 
+-- what the search finds: whatever term is current takes a step by the rule, at the place so many words ahead of the gap
+pub record FirstRedex (phase : Phase) (calls before : List ℕ) (start end : ℕ) (rule : Rule) (ahead : ℕ) : Type 0 where
+  pub step-of : (t : Term) → CurrentClear phase calls before start end t → StepAt (mayDrop calls) phase t rule (start + ahead)
+
+-- and the gap is there
+pub record GapAtRedex (phase : Phase) (calls before : List ℕ) (start end : ℕ) (rule : Rule) (ahead : ℕ) (sought : List ℕ) (behind : ℕ)
+    : Type 0 where
+  pub redex : FirstRedex phase calls before start end rule ahead
+  pub seeks : Seeks before start end (start + ahead) sought behind
+  pub same : length sought ≡ length before
+
 module _ {phase : Phase} {calls before : List ℕ} {start end : ℕ} where
   -- the search in the words behind the gap
-  search-at : {t : Term} → At phase calls before start end t → SearchAt phase calls (from before end) start t
+  search-at : {t : Term} → CurrentClear phase calls before start end t → SearchAt phase calls (from before end) start t
   search-at a = record {
     shaped = a .current .shaped;
     is = tail-part before end ∙ gapped-behind (a .current .gapped);
@@ -91,101 +103,116 @@ module _ {phase : Phase} {calls before : List ℕ} {start end : ℕ} where
     -- nothing is found
     pub turned-stops : {left : ℕ} → r ≡ Nothing → Turns phase calls before start end left before Stop
     turned-stops e = record {
-      told = λ t a. stops (nothing-none (mayDrop calls) phase t (sym (ap (movedBy start) (sym e) ∙ f .told t start (search-at a)))) (a .current);
+      told = λ t a.
+          let none-found = sym (ap (movedBy start) (sym e) ∙ f .told t start (search-at a)) in
+          stops (nothing-none (mayDrop calls) phase t none-found) (a .current);
     }
 
     -- a redex is found
-    module _ {rule : Rule} {ahead : ℕ} (e : r ≡ Redex rule ahead) where
-      step-of : (t : Term) → At phase calls before start end t → StepAt (mayDrop calls) phase t rule (start + ahead)
-      step-of t a = redex-step (mayDrop calls) phase t rule (start + ahead) (sym (ap (movedBy start) (sym e) ∙ f .told t start (search-at a)))
+    pub first-redex : {rule : Rule} {ahead : ℕ} → r ≡ Redex rule ahead → FirstRedex phase calls before start end rule ahead
+    first-redex {rule} {ahead} e = record {
+      step-of = λ t a.
+          redex-step (mayDrop calls) phase t rule (start + ahead) (sym (ap (movedBy start) (sym e) ∙ f .told t start (search-at a)));
+    }
 
-      -- the budget is used up
-      pub turned-spent : {left : ℕ} {after : List ℕ} → left ≡ 0 → Turns phase calls before start end left after (Refused 10)
-      turned-spent z = record { told = λ t a. let s = step-of t a in spent (s .taken) (s .is) z }
+  module _ {rule : Rule} {ahead : ℕ} (r : FirstRedex phase calls before start end rule ahead) where
+    -- the budget is used up
+    pub turned-spent : {left : ℕ} {after : List ℕ} → left ≡ 0 → Turns phase calls before start end left after (Refused 10)
+    turned-spent z = record { told = λ t a. let s = r .step-of t a in spent (s .taken) (s .is) z }
 
-      module _ {second : List ℕ} (d : Ready phase calls before start end second) where
-        -- the place is one of the term's
-        pub place-below : start + ahead < size (d .term)
-        place-below =
-            let s = step-of (d .term) (d .at) in
-            let x = step-at (mayDrop calls) phase (d .term) (s .taken) (s .is) in
-            omega (arith, index-below (d .term) (s .taken .place) (x .position) (x .at), s .at)
+    -- the place is one of the term's
+    module _ {second : List ℕ} (d : Ready phase calls before start end second) where
+      place-below : start + ahead < size (d .term)
+      place-below =
+          let s = r .step-of (d .term) (d .at) in
+          let x = step-at (mayDrop calls) phase (d .term) (s .taken) (s .is) in
+          omega (arith, index-below (d .term) (s .taken .place) (x .position) (x .at), s .at)
 
-        pub place-small : start + ahead ≤ 8192
-        place-small = let g = d .at .current .gapped in omega (arith, place-below, gapped-size g, g .ordered, g .inside, d .limit)
+      pub place-small : start + ahead ≤ 8192
+      place-small = let g = d .at .current .gapped in omega (arith, place-below, gapped-size g, g .ordered, g .inside, d .limit)
 
-        pub redex-seekable : Seekable before start end (start + ahead)
-        redex-seekable = gapped-seekable (d .at .current .gapped) (start + ahead) (omega (arith, place-below))
+      pub redex-seekable : Seekable before start end (start + ahead)
+      redex-seekable = gapped-seekable (d .at .current .gapped) (start + ahead) (omega (arith, place-below))
 
-      -- the gap is at the redex
-      module _ {sought : List ℕ} {behind : ℕ} (k : Seeks before start end (start + ahead) sought behind)
-          (l : length sought ≡ length before) where
-        redex-of : (t : Term) (a : At phase calls before start end t)
-            → let x = step-at (mayDrop calls) phase t (step-of t a .taken) (step-of t a .is) in
-            RedexAt rule calls sought (start + ahead) behind t (x .position) (x .contraction .contractum)
-        redex-of t a =
-            let s = step-of t a in
-            let x = step-at (mayDrop calls) phase t (s .taken) (s .is) in
-            record {
-              current = record { shaped = a .current .shaped; gapped = gapped-sought (a .current .gapped) k };
-              at = subst (λ (i : ℕ). getElem? (positions t) i ≡ some (x .position)) (s .at) (x .at);
-              fires = subst (λ (r : Rule). fire (mayDrop calls) r (x .position .subterm) ≡ some (x .contraction .contractum)) (sym (x .rule) ∙ s .by)
-                  (contract-fires (mayDrop calls) (rules phase) (x .position .subterm) (x .contraction) (x .fits));
-            }
+  module _ {rule : Rule} {ahead : ℕ} {sought : List ℕ} {behind : ℕ}
+      (g : GapAtRedex phase calls before start end rule ahead sought behind) where
+    step-of : (t : Term) → CurrentClear phase calls before start end t → StepAt (mayDrop calls) phase t rule (start + ahead)
+    step-of = g .redex .step-of
 
-        pub turn-rewritable : {second : List ℕ} → Ready phase calls before start end second → (second′ : List ℕ)
-            → length second′ ≡ length second → Rewritable rule calls sought (start + ahead) behind second′
-        turn-rewritable d second′ m = record {
-          term = d .term;
-          position = _;
-          contractum = _;
-          redex = redex-of (d .term) (d .at);
-          limit = omega (arith, l, d .limit);
-          scratch = omega (arith, m, l, d .scratch);
+    redex-behind : (t : Term) (a : CurrentClear phase calls before start end t)
+        → let x = step-at (mayDrop calls) phase t (step-of t a .taken) (step-of t a .is) in
+        RedexAt rule calls sought (start + ahead) behind t (x .position) (x .contraction .contractum)
+    redex-behind t a =
+        let s = step-of t a in
+        let x = step-at (mayDrop calls) phase t (s .taken) (s .is) in
+        record {
+          current = record { shaped = a .current .shaped; gapped = gapped-sought (a .current .gapped) (g .seeks) };
+          at = subst (λ (i : ℕ). getElem? (positions t) i ≡ some (x .position)) (s .at) (x .at);
+          fires = subst (λ (r : Rule). fire (mayDrop calls) r (x .position .subterm) ≡ some (x .contraction .contractum))
+              (sym (x .rule) ∙ s .by)
+              (contract-fires (mayDrop calls) (rules phase) (x .position .subterm) (x .contraction) (x .fits));
         }
 
-        -- the redex is rewritten, or the next term is too long
-        rewritten-at : {after : List ℕ} (w : Rewritten) → Rewrites rule calls sought (start + ahead) behind after w → (t : Term)
-            → (a : At phase calls before start end t) → RewrittenTo (length sought) after (start + ahead) (step-of t a .taken .next) w
-        rewritten-at {after} w x t a =
+    pub turn-rewritable : {second : List ℕ} → Ready phase calls before start end second → (second′ : List ℕ)
+        → length second′ ≡ length second → Rewritable rule calls sought (start + ahead) behind second′
+    turn-rewritable d second′ m = record {
+      term = d .term;
+      position = _;
+      contractum = _;
+      redex = redex-behind (d .term) (d .at);
+      limit = omega (arith, g .same, d .limit);
+      scratch = omega (arith, m, g .same, d .scratch);
+    }
+
+    -- the redex is rewritten, or the next term is too long
+    rewritten-at : {after : List ℕ} (w : Rewritten) → RewritesRedex rule calls sought (start + ahead) behind after w → (t : Term)
+        → (a : CurrentClear phase calls before start end t)
+        → RewrittenTo (length sought) after (start + ahead) (step-of t a .taken .next) w
+    rewritten-at {after} w x t a =
+        let s = step-of t a in
+        let y = step-at (mayDrop calls) phase t (s .taken) (s .is) in
+        subst (λ (u : Term). RewrittenTo (length sought) after (start + ahead) u w) (sym (y .next)) (x .told t _ _ (redex-behind t a))
+
+    pub turned-full : {left : ℕ} {after : List ℕ} → 0 < left → RewritesRedex rule calls sought (start + ahead) behind after Full
+        → Turns phase calls before start end left after (Refused 11)
+    turned-full {left} {after} h x = record { told = λ t a. go t a (rewritten-at Full x t a) }
+      where
+        go : (t : Term) (a : CurrentClear phase calls before start end t)
+            → RewrittenTo (length sought) after (start + ahead) (step-of t a .taken .next) Full
+            → Turned phase calls after start end left (length before) t (Refused 11)
+        go t a (too-long m) = let s = step-of t a in full (s .taken) (s .is) h (omega (arith, m, g .same))
+
+    module _ {rewritten : List ℕ} {n : ℕ} (x : RewritesRedex rule calls sought (start + ahead) behind rewritten (Next n)) where
+      -- the next term is there
+      next-there : (t : Term) (a : CurrentClear phase calls before start end t)
+          → Gapped rewritten (start + ahead) n (step-of t a .taken .next)
+      next-there t a = go (rewritten-at (Next n) x t a)
+        where
+          go : {u : Term} {n : ℕ} → RewrittenTo (length sought) rewritten (start + ahead) u (Next n) → Gapped rewritten (start + ahead) n u
+          go (there n g) = g
+
+      -- and the gap goes to where the search goes on
+      pub next-seekable : {second : List ℕ} → Ready phase calls before start end second → {to : ℕ} → to ≡ nextFrom phase (start + ahead)
+          → Seekable rewritten (start + ahead) n to
+      next-seekable d {to} e =
+          let s = step-of (d .term) (d .at) in
+          let i = inside-next (mayDrop calls) phase (d .term) (s .taken) (s .is) in
+          gapped-seekable (next-there (d .term) (d .at)) to (omega (arith, e, i, ap (nextFrom phase) (s .at)))
+
+      pub turned-goes : {left to rest : ℕ} {after : List ℕ} → 0 < left → to ≡ nextFrom phase (start + ahead)
+          → Seeks rewritten (start + ahead) n to after rest → Turns phase calls before start end left after (Stepped rule to rest)
+      turned-goes {left} {to} {rest} {after} h e k = record {
+        told = λ t a.
             let s = step-of t a in
-            let y = step-at (mayDrop calls) phase t (s .taken) (s .is) in
-            subst (λ (u : Term). RewrittenTo (length sought) after (start + ahead) u w) (sym (y .next)) (x .told t _ _ (redex-of t a))
+            let q : nextFrom phase (s .taken .place) ≡ to = ap (nextFrom phase) (s .at) ∙ sym e in
+            let there = gapped-sought (next-there t a) k in
+            subst (λ (i : Rule). Turned phase calls after start end left (length before) t (Stepped i to rest)) (s .by)
+            (subst (λ (i : ℕ). Turned phase calls after start end left (length before) t (Stepped (s .taken .rule) i rest)) q
+            (goes (s .taken) rest (s .is) h (subst (λ (i : ℕ). Gapped after i rest (s .taken .next)) (sym q) there)));
+      }
 
-        pub turned-full : {left : ℕ} {after : List ℕ} → 0 < left → Rewrites rule calls sought (start + ahead) behind after Full
-            → Turns phase calls before start end left after (Refused 11)
-        turned-full {left} {after} h x = record { told = λ t a. go t a (rewritten-at Full x t a) }
-          where
-            go : (t : Term) (a : At phase calls before start end t)
-                → RewrittenTo (length sought) after (start + ahead) (step-of t a .taken .next) Full
-                → Turned phase calls after start end left (length before) t (Refused 11)
-            go t a (full m) = let s = step-of t a in too-long (s .taken) (s .is) h (omega (arith, m, l))
-
-        module _ {rewritten : List ℕ} {n : ℕ} (x : Rewrites rule calls sought (start + ahead) behind rewritten (Next n)) where
-          -- the next term is there
-          next-there : (t : Term) (a : At phase calls before start end t) → Gapped rewritten (start + ahead) n (step-of t a .taken .next)
-          next-there t a = go (rewritten-at (Next n) x t a)
-            where
-              go : {u : Term} {n : ℕ} → RewrittenTo (length sought) rewritten (start + ahead) u (Next n)
-                  → Gapped rewritten (start + ahead) n u
-              go (next n g) = g
-
-          -- and the gap goes to where the search goes on
-          pub next-seekable : {second : List ℕ} → Ready phase calls before start end second → (to : ℕ) → to ≡ nextFrom phase (start + ahead)
-              → Seekable rewritten (start + ahead) n to
-          next-seekable d to e =
-              let s = step-of (d .term) (d .at) in
-              let i = inside-next (mayDrop calls) phase (d .term) (s .taken) (s .is) in
-              gapped-seekable (next-there (d .term) (d .at)) to (omega (arith, e, i, ap (nextFrom phase) (s .at)))
-
-          pub turned-goes : {left to rest : ℕ} {after : List ℕ} → 0 < left → to ≡ nextFrom phase (start + ahead)
-              → Seeks rewritten (start + ahead) n to after rest → Turns phase calls before start end left after (Stepped rule to rest)
-          turned-goes {left} {to} {rest} {after} h e k = record {
-            told = λ t a.
-                let s = step-of t a in
-                let q : nextFrom phase (s .taken .place) ≡ to = ap (nextFrom phase) (s .at) ∙ sym e in
-                let g = gapped-sought (next-there t a) k in
-                subst (λ (i : Rule). Turned phase calls after start end left (length before) t (Stepped i to rest)) (s .by)
-                (subst (λ (i : ℕ). Turned phase calls after start end left (length before) t (Stepped (s .taken .rule) i rest)) q
-                (goes (s .taken) rest (s .is) h (subst (λ (i : ℕ). Gapped after i rest (s .taken .next)) (sym q) g)));
-          }
+-- what rewriting says holds of the answer that a match names, which is the same
+pub rewrites-as : {rule : Rule} {calls before : List ℕ} {start end : ℕ} {after : List ℕ} {r w : Rewritten} → r ≡ w
+    → RewritesRedex rule calls before start end after r → RewritesRedex rule calls before start end after w
+rewrites-as {rule} {calls} {before} {start} {end} {after} e x =
+    subst (λ (y : Rewritten). RewritesRedex rule calls before start end after y) e x

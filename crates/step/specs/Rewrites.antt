@@ -31,10 +31,10 @@ pub record Rewritable (rule : Rule) (calls words : List ℕ) (start end : ℕ) (
 
 -- the next term u is too long for the buffer, or it is there, around a gap that begins where it did
 pub data RewrittenTo (capacity : ℕ) (after : List ℕ) (start : ℕ) (u : Term) : Rewritten → Type 0 where
-  full : capacity < size u → RewrittenTo capacity after start u Full
-  next : (n : ℕ) → Gapped after start n u → RewrittenTo capacity after start u (Next n)
+  too-long : capacity < size u → RewrittenTo capacity after start u Full
+  there : (n : ℕ) → Gapped after start n u → RewrittenTo capacity after start u (Next n)
 
 -- for whatever redex is there
-pub record Rewrites (rule : Rule) (calls before : List ℕ) (start end : ℕ) (after : List ℕ) (r : Rewritten) : Type 0 where
+pub record RewritesRedex (rule : Rule) (calls before : List ℕ) (start end : ℕ) (after : List ℕ) (r : Rewritten) : Type 0 where
   pub told : (t : Term) (p : Position Term) (y : Term) → RedexAt rule calls before start end t p y
       → RewrittenTo (length before) after start (p .plug y) r

@@ -17,7 +17,7 @@ use Rattle.step.specs.declared.turn.Turn.{Turn}
 use Rattle.step.specs.declared.turn.Turn.the-variants.{Stop, Refused, Step as Stepped}
 
 -- the term t is current, and no redex of the phase stands before the gap
-pub record At (phase : Phase) (calls words : List ℕ) (start end : ℕ) (t : Term) : Type 0 where
+pub record CurrentClear (phase : Phase) (calls words : List ℕ) (start end : ℕ) (t : Term) : Type 0 where
   pub current : Current calls words start end t
   pub clear : Clear (mayDrop calls) phase t start
   pub premise : PhasePremise calls phase t start
@@ -25,7 +25,7 @@ pub record At (phase : Phase) (calls words : List ℕ) (start end : ℕ) (t : Te
 -- some term is, and the second buffer is as long as the first
 pub record Ready (phase : Phase) (calls words : List ℕ) (start end : ℕ) (second : List ℕ) : Type 0 where
   pub term : Term
-  pub at : At phase calls words start end term
+  pub at : CurrentClear phase calls words start end term
   pub limit : length words ≤ 8192
   pub scratch : length second ≡ length words
 
@@ -41,4 +41,4 @@ pub data Turned (phase : Phase) (calls after : List ℕ) (start end left capacit
 
 -- for whatever term is current; the capacity is the buffer's length
 pub record Turns (phase : Phase) (calls before : List ℕ) (start end left : ℕ) (after : List ℕ) (r : Turn) : Type 0 where
-  pub told : (t : Term) → At phase calls before start end t → Turned phase calls after start end left (length before) t r
+  pub told : (t : Term) → CurrentClear phase calls before start end t → Turned phase calls after start end left (length before) t r

@@ -1,7 +1,7 @@
 // The redex behind the gap rewritten in place, if the next term is not too long.
 ghost use Prim.Native.Nat.{_≤_};
 ghost use lib.ListN.{length as lengthOf};
-ghost use Rattle.step.specs.Rewrites.{Rewritable, Rewrites};
+ghost use Rattle.step.specs.Rewrites.{Rewritable, RewritesRedex};
 use contraction::plan::measure;
 use contraction::write::write;
 use reduction::Rule;
@@ -25,7 +25,7 @@ pub fn rewrite(
     pending: &mut [u64],
 ) -> Rewritten
     requires { ⌜ Rewritable rule (now calls) (now current) start end (now second) × (8194 ≤ lengthOf (now pending)) ⌝ }
-    ensures { λ r. ⌜ Rewrites rule (now (calls .entry)) (now (current .entry)) start end (now (current .exit)) r ⌝ }
+    ensures { λ r. ⌜ RewritesRedex rule (now (calls .entry)) (now (current .entry)) start end (now (current .exit)) r ⌝ }
 {
     let m = measure(rule, calls, &current[end..], pending);
     let plan = m.plan;

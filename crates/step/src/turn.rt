@@ -18,7 +18,7 @@ pub enum Turn {
     Step(Rule, usize, usize),
 }
 
-// the search begins behind the gap, from `start` to `end`; after a step the gap is where the search goes on. 10 is looked at before 11.
+// the search begins behind the gap, from `start` to `end`; after a step the gap is where the search goes on. 10 is checked before 11.
 pub fn take_turn(
     phase: Phase,
     calls: &[u64],

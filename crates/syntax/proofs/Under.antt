@@ -3,7 +3,6 @@
 use mathlib.Core.Path.{_≡_, refl, sym, _∙_, ap, fun-ext}
 use Prim.Native.Nat.{ℕ, zero, suc, _+_, _-_, _≤_, _<_}
 use native.Mathlib.Omega.{arith}
-use native.Mathlib.Nat.{zero-add, suc-add}
 use Rattle.syntax.specs.Term.{Term, var}
 use Rattle.syntax.specs.Substitution.{Kit, under, traverse, renaming, rename, weaken, weakenBody}
 use Rattle.syntax.specs.Under.{underBy, raiseAt, onlyAt}
@@ -14,11 +13,6 @@ module _ {X : Type 0} (kit : Kit X) where
   pub under-underBy : (n : ℕ) (f : ℕ → X) → under kit (underBy kit n f) ≡ underBy kit (suc n) f
   unfolding underBy
   under-underBy n f = refl
-
-  pub underBy-underBy : (m n : ℕ) (f : ℕ → X) → underBy kit m (underBy kit n f) ≡ underBy kit (m + n) f
-  unfolding underBy
-  underBy-underBy zero n f = ap (λ (k : ℕ). underBy kit k f) (sym (zero-add n))
-  underBy-underBy (suc m) n f = ap (under kit) (underBy-underBy m n f) ∙ ap (λ (k : ℕ). underBy kit k f) (sym (suc-add m n))
 
 -- renaming
 pub raiseAt-below : (c by n : ℕ) → n < c → raiseAt c by n ≡ n

@@ -50,7 +50,7 @@ operands (inl A a) = at a (inl A) ∷ []
 operands (inr A a) = at a (inr A) ∷ []
 operands (case s l r) = at s (λ x. case x l r) ∷ []
 
--- 1 if two variables are the same, else 0
+-- the number of a Boolean: 1 if it is true, else 0
 abbrev pub counts : Bool → ℕ
 counts true = 1
 counts false = 0

@@ -13,7 +13,8 @@ use Rattle.syntax.specs.Kinds.{partsOfKind}
 use Rattle.syntax.specs.Parts.{partCount}
 use Rattle.words.proofs.Extents.{parts-le}
 
-pub of-call : (calls : List ℕ) (w k n r : ℕ) → k ≡ kindOf w → k ≡ 1 → n ≡ numberOf w → (r ≡ arity calls n) × (r ≤ 15) → (r ≡ partCount calls w)
+pub of-call : (calls : List ℕ) (w k n r : ℕ) → k ≡ kindOf w → k ≡ 1 → n ≡ numberOf w → (r ≡ arity calls n) × (r ≤ 15)
+    → (r ≡ partCount calls w)
     × (r ≤ 15)
 unfolding partCount
 of-call calls w k n r e t f (p, l) =

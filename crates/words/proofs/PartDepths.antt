@@ -15,7 +15,7 @@ use Rattle.syntax.specs.Tables.{arity}
 use Rattle.syntax.specs.Values.{counts}
 use Rattle.syntax.specs.Words.{kindOf, numberOf}
 use Rattle.words.specs.Reach.{outerCount}
-use Rattle.words.specs.Depths.{Filled, Opened, Opens}
+use Rattle.words.specs.Depths.{Filled, Opened, OpensParts}
 
 -- the depths at the first two places, and at the others
 pub record Entries (old new : List ℕ) (last n k depth : ℕ) : Type 0 where
@@ -74,7 +74,8 @@ module _ (old new : List ℕ) (last depth : ℕ) where
           let z : bindsOf k ≡ false = simp (ne-eqb k 2 p, ne-eqb k 4 q, ne-eqb k 10 r) in
           let n = partsOfKind a k in
           let o : outerCount k n ≡ n = ap (λ (x : Bool). cond x (freeOf k) n) z in
-          by-place n 0 0 0 (e .at-last ∙ ap (λ (x : Bool). depth + counts x) z) (e .at-middle ∙ ap (λ (x : Bool). depth + counts x) (ne-eqb k 10 r))
+          by-place n 0 0 0 (e .at-last ∙ ap (λ (x : Bool). depth + counts x) z)
+          (e .at-middle ∙ ap (λ (x : Bool). depth + counts x) (ne-eqb k 10 r))
           (e .others) (e .kept) (λ l. absurd (omega (arith, l))) (λ z l. refl) (λ l. absurd (omega (arith, l))) (λ g l. refl) (omega arith)
           (outerCount k n) (omega (arith, o))
 
@@ -113,7 +114,7 @@ module _ (p : List ℕ) (last x y z : ℕ) where
 module _ (calls : List ℕ) (w : ℕ) (p new : List ℕ) (last depth k n x y : ℕ) (ke : k ≡ kindOf w) (ne : n ≡ partCount calls w)
     (xe : x ≡ counts (bindsOf k)) (ye : y ≡ counts (eqb k 10)) (room : last + 3 ≤ length p) where
   pub filled-opens : Filled (three p last (depth + x) (depth + y) depth) new (last + 3) (last + n) depth
-      → Opens calls w depth p new last (last + n)
+      → OpensParts calls w depth p new last (last + n)
   unfolding partCount
   filled-opens f = record {
     many = ap (λ (i : ℕ). last + i) ne;
@@ -137,8 +138,8 @@ pub three-filled : (words : List ℕ) (last n depth : ℕ) → n ≤ 3 → Fille
 three-filled words last n depth le = record { kept = λ j l. refl; set-to = λ j g l. absurd (omega (arith, g, l, le)) }
 
 -- a node without parts
-pub no-opens : (calls : List ℕ) (w : ℕ) (p : List ℕ) (last depth : ℕ) → partCount calls w ≡ 0 → Opens calls w depth p p last last
-no-opens calls w p last depth none = record {
+pub opens-none : (calls : List ℕ) (w : ℕ) (p : List ℕ) (last depth : ℕ) → partCount calls w ≡ 0 → OpensParts calls w depth p p last last
+opens-none calls w p last depth none = record {
   many = omega (arith, none);
   opened = record {
     kept = λ j l. refl;
@@ -146,8 +147,3 @@ no-opens calls w p last depth none = record {
     outer = λ j g l. absurd (omega (arith, l, none));
   };
 }
-
--- such as a variable
-pub opens-none : (calls : List ℕ) (w : ℕ) (p : List ℕ) (last depth : ℕ) → kindOf w ≡ 0 → Opens calls w depth p p last last
-unfolding partCount
-opens-none calls w p last depth z = no-opens calls w p last depth (ap (partsOfKind (arity calls (numberOf w))) z)

@@ -17,7 +17,11 @@ pub record Pasted (src old new : List ℕ) (start at n : ℕ) : Type 0 where
   pub pasted : new ≡ paste old at (drop start src) n
 
 pub pasted-none : (src old : List ℕ) (start at : ℕ) → start ≤ length src → at ≤ length old → Pasted src old old start at 0
-pasted-none src old start at h g = record { source = omega (arith, h); room = omega (arith, g); pasted = paste-zero old at (drop start src) }
+pasted-none src old start at h g = record {
+  source = omega (arith, h);
+  room = omega (arith, g);
+  pasted = paste-zero old at (drop start src);
+}
 
 module _ {src old new : List ℕ} {start at n : ℕ} (p : Pasted src old new start at n) where
   inside : n ≤ length (drop start src)

@@ -3,10 +3,10 @@ use Prim.Native.Nat.{ℕ, zero, suc, _+_, _-_, _≤_, _<_}
 use native.Mathlib.Omega.{arith}
 use native.Mathlib.Nat.{add-suc, suc-add}
 use native.Mathlib.Numerals.{add-one}
-use mathlib.Core.Path.{_≡_, refl, sym, _∙_, ap, ap₂}
+use mathlib.Core.Path.{_≡_, refl, sym, _∙_, ap}
 use mathlib.Core.List.{List, [], _∷_, _++_, append-assoc, append-nil}
 use lib.ListN.{length, getD, drop, take, set, replicate, length-drop, length-replicate, take-append-drop}
-use lib.Seq.{paste, paste-zero, paste-suc, drop-paste, getD-drop, getD-take, drop-cons, take-suc, set-at}
+use lib.Seq.{paste, paste-suc, drop-paste, getD-drop, getD-take, drop-cons, take-suc, set-at}
 use lib.Seq.{length-take-le, drop-drop, drop-at, take-append-le, take-take}
 
 -- past what is pasted the words are the list's
@@ -30,7 +30,8 @@ getD-paste-before l at s n i h lt =
     ∙ getD-append-before (take at l) (take n s ++ drop (at + n) l) i (omega (arith, lt, length-take-le at l h)) ∙ getD-take at l i 0 lt
 
 -- one word more at the end: the next of the source
-pub paste-next : (l : List ℕ) (at : ℕ) (src : List ℕ) (start i v : ℕ) → at + i < length l → start + i < length src → v ≡ getD src (start + i) 0
+pub paste-next : (l : List ℕ) (at : ℕ) (src : List ℕ) (start i v : ℕ) → at + i < length l → start + i < length src
+    → v ≡ getD src (start + i) 0
     → set (paste l at (drop start src) i) (at + i) v ≡ paste l at (drop start src) (i + 1)
 paste-next l at src start i v h g e =
     ap (λ (x : ℕ). set (paste l at (drop start src) i) (at + i) x) (e ∙ sym (getD-drop start src i 0))

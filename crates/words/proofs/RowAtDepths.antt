@@ -13,7 +13,7 @@ use Rattle.syntax.specs.Parts.{partCount}
 use Rattle.syntax.specs.Shaped.{count}
 use Rattle.syntax.proofs.Sizes.{sizeAll}
 use Rattle.words.specs.Joined.{joined}
-use Rattle.words.specs.Depths.{Opened, Opens}
+use Rattle.words.specs.Depths.{Opened, OpensParts}
 use Rattle.words.proofs.Joined.{count-joined, joined-done}
 use Rattle.words.proofs.Rows.{Marching, march-inside, march-within, march-parts}
 
@@ -65,7 +65,8 @@ module _ {M : Type 0} (g : Gathering M) where
 
   -- a node's outer and inner parts, before the terms after it
   pub ahead-opened : {p q : List ℕ} {last n o d : ℕ} → Opened p q last n o d → (os is later : Terms) → last ≡ count later → o ≡ count os
-      → n ≡ count os + count is → ahead q (joined os (joined is later)) ≡ g .join (g .all os d) (g .join (g .all is (suc d)) (ahead p later))
+      → n ≡ count os + count is
+      → ahead q (joined os (joined is later)) ≡ g .join (g .all os d) (g .join (g .all is (suc d)) (ahead p later))
   ahead-opened {p} {q} {last} {n} {o} {d} w os is later le oe ne =
       ahead-joined q d os (joined is later) outer ∙ ap (g .join (g .all os d))
       (ahead-joined q (suc d) is later inner ∙ ap (g .join (g .all is (suc d)))
@@ -104,13 +105,14 @@ near-opened {p} {q} {last} {n} {o} {d} {most} w h le j l = by (ltb j last) refl
 
 -- a node is passed: the row ahead is one of its parts and the others, not deeper than one word further
 pub near-next : {calls : List ℕ} (p q : List ℕ) {w : ℕ} (d at owed r : ℕ) → Near p owed (d + at) → 1 ≤ owed
-    → Opens calls w (getD p (owed - 1) 0) p q (owed - 1) r → Near q r (d + (at + 1))
+    → OpensParts calls w (getD p (owed - 1) 0) p q (owed - 1) r → Near q r (d + (at + 1))
 near-next p q d at owed r near lt o j l =
     let n = near-opened (o .opened) (λ i k. near i (omega (arith, k))) (near _ (omega (arith, lt))) j (omega (arith, l, o .many)) in
     omega (arith, n)
 
 -- the depths of the parts of the node at the front have room
-pub opens-room : {calls words : List ℕ} (p : List ℕ) {Q : Terms → Terms → Type 0} (d m : ℕ) {at owed : ℕ} (g : Marching calls words Q 1 at owed)
+pub opens-room : {calls words : List ℕ} (p : List ℕ) {Q : Terms → Terms → Type 0} (d m : ℕ) {at owed : ℕ}
+    (g : Marching calls words Q 1 at owed)
     → Near p owed (d + at) → sizeAll (g .start .terms) + m ≤ length p → 2 ≤ m → 1 ≤ owed → d + length words ≤ 65536
     → (owed - 1 + 3 ≤ length p) × (owed - 1 + partCount calls (getD words at 0) ≤ length p) × (getD p (owed - 1) 0 ≤ 65536)
 opens-room {calls} {words} p d m {owed = owed} g near spare two lt far = (

@@ -200,9 +200,13 @@ module _ (calls words : List ℕ) where
           → ((ts us : Terms) (t : Term) (rest : List ℕ) → Holds calls (from words at) t rest → Q ts (arg t us) → R ts us)
           → Marching R n (at + l) (owed - 1)
       unfolding count
-      march-term R l z r = record { start = g .start; stand = λ ts rest h. past ts rest (g .stand ts rest h) (g .stand ts rest h .ahead) refl }
+      march-term R l z r = record {
+        start = g .start;
+        stand = λ ts rest h. past ts rest (g .stand ts rest h) (g .stand ts rest h .ahead) refl;
+      }
         where
-          past : (ts : Terms) (rest : List ℕ) (s : Standing Q at owed ts rest) (us : Terms) → s .ahead ≡ us → Standing R (at + l) (owed - 1) ts rest
+          past : (ts : Terms) (rest : List ℕ) (s : Standing Q at owed ts rest) (us : Terms) → s .ahead ≡ us
+              → Standing R (at + l) (owed - 1) ts rest
           past ts rest s done e = absurd (omega (arith, s .many, ap count e, lt))
           past ts rest s (arg t us) e =
               let p : PartsAt calls words at (arg t us) rest = subst (λ (x : Terms). PartsAt calls words at x rest) e (s .here) in
@@ -218,7 +222,8 @@ module _ (calls words : List ℕ) where
 
       -- past the node: its parts come first
       unfoldable pub march-on : (R : Terms → Terms → Type 0) (m : ℕ) → m ≡ owed - 1 + partCount calls (getD words at 0)
-          → ((ts : Terms) (rest : List ℕ) → (v : Visit Q at owed ts rest) → R ts (joined (outer (v .term)) (joined (inner (v .term)) (v .later))))
+          → ((ts : Terms) (rest : List ℕ) → (v : Visit Q at owed ts rest)
+          → R ts (joined (outer (v .term)) (joined (inner (v .term)) (v .later))))
           → Marching R n (at + 1) m
       march-on R m e r = record {
         start = g .start;

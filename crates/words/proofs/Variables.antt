@@ -1,7 +1,6 @@
--- A first word of kind 0 is a variable's; and a choice by two tests.
+-- A first word of kind 0 is a variable's.
 use Prim.Native.Nat.{ℕ}
-use mathlib.Core.Path.{_≡_, refl, sym, _∙_, ap}
-use mathlib.Core.Bool.{Bool, true, false, _&&_, cond}
+use mathlib.Core.Path.{_≡_, refl, sym, _∙_}
 use mathlib.Core.List.{List}
 use lib.ListN.{getD}
 use Rattle.syntax.specs.Words.{kindOf, numberOf}
@@ -17,13 +16,3 @@ unfolding node
 variable-at {t = t} h z P k =
     let f = front-of h in
     by-kind (λ u. node t .number ≡ node u .number → P u) 0 t (sym (f .kind) ∙ z) (λ v e. k v (f .number ∙ e)) refl
-
--- a choice by two tests
-pub both-hold : (a b : Bool) (x y : ℕ) → a ≡ true → b ≡ true → x ≡ cond (a && b) x y
-both-hold a b x y e f = sym (ap (λ (c : Bool). cond (c && b) x y) e ∙ ap (λ (c : Bool). cond c x y) f)
-
-pub first-fails : (a b : Bool) (x y : ℕ) → a ≡ false → y ≡ cond (a && b) x y
-first-fails a b x y e = sym (ap (λ (c : Bool). cond (c && b) x y) e)
-
-pub second-fails : (a b : Bool) (x y : ℕ) → a ≡ true → b ≡ false → y ≡ cond (a && b) x y
-second-fails a b x y e f = sym (ap (λ (c : Bool). cond (c && b) x y) e ∙ ap (λ (c : Bool). cond c x y) f)

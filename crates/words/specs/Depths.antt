@@ -19,6 +19,6 @@ pub record Opened (old new : List ℕ) (last n o depth : ℕ) : Type 0 where
   pub outer : (j : ℕ) → n - o ≤ j → j < n → getD new (last + j) 0 ≡ depth
 
 -- of the node of a word
-pub record Opens (calls : List ℕ) (w depth : ℕ) (old new : List ℕ) (last r : ℕ) : Type 0 where
+pub record OpensParts (calls : List ℕ) (w depth : ℕ) (old new : List ℕ) (last r : ℕ) : Type 0 where
   pub many : r ≡ last + partCount calls w
   pub opened : Opened old new last (partCount calls w) (outerCount (kindOf w) (partCount calls w)) depth

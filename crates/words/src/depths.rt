@@ -1,9 +1,8 @@
 // The depths of the parts still to come, in a buffer: the next part's stands last, behind those of the parts after it.
-ghost use mathlib.Core.Path.{_≡_};
 ghost use Prim.Native.Nat.{_+_, _≤_};
 ghost use lib.ListN.{length};
 ghost use Rattle.syntax.specs.Parts.{partCount};
-ghost use Rattle.words.specs.Depths.{Filled, Opens};
+ghost use Rattle.words.specs.Depths.{Filled, OpensParts};
 use crate::fields::kind;
 use crate::shape::last_binder;
 use crate::shape::middle_binder;
@@ -25,7 +24,7 @@ fn fill(words: &mut [u64], start: usize, end: usize, w: u64)
 // parts, three are written whether or not the node has as many: that is faster than asking.
 pub fn open_parts(calls: &[u64], w: u64, depth: u64, pending: &mut [u64], last: usize) -> usize
     requires { ⌜ (last + 3 ≤ length (now pending)) × (last + partCount (now calls) w ≤ length (now pending)) × (depth ≤ 131072) ⌝ }
-    ensures { λ r. ⌜ Opens (now (calls .entry)) w depth (now (pending .entry)) (now (pending .exit)) last r ⌝ }
+    ensures { λ r. ⌜ OpensParts (now (calls .entry)) w depth (now (pending .entry)) (now (pending .exit)) last r ⌝ }
 {
     let k = kind(w);
     let n = part_count(calls, w);

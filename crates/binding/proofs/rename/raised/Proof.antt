@@ -1,10 +1,8 @@
 -- Only the word of a variable from the cut on changes.
 use borrow.Author.Needs.{needs}
 use native.Mathlib.Omega.{arith}
-use mathlib.Core.Path.{sym, _∙_}
-use borrow.Author.Tests.{eq-eqb, ne-eqb, le-leb, lt-leb}
+use borrow.Author.Tests.{le-leb, lt-leb}
 use Rattle.syntax.specs.Words.{numberOf}
-use Rattle.words.proofs.Variables.{both-hold, first-fails, second-fails}
 use Rattle.binding.proofs.rename.raised.Statement.{statement}
 use Rattle.binding.proofs.rename.raised.Tie as tie
 
@@ -13,23 +11,11 @@ raised-spec =
     tie.close
     (tie.spec
     (λ c κs. search needs)
-    (λ c κs. search needs)
     (λ c. search needs)
     (λ c. search needs)
     (λ c.
-    let at-number = c .before in
-    let at-if1 = at-number .before in
-    let at-kind = at-if1 .before in
-    let start = at-kind .before in
-    let test = le-leb (start .args .cut) (numberOf (start .args .w)) (omega (arith, c .if2 .taken, at-number .number .ensures)) in
-    both-hold _ _ _ _ (eq-eqb _ _ (sym (at-kind .kind .ensures) ∙ at-if1 .if1 .taken)) test)
+    let a = c .before .before .args in
+    simp (le-leb (a .cut) (numberOf (a .w)) (omega (arith, c .if1 .taken, c .before .number .ensures))))
     (λ c.
-    let at-number = c .before in
-    let at-if1 = at-number .before in
-    let at-kind = at-if1 .before in
-    let start = at-kind .before in
-    let test = lt-leb (start .args .cut) (numberOf (start .args .w)) (omega (arith, c .if2 .left, at-number .number .ensures)) in
-    second-fails _ _ _ _ (eq-eqb _ _ (sym (at-kind .kind .ensures) ∙ at-if1 .if1 .taken)) test)
-    (λ c.
-    let at-kind = c .before in
-    first-fails _ _ _ _ (ne-eqb _ _ (λ e. c .if1 .left (at-kind .kind .ensures ∙ e)))))
+    let a = c .before .before .args in
+    simp (lt-leb (a .cut) (numberOf (a .w)) (omega (arith, c .if1 .left, c .before .number .ensures)))))

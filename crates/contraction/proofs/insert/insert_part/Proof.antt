@@ -10,21 +10,19 @@ insert-part-spec =
     tie.close
     (tie.spec
     (λ c. search needs)
-    (λ c.
-    let pre = c .before .before .before .before .before .pre in
-    part-space (pre .0))
+    (λ c. let s : tie.Start = search in part-space (s .pre .0))
     (λ c. search needs)
     (λ c.
+    let s : tie.Start = search in
     let taken = c .if1 .taken in
-    part-replaced _ _ _ _ _ _ _ taken (c .before .before .before .before .before .pre .0 .sized taken))
+    part-replaced taken (s .pre .0 .sized taken))
     (λ c κs.
-    let pre = c .before .before .before .before .before .before .before .pre in
-    (part-room (pre .0) (c .before .before .if1 .left), omega (arith, pre .1, pre .2), omega arith, omega (arith, pre .2, pre .3)))
+    let s : tie.Start = search in
+    let moves : tie.Else1 = search in
+    (part-room (s .pre .0) (moves .if1 .left), omega (arith, s .pre .1, s .pre .2), omega arith, omega (arith, s .pre .2, s .pre .3)))
+    (λ c. search needs)
+    (λ c. search needs)
     (λ c.
-    let rename-into = c .before .before .before .before .rename-into in
-    rename-into .kept .1 .1 .0)
-    (λ c. c .before .before .before .before .rename-into .kept .1 .1 .1 .1 .1 .1 .0)
-    (λ c.
-    let if1 = c .before .before .before .before .before .before .before .if1 in
-    let rename-into = c .before .before .before .before .rename-into in
-    part-moved _ _ _ _ _ _ _ _ (if1 .left) (rename-into .ensures)))
+    let moves : tie.Else1 = search in
+    let renamed : tie.After-rename-into = search in
+    part-moved (moves .if1 .left) (renamed .rename-into .ensures)))

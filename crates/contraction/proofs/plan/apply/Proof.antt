@@ -1,46 +1,50 @@
 -- The body and the value stand in a row behind the two nodes.
 use native.Mathlib.Omega.{arith}
-use Rattle.words.proofs.PartsAt.{row-high, row-starts, row-next}
+use Prim.Native.Nat.{_+_, _≤_}
 use Rattle.binding.proofs.UsesByNode.{counts-sized}
-use Rattle.contraction.proofs.RedexRows.{redex-row, of-apply}
+use Rattle.contraction.specs.Sizes.{StartsAt, StartsTwo, SizedTwo}
+use Rattle.contraction.proofs.RedexRows.{redex-row, of-apply, row-two, two-sized}
 use Rattle.contraction.proofs.RedexSizes.{apply-measures, counted-with}
+use borrow.Author.Needs.{needs}
 use Rattle.contraction.proofs.plan.apply.Statement.{statement}
 use Rattle.contraction.proofs.plan.apply.Tie as tie
+
+abbrev entry : tie.After-uses-from → tie.Start
+entry c = c .before .before .before .before .before
+
+abbrev counted : tie.After-size-from → tie.After-uses-from
+counted c = c .before .before .before .before
+
+two : (c : tie.Start) → StartsTwo (c .args .calls .now) (c .args .t .now) 2
+two c = row-two (redex-row of-apply (c .pre .0)) (omega arith)
+
+-- the body is counted
+value : (c : tie.After-uses-from)
+    → (let s = entry c .args in StartsAt (s .calls .now) (s .t .now) (2 + c .uses-from .result .end))
+value c = two (entry c) .second _ (counts-sized (c .uses-from .ensures))
+
+value-small : (c : tie.After-uses-from) → 2 + c .uses-from .result .end ≤ 8192
+value-small c = omega (arith, value c .inside, entry c .pre .1)
+
+-- the value is measured
+sizes : (c : tie.After-size-from)
+    → (let s = entry (counted c) .args in
+    SizedTwo (s .calls .now) (s .t .now) 2 (counted c .uses-from .result .end) (c .size-from .result))
+sizes c = two-sized (two (entry (counted c))) (counts-sized (counted c .uses-from .ensures)) (c .size-from .ensures)
+
+end-small : (c : tie.After-size-from) → 2 + counted c .uses-from .result .end + c .size-from .result ≤ 8192
+end-small c = omega (arith, sizes c .inside, entry (counted c) .pre .1)
 
 pub apply-spec : {M : Type 1} → statement M
 apply-spec =
     tie.close
     (tie.spec
-    (λ c κs.
-    let pre = c .before .before .before .before .pre in
-    let row₁ = redex-row _ _ of-apply (pre .0) in
-    (row-starts _ _ row₁ (omega arith), row-high _ _ row₁, pre .1, pre .2))
+    (λ c κs. let s : tie.Start = search in (two s .first, s .pre .1, s .pre .2))
+    (λ c. omega (arith, value-small (search)))
+    (λ c κs. let s : tie.Start = search in (value (search), s .pre .1))
+    (λ c. omega (arith, end-small (search)))
+    (λ c κs. (counted c .uses-from .ensures .few, omega (arith, end-small (search)), omega (arith, end-small (search))))
+    (λ c. search needs)
     (λ c.
-    let pre = c .before .before .before .before .before .before .before .before .pre in
-    let row₁ = redex-row _ _ of-apply (pre .0) in
-    let row₂ = row-next _ _ row₁ (omega arith) _ (counts-sized (c .before .before .before .uses-from .ensures)) in
-    omega (arith, row-high _ _ row₂, pre .1))
-    (λ c κs.
-    let pre = c .before .before .before .before .before .before .before .before .pre in
-    let row₁ = redex-row _ _ of-apply (pre .0) in
-    let row₂ = row-next _ _ row₁ (omega arith) _ (counts-sized (c .before .before .before .uses-from .ensures)) in
-    (row-starts _ _ row₂ (omega arith), row-high _ _ row₂, pre .1))
-    (λ c.
-    let pre = c .before .before .before .before .before .before .before .before .before .pre in
-    let uses-from = c .before .before .before .before .uses-from in
-    let row₁ = redex-row _ _ of-apply (pre .0) in
-    let row₂ = row-next _ _ row₁ (omega arith) _ (counts-sized (uses-from .ensures)) in
-    let row₃ = row-next _ _ row₂ (omega arith) _ (c .size-from .ensures) in
-    omega (arith, row-high _ _ row₃, pre .1))
-    (λ c κs.
-    let pre = c .before .before .before .before .before .before .before .before .before .pre in
-    let uses-from = c .before .before .before .before .uses-from in
-    let row₁ = redex-row _ _ of-apply (pre .0) in
-    let row₂ = row-next _ _ row₁ (omega arith) _ (counts-sized (uses-from .ensures)) in
-    let row₃ = row-next _ _ row₂ (omega arith) _ (c .size-from .ensures) in
-    (uses-from .ensures .few, omega (arith, row-high _ _ row₂, pre .1), omega (arith, row-high _ _ row₃, pre .1)))
-    (λ c. c .before .before .before .before .before .uses-from .kept .1 .1 .1 .0)
-    (λ c.
-    let uses-from = c .before .before .before .before .before .uses-from in
-    let counts = uses-from .ensures in
-    apply-measures _ _ _ _ _ (counts-sized counts) (c .before .size-from .ensures) (counted-with counts (c .substituted .ensures))))
+    let v : tie.After-size-from = search in
+    apply-measures (sizes v) (counted-with (counted v .uses-from .ensures) (c .substituted .ensures))))

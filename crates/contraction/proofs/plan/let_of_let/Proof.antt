@@ -1,51 +1,41 @@
 -- The bound part and the two bodies stand in a row behind the two nodes.
 use native.Mathlib.Omega.{arith}
-use Rattle.words.proofs.PartsAt.{row-high, row-starts, row-next}
-use Rattle.contraction.proofs.RedexRows.{redex-row, of-let}
+use Prim.Native.Nat.{_+_, _≤_}
+use Rattle.contraction.specs.Sizes.{StartsAt, StartsTwo}
+use Rattle.contraction.proofs.RedexRows.{redex-row, of-let, row-two, row-third, sized-inside}
 use Rattle.contraction.proofs.RedexSizes.{let-of-let-measures}
 use Rattle.contraction.proofs.plan.let_of_let.Statement.{statement}
 use Rattle.contraction.proofs.plan.let_of_let.Tie as tie
+
+abbrev entry : tie.After-two-sizes → tie.Start
+entry c = c .before .before .before
+
+abbrev sizes : tie.After-size-from → tie.After-two-sizes
+sizes c = c .before .before .before
+
+two : (c : tie.Start) → StartsTwo (c .args .calls .now) (c .args .t .now) 2
+two c = row-two (redex-row of-let (c .pre .0)) (omega arith)
+
+third : (c : tie.After-two-sizes)
+    → (let s = entry c .args in
+    let r = c .two-sizes .result in
+    StartsAt (s .calls .now) (s .t .now) (2 + r .first + r .second))
+third c = row-third (redex-row of-let (entry c .pre .0)) (omega arith) (c .two-sizes .ensures)
+
+third-small : (c : tie.After-two-sizes) → 2 + c .two-sizes .result .first + c .two-sizes .result .second ≤ 8192
+third-small c = omega (arith, third c .inside, entry c .pre .1)
+
+end-small : (c : tie.After-size-from)
+    → (let r = sizes c .two-sizes .result in 2 + r .first + r .second + c .size-from .result ≤ 8192)
+end-small c = omega (arith, sized-inside (third (sizes c)) (c .size-from .ensures), entry (sizes c) .pre .1)
 
 pub let-of-let-spec : {M : Type 1} → statement M
 let-of-let-spec =
     tie.close
     (tie.spec
-    (λ c κs.
-    let pre = c .before .before .pre in
-    let row₁ = redex-row _ _ of-let (pre .0) in
-    (row-starts _ _ row₁ (omega arith), row-high _ _ row₁, pre .1))
-    (λ c.
-    let pre = c .before .before .before .pre in
-    let row₁ = redex-row _ _ of-let (pre .0) in
-    let row₂ = row-next _ _ row₁ (omega arith) _ (c .size-from .ensures) in
-    omega (arith, row-high _ _ row₂, pre .1))
-    (λ c κs.
-    let pre = c .before .before .before .pre in
-    let row₁ = redex-row _ _ of-let (pre .0) in
-    let row₂ = row-next _ _ row₁ (omega arith) _ (c .size-from .ensures) in
-    (row-starts _ _ row₂ (omega arith), row-high _ _ row₂, pre .1))
-    (λ c.
-    let pre = c .before .before .before .before .pre in
-    let size-from = c .before .size-from in
-    let row₁ = redex-row _ _ of-let (pre .0) in
-    let row₂ = row-next _ _ row₁ (omega arith) _ (size-from .ensures) in
-    let row₃ = row-next _ _ row₂ (omega arith) _ (c .size-from2 .ensures) in
-    omega (arith, row-high _ _ row₃, pre .1))
-    (λ c κs.
-    let pre = c .before .before .before .before .pre in
-    let size-from = c .before .size-from in
-    let row₁ = redex-row _ _ of-let (pre .0) in
-    let row₂ = row-next _ _ row₁ (omega arith) _ (size-from .ensures) in
-    let row₃ = row-next _ _ row₂ (omega arith) _ (c .size-from2 .ensures) in
-    (row-starts _ _ row₃ (omega arith), row-high _ _ row₃, pre .1))
-    (λ c.
-    let pre = c .before .before .before .before .before .pre in
-    let size-from = c .before .before .size-from in
-    let row₁ = redex-row _ _ of-let (pre .0) in
-    let row₂ = row-next _ _ row₁ (omega arith) _ (size-from .ensures) in
-    let row₃ = row-next _ _ row₂ (omega arith) _ (c .before .size-from2 .ensures) in
-    let row₄ = row-next _ _ row₃ (omega arith) _ (c .size-from3 .ensures) in
-    omega (arith, row-high _ _ row₄, pre .1))
-    (λ c.
-    let size-from = c .before .before .size-from in
-    let-of-let-measures _ _ _ _ _ (size-from .ensures) (c .before .size-from2 .ensures) (c .size-from3 .ensures)))
+    (λ c κs. let s : tie.Start = search in (two s, s .pre .1))
+    (λ c. omega (arith, third-small (search)))
+    (λ c. omega (arith, third-small (search)))
+    (λ c κs. let s : tie.Start = search in (third (search), s .pre .1))
+    (λ c. omega (arith, end-small (search)))
+    (λ c. let-of-let-measures (sizes c .two-sizes .ensures) (c .size-from .ensures)))

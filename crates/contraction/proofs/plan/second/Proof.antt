@@ -1,29 +1,23 @@
--- The halves stand in a row behind the two nodes.
+-- The halves stand in a row behind the two nodes, and the second stays.
 use native.Mathlib.Omega.{arith}
-use Rattle.words.proofs.PartsAt.{row-high, row-starts, row-next}
-use Rattle.contraction.proofs.RedexRows.{redex-row, of-second}
+use Prim.Native.Nat.{_+_, _≤_}
+use Rattle.contraction.specs.Sizes.{StartsTwo}
+use Rattle.contraction.proofs.RedexRows.{redex-row, of-second, row-two}
 use Rattle.contraction.proofs.RedexSizes.{second-measures}
 use Rattle.contraction.proofs.plan.second.Statement.{statement}
 use Rattle.contraction.proofs.plan.second.Tie as tie
 
+two : (c : tie.Start) → StartsTwo (c .args .calls .now) (c .args .t .now) 2
+two c = row-two (redex-row of-second (c .pre .0)) (omega arith)
+
+end-small : (c : tie.After-two-sizes) → 2 + c .two-sizes .result .first + c .two-sizes .result .second ≤ 8192
+end-small c = let s : tie.Start = search in omega (arith, c .two-sizes .ensures .inside, s .pre .1)
+
 pub second-spec : {M : Type 1} → statement M
-second-spec = tie.close (tie.spec (λ c κs.
-    let pre = c .before .before .pre in
-    let row₁ = redex-row _ _ of-second (pre .0) in
-    (row-starts _ _ row₁ (omega arith), row-high _ _ row₁, pre .1)) (λ c.
-    let pre = c .before .before .before .pre in
-    let row₁ = redex-row _ _ of-second (pre .0) in
-    let row₂ = row-next _ _ row₁ (omega arith) _ (c .size-from .ensures) in
-    omega (arith, row-high _ _ row₂, pre .1)) (λ c κs.
-    let pre = c .before .before .before .pre in
-    let row₁ = redex-row _ _ of-second (pre .0) in
-    let row₂ = row-next _ _ row₁ (omega arith) _ (c .size-from .ensures) in
-    (row-starts _ _ row₂ (omega arith), row-high _ _ row₂, pre .1)) (λ c.
-    let pre = c .before .before .before .before .pre in
-    let size-from = c .before .size-from in
-    let row₁ = redex-row _ _ of-second (pre .0) in
-    let row₂ = row-next _ _ row₁ (omega arith) _ (size-from .ensures) in
-    let row₃ = row-next _ _ row₂ (omega arith) _ (c .size-from2 .ensures) in
-    omega (arith, row-high _ _ row₃, pre .1)) (λ c.
-    let size-from = c .before .size-from in
-    second-measures _ _ _ _ (size-from .ensures) (c .size-from2 .ensures)))
+second-spec =
+    tie.close
+    (tie.spec
+    (λ c κs. let s : tie.Start = search in (two s, s .pre .1))
+    (λ c. omega (arith, end-small (search)))
+    (λ c. omega (arith, end-small (search)))
+    (λ c. let z : tie.After-two-sizes = search in second-measures (z .two-sizes .ensures)))

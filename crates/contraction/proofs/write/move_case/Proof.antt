@@ -1,53 +1,62 @@
 -- The words of a case and its subject, and the let over the outer body in each branch.
+--
+-- Why it is right: the plan says that the whole has room, so each of the two lets has (`facts`, `left-room`, `right-room`); the second
+-- begins where the first ended, since that says how many words it wrote. That the words are those of the contractum is `case-writes`.
 use native.Mathlib.Omega.{arith}
-use mathlib.Core.Path.{_∙_}
-use lib.ListN.{length-set}
+use Prim.Native.Nat.{_+_}
+use mathlib.Core.Path.{_≡_, _∙_}
+use lib.ListN.{length, getD, set, length-set}
+use Rattle.contraction.specs.Writers.{LetRoom}
 use Rattle.contraction.proofs.LetOver.{let-room}
-use Rattle.contraction.proofs.Contracta.{moving-case, case-writes}
+use Rattle.contraction.proofs.Contracta.{MovingCase, moving-case, case-writes}
+use borrow.Author.Needs.{needs}
 use Rattle.contraction.proofs.write.move_case.Statement.{statement}
 use Rattle.contraction.proofs.write.move_case.Tie as tie
+
+-- where the left branch is written, and where the right one is
+abbrev Left : Type 0
+Left = tie.After-let-over
+
+abbrev Right : Type 0
+Right = tie.After-let-over2
+
+abbrev entry : Left → tie.Start
+entry c = c .before .before .before .before .before .before .before .before
+
+abbrev left : Right → Left
+left c = c .before .before .before .before .before .before .before
+
+facts : (c : tie.Start) → MovingCase (c .args .calls .now) (c .args .t .now) (c .args .right) (c .args .third) (length (c .args .dst .now))
+facts c = moving-case (c .pre .0)
+
+left-long : (c : Left) → length (c .let-over .last .1 .1 .1 .1 .1 .0) ≡ length (entry c .args .dst .now)
+left-long c = c .let-over .kept .1 .1 .1 .1 .1 .0 ∙ simp length-set
+
+right-room : (c : Left)
+    → (let s = entry c .args in
+    LetRoom (s .calls .now) (s .t .now) (s .right) (s .third) (s .third) (length (c .let-over .last .1 .1 .1 .1 .1 .0))
+    (2 + c .let-over .result))
+right-room c = let-room (facts (entry c) .other _ _ _ (c .let-over .ensures)) (left-long c)
 
 pub move-case-spec : {M : Type 1} → statement M
 move-case-spec =
     tie.close
     (tie.spec
+    (λ c. omega (arith, facts (search) .room))
+    (λ c. facts (search) .subject)
+    (λ c. let s : tie.Start = search in omega (arith, facts s .room, length-set (s .args .dst .now) 0 11529215046068469760))
+    (λ c κs. let s : tie.Start = search in (let-room (facts s .left) (simp length-set), s .pre .1, s .pre .2))
     (λ c.
-    let pre = c .before .before .before .before .pre in
-    omega (arith, moving-case _ _ _ _ _ (pre .0) .room))
-    (λ c.
-    let pre = c .before .before .before .before .before .pre in
-    moving-case _ _ _ _ _ (pre .0) .subject)
-    (λ c.
-    let pre = c .before .before .before .before .before .pre in
-    let args = c .before .before .before .before .before .args in
-    omega (arith, moving-case _ _ _ _ _ (pre .0) .room, length-set (args .dst .now) 0 11529215046068469760))
+    let l : Left = search in
+    let s = entry l in
+    omega (arith, right-room l .room, left-long l, s .good))
     (λ c κs.
-    let pre = c .before .before .before .before .before .before .before .pre in
-    (let-room _ _ _ _ _ _ _ (moving-case _ _ _ _ _ (pre .0) .left) _ (simp length-set), pre .1, pre .2))
+    let l : Left = search in
+    let s = entry l in
+    (right-room l, s .pre .1, omega (arith, s .pre .2, l .let-over .kept .1 .1 .1 .1 .1 .1 .1 .0)))
+    (λ c. let r : Right = search in r .let-over2 .kept .1 .1 .1 .1 .1 .0 ∙ left-long (left r))
+    (λ c. search needs)
     (λ c.
-    let pre = c .before .before .before .before .before .before .before .before .before .before .before .before .before .pre in
-    let let-over = c .before .before .before .before .before .let-over in
-    let good = c .before .before .before .before .before .before .before .before .before .before .before .before .before .good in
-    omega (arith, moving-case _ _ _ _ _ (pre .0) .other _ _ _ (let-over .ensures) .room, good))
-    (λ c κs.
-    let pre = c .before .before .before .before .before .before .before .before .before .before .before .before .before .before .pre in
-    let let-over = c .before .before .before .before .before .before .let-over in (
-      let-room _ _ _ _ _ _ _ (moving-case _ _ _ _ _ (pre .0) .other _ _ _ (let-over .ensures)) _
-          (let-over .kept .1 .1 .1 .1 .1 .0 ∙ simp length-set),
-      pre .1,
-      omega (arith, pre .2, let-over .kept .1 .1 .1 .1 .1 .1 .1 .0),
-    ))
-    (λ c.
-    let let-over2 = c .before .before .before .before .let-over2 in
-    let let-over = c .before .before .before .before .before .before .before .before .before .before .before .let-over in
-    let-over2 .kept .1 .1 .1 .1 .1 .0 ∙ (let-over .kept .1 .1 .1 .1 .1 .0 ∙ simp length-set))
-    (λ c.
-    let let-over2 = c .before .before .before .before .let-over2 in
-    let let-over = c .before .before .before .before .before .before .before .before .before .before .before .let-over in
-    let-over2 .kept .1 .1 .1 .1 .1 .1 .1 .0 ∙ let-over .kept .1 .1 .1 .1 .1 .1 .1 .0)
-    (λ c.
-    let args = c .before .before .before .before .before .before .before .before .before .before .before .before .before .before
-    .before .before .before .before .before .args in
-    let let-over = c .before .before .before .before .before .before .before .before .before .before .before .let-over in
-    let let-over2 = c .before .before .before .before .let-over2 in
-    case-writes _ _ _ _ _ _ (args .dst .now) _ _ (let-over .ensures) (let-over2 .ensures)))
+    let r : Right = search in
+    let l = left r in
+    case-writes (entry l .args .dst .now) (l .let-over .ensures) (r .let-over2 .ensures)))

@@ -1,52 +1,39 @@
 -- One substitution, from the front of the buffer on.
+--
+-- Why it is right: the plan says where the body and the value stand, and that the body with the value in it has room (`facts`).
 use native.Mathlib.Omega.{arith}
+use lib.ListN.{length}
 use Rattle.words.proofs.Traversal.{from-length}
-use Rattle.contraction.proofs.Contracta.{putting, put-writes}
+use Rattle.contraction.proofs.Contracta.{Putting, putting, put-writes}
 use borrow.Author.Needs.{needs}
 use Rattle.contraction.proofs.write.substitute.Statement.{statement}
 use Rattle.contraction.proofs.write.substitute.Tie as tie
+
+facts : (c : tie.Start)
+    → Putting (c .args .calls .now) (c .args .t .now) (c .args .body) (c .args .value) (c .args .size) (length (c .args .dst .now))
+facts c = putting (c .pre .0)
 
 pub substitute-spec : {M : Type 1} → statement M
 substitute-spec =
     tie.close
     (tie.spec
-    (λ c.
-    let pre = c .before .before .before .before .pre in
-    omega (arith, putting _ _ _ _ _ (pre .0) .value-in, pre .1))
-    (λ c.
-    let pre = c .before .before .before .before .pre in
-    omega (arith, putting _ _ _ _ _ (pre .0) .body-in, pre .1))
-    (λ c.
-    let pre = c .before .before .before .before .pre in
-    putting _ _ _ _ _ (pre .0) .body-in)
-    (λ c.
-    let pre = c .before .before .before .before .pre in
-    putting _ _ _ _ _ (pre .0) .body-in)
+    (λ c. let s : tie.Start = search in omega (arith, facts s .value-in, s .pre .1))
+    (λ c. let s : tie.Start = search in omega (arith, facts s .body-in, s .pre .1))
+    (λ c. facts (search) .body-in)
+    (λ c. facts (search) .body-in)
     (λ c. search needs)
-    (λ c.
-    let pre = c .before .before .before .before .before .pre in
-    omega (arith, putting _ _ _ _ _ (pre .0) .value-in, pre .1))
+    (λ c. let s : tie.Start = search in omega (arith, facts s .value-in, s .pre .1))
     (λ c. search needs)
     (λ c. search needs)
-    (λ c.
-    let pre = c .before .before .before .before .before .pre in
-    putting _ _ _ _ _ (pre .0) .value-in)
+    (λ c. facts (search) .value-in)
     (λ c κs.
-    let pre = c .before .before .before .before .before .before .before .before .pre in
-    let args = c .before .before .before .before .before .before .before .before .args in
-    let put = putting _ _ _ _ _ (pre .0) in (
-      put .room _ (omega (arith, pre .1, pre .2)),
+    let s : tie.Start = search in (
+      facts s .room _ (omega (arith, s .pre .1, s .pre .2)),
       (
-        omega (arith, from-length (args .t .now) (args .body), pre .1),
-        omega (arith, put .value-length, put .value-in, pre .1),
+        omega (arith, from-length (s .args .t .now) (s .args .body), s .pre .1),
+        omega (arith, facts s .value-length, facts s .value-in, s .pre .1),
       ),
     ))
-    (λ c.
-    let substitute-into = c .before .before .before .before .substitute-into in
-    substitute-into .kept .1 .1 .1 .0)
-    (λ c.
-    let substitute-into = c .before .before .before .before .substitute-into in
-    substitute-into .kept .1 .1 .1 .1 .1 .1 .0)
-    (λ c.
-    let substitute-into = c .before .before .before .before .substitute-into in
-    put-writes _ _ _ _ _ _ _ _ (substitute-into .ensures)))
+    (λ c. search needs)
+    (λ c. search needs)
+    (λ c. let w : tie.After-substitute-into = search in put-writes (w .substitute-into .ensures)))

@@ -1,10 +1,11 @@
--- No redex stands before the word that the scan has reached.
+-- Why `first_redex` is right. Every word is the first of a node, and no rule fits a node before the word that the scan has reached
+-- (`Scanned`). So the first node that a rule fits is the first redex, and at the end there is none.
 use borrow.Author.Needs.{needs}
 use Prim.Native.Nat.{_-_}
 use native.Mathlib.Omega.{arith}
 use lib.ListN.{length}
 use Rattle.words.proofs.Traversal.{from-length}
-use Rattle.search.proofs.ForwardScan.{Scanned, scan-enter, scan-starts, scan-next, scan-found, scan-end}
+use Rattle.search.proofs.ForwardScan.{Scanned, forward-enter, forward-starts, forward-next, forward-found, forward-end}
 use Rattle.search.proofs.redex.first_redex.Statement.{statement}
 use Rattle.search.proofs.redex.first_redex.Tie as tie
 
@@ -14,36 +15,44 @@ Inv-loop phase calls rest k₀ k = Scanned phase calls rest k
 abbrev μ-loop : tie.MeasureT-loop
 μ-loop phase calls rest k₀ k = length rest - k
 
+abbrev Entry : Type 0
+Entry = tie.Start Inv-loop μ-loop
+
+abbrev Head : Type 0
+Head = tie.At-loop Inv-loop μ-loop
+
+abbrev Tried : Type 0
+Tried = tie.After-fit Inv-loop μ-loop
+
+abbrev entry : Head → Entry
+entry c = c .before .before .before
+
+abbrev head : Tried → Head
+head c = c .before .before .before
+
 pub first-redex-spec : {M : Type 1} → statement M
 first-redex-spec =
     tie.close
     (tie.spec
     Inv-loop
     μ-loop
-    (λ c. scan-enter _ _ _)
+    (λ c. forward-enter _ _ _)
     (λ c. search needs)
     (λ c. search needs)
     (λ c. search needs)
     (λ c. search needs)
     (λ c κs.
-    let pre = c .before .before .before .before .before .pre in
-    let args = c .before .before .before .before .before .args in
-    let loop = c .before .before .loop in
-    (scan-starts _ _ _ _ (c .before .loop-test .taken) (pre .0), omega (arith, from-length (args .rest .now) (loop .k), pre .1)))
+    let l : Head = search in
+    let s = entry l in
+    (forward-starts _ _ _ _ (search) (s .pre .0), omega (arith, from-length (s .args .rest .now) (l .loop .k), s .pre .1)))
     (λ c. search needs)
     (λ c.
-    let loop-test = c .before .before .before .before .before .loop-test in
-    let loop = c .before .before .before .before .before .before .loop in
-    let fit = c .before .before .before .fit in
-    scan-found _ _ _ _ (loop-test .taken) (loop .inv) (fit .ensures) _ _ (c .before .found .given .1))
+    let f : Tried = search in
+    forward-found _ _ _ _ (search) (head f .loop .inv) (f .fit .ensures) _ _ (c .before .found .given .1))
     (λ c. search needs)
     (λ c. search needs)
     (λ c. search needs)
     (λ c.
-    let loop-test = c .before .before .before .before .loop-test in
-    let loop = c .before .before .before .before .before .loop in
-    let fit = c .before .before .fit in
-    scan-next _ _ _ _ (loop-test .taken) (loop .inv) (fit .ensures) (c .enum-told .given .1))
-    (λ c.
-    let loop = c .before .loop in
-    scan-end _ _ _ _ (loop .inv) (c .loop-test .left)))
+    let f : Tried = search in
+    forward-next _ _ _ _ (search) (head f .loop .inv) (f .fit .ensures) (c .enum-told .given .1))
+    (λ c. forward-end _ _ _ _ (c .before .loop .inv) (c .loop-test .left)))

@@ -1,296 +1,245 @@
--- Ahead are the terms of the front, and under one binder more those of the back; the final marks tell the least place.
+-- Why `scan_part` is right. Ahead are a row of `owed` terms and, under one binder more, a row of `later` ones (`Scanning`). If the first
+-- row is empty, the binder is marked and the second row becomes the first. A variable raises the mark of its binder. The parts of a node
+-- without inner parts come into the row. A node with inner parts is gone into if nothing else is ahead, so that the binders marked here
+-- are those on one path; any other is gone through by a call, on fewer words (`fewer`). If nothing is ahead, the marks are final: the
+-- least place is the least of them and of what the calls found.
+mod Measures
 use borrow.Author.Needs.{needs}
-use Prim.Native.Nat.{_+_, _-_, _*_}
+use Prim.Native.Nat.{ℕ, _+_, _-_, _*_, _≤_, _<_}
 use native.Mathlib.Omega.{arith}
-use mathlib.Core.Path.{refl}
-use lib.ListN.{length}
+use mathlib.Core.Path.{_≡_, refl}
+use mathlib.Core.List.{List}
+use lib.ListN.{length, getD}
+use contract.Lifetimes.{Lfts}
+use borrow.Fn.Kinds.{In, Dens, Plain}
+use Rattle.words.specs.Fronts.{Starts, from}
 use Rattle.words.proofs.Traversal.{from-length}
 use Rattle.words.proofs.Rows.{march-inside}
+use Rattle.search.specs.Unused.{MarkSpace}
 use Rattle.search.proofs.UnusedRows.{Scanning, scan-begin, scan-end, scan-open, scan-deep, scan-starts, scan-room, scan-raisable}
-use Rattle.search.proofs.UnusedSteps.{part-moves, scan-part, scan-variable, outer-few, scan-flat, scan-enter}
-use Prim.Native.Nat.{ℕ, _<_}
-use borrow.Fn.Kinds.{In}
-use borrow.Fn.PlainCycle.{Measures, is, falls, and}
-use Rattle.search.proofs.unused.scan_part.Reads as scan-part
-use Rattle.search.proofs.unused.scan_part.Kinds as scan-part-kinds
-use Rattle.search.proofs.unused.+scan_part.Lts-scan_part as scan-part-lts
-use Rattle.words.proofs.fields.kind.Reads as kind-reads
-use Rattle.words.proofs.fields.number.Reads as number-reads
-use Rattle.words.proofs.shape.outer_count.Reads as outer-count-reads
-use Rattle.words.proofs.shape.part_count.Reads as part-count-reads
-use Rattle.search.proofs.marks.mark.Reads as mark-reads
-use Rattle.search.proofs.unused.least_mark.Reads as least-mark-reads
-use Rattle.search.proofs.unused.lesser.Reads as lesser-reads
-use Rattle.search.proofs.unused.open_mark.Reads as open-mark-reads
+use Rattle.search.proofs.UnusedSteps.{part-moves, scan-part, scan-variable}
+use Rattle.search.proofs.UnusedNodes.{NodeParts, outer-few, scan-flat, scan-enter}
+use Rattle.search.proofs.unused.scan_part.Reads as scan-part-reads
+use Rattle.search.proofs.unused.+scan_part.Lts-scan_part as lts
 use Rattle.search.proofs.unused.+scan_part.{statement}
 use Rattle.search.proofs.unused.+scan_part.Tie.{close}
+use Rattle.search.proofs.unused.+scan_part.Proof.Measures.{μ-scan-part, scan-part-at, claims}
 
-abbrev μ-scan-part : Measures 3 scan-part-kinds.ps ℕ
-μ-scan-part κs a = length (a .1 .0 .now)
-
-abbrev scan-part-Inv-loop : scan-part-lts.InvT-loop
-scan-part-Inv-loop calls t used₀ depth base owed₀ later₀ fresh₀ under₀ at₀ first₀ used owed later fresh under at first =
+abbrev Inv-loop : lts.InvT-loop
+Inv-loop calls t used₀ depth base owed₀ later₀ fresh₀ under₀ at₀ first₀ used owed later fresh under at first =
     Scanning calls t base depth used₀ used owed later under at fresh first
 
-abbrev scan-part-μ-loop : scan-part-lts.MeasureT-loop
-scan-part-μ-loop calls t used₀ depth base owed₀ later₀ fresh₀ under₀ at₀ first₀ used owed later fresh under at first =
-    16 * (length t - at) + later
+abbrev μ-loop : lts.MeasureT-loop
+μ-loop calls t used₀ depth base owed₀ later₀ fresh₀ under₀ at₀ first₀ used owed later fresh under at first = 16 * (length t - at) + later
 
-abbrev scan-part-at : ℕ → In 3 scan-part-kinds.ps
-scan-part-at t = and 3 scan-part-kinds.ps (is 3 scan-part-kinds.ps μ-scan-part t) scan-part.Pre
+-- the type of a place of the code
+abbrev Place : Type 1
+Place =
+    lts.Claims → In 3 lts.ps → ((κs : Lfts 3) (a : Dens κs lts.ps) → Plain 3 lts.ps lts.r κs) → lts.InvT-loop → lts.MeasureT-loop → Type 0
 
-abbrev scan-part-below : ℕ → In 3 scan-part-kinds.ps
-scan-part-below t =
-    and 3 scan-part-kinds.ps (falls 3 scan-part-kinds.ps _<_ μ-scan-part t) scan-part.Pre
+-- the terms ahead have words, and all words have places
+record Reach (at ahead len base : ℕ) : Type 0 where
+  inside : at + ahead ≤ len
+  short : len ≤ 8192
+  placed : base + len ≤ 65536
+
+module _ (m : ℕ) where
+  -- the places, from the top of the code to its end, and the way back from each to the one above it
+  abbrev place : Place → Type 0
+  place P = P (claims m) (scan-part-at m) scan-part-reads.Post Inv-loop μ-loop
+
+  abbrev Entry : Type 0
+  Entry = place lts.Start
+
+  abbrev Head : Type 0
+  Head = place lts.At-loop
+
+  abbrev RowDone : Type 0
+  RowDone = place lts.Then1
+
+  abbrev Ahead : Type 0
+  Ahead = place lts.Else1
+
+  abbrev Kinded : Type 0
+  Kinded = place lts.After-kind
+
+  abbrev Counted : Type 0
+  Counted = place lts.After-outer-count
+
+  abbrev Called : Type 0
+  Called = place lts.After-scan-part
+
+  abbrev entry : Head → Entry
+  entry c = c .before .before .before .before
+
+  abbrev done-head : RowDone → Head
+  done-head c = c .before .before
+
+  abbrev head : Ahead → Head
+  head c = c .before .before
+
+  abbrev ahead : Kinded → Ahead
+  ahead c = c .before .before
+
+  abbrev kinded : Counted → Kinded
+  kinded c = c .before .before .before
+
+  abbrev counted : Called → Counted
+  counted c = c .before .before .before .before .before
+
+  abbrev turn : Counted → Head
+  turn c = head (ahead (kinded c))
+
+  -- at the head of the loop
+  reach : (c : Head)
+      → (let s = entry c .args in
+      let l = c .loop in
+      Reach (l .at) (l .owed + l .later) (length (s .t .now)) (s .base))
+  reach c = record {
+    inside = march-inside _ _ (c .loop .inv .going);
+    short = entry c .pre .1 .1 .0;
+    placed = entry c .pre .1 .1 .1;
+  }
+
+  deep : (c : Head) → c .loop .under ≤ length (c .loop .used)
+  deep c = omega (arith, c .loop .inv .near, reach c, entry c .pre .1 .0 .1 .deep, c .loop .inv .len)
+
+  -- where the first row is empty, and there is a second
+  second : (c : RowDone) → 1 ≤ done-head c .loop .later
+  second c = omega (arith, c .if1 .taken, c .before .loop-test .taken)
+
+  marked : (c : RowDone) → done-head c .loop .under < length (done-head c .loop .used)
+  marked c = scan-deep _ _ _ _ _ (done-head c .loop .inv) (entry (done-head c) .pre .1 .0 .1) (second c)
+
+  shallow : (c : RowDone) → done-head c .loop .under < 65536
+  shallow c = omega (arith, marked c, done-head c .loop .inv .len, entry (done-head c) .pre .1 .0 .1 .small)
+
+  -- where a term of the first row is ahead
+  some : (c : Ahead) → 1 ≤ head c .loop .owed
+  some c = omega (arith, c .if1 .left)
+
+  abbrev tail : Ahead → List ℕ
+  tail c = from (entry (head c) .args .t .now) (head c .loop .at)
+
+  starts : (c : Ahead) → Starts (entry (head c) .args .calls .now) (tail c)
+  starts c = scan-starts _ _ _ _ _ (head c .loop .inv) (some c)
+
+  room : (c : Ahead) → MarkSpace (head c .loop .used) (head c .loop .under) (length (tail c))
+  room c = scan-room _ _ _ _ _ (head c .loop .inv) (some c) (entry (head c) .pre .1 .0 .1)
+
+  rest : (c : Ahead) → length (tail c) + head c .loop .at ≡ length (entry (head c) .args .t .now)
+  rest c = omega (arith, from-length (entry (head c) .args .t .now) (head c .loop .at), reach (head c))
+
+  -- where its parts are counted
+  parts : (c : Counted)
+      → (let l = turn c .loop in
+      let s = entry (turn c) .args in
+      NodeParts (s .calls .now) (getD (s .t .now) (l .at) 0) (kinded c .kind .result) (c .before .part-count .result)
+      (c .outer-count .result))
+  parts c = record {
+    kind-is = kinded c .kind .ensures;
+    compound = c .before .before .if2 .left;
+    parts-are = c .before .part-count .ensures .0;
+    outers-are = c .outer-count .ensures;
+  }
+
+  few : (c : Counted) → c .before .part-count .result ≤ 15
+  few c = c .before .part-count .ensures .1
+
+  -- where it is left to a call
+  fewer : (c : place lts.Else4)
+      → (let a = ahead (kinded (c .before .before)) in
+      length (tail a) < length (entry (head a) .args .t .now))
+  fewer c = omega (arith, rest (search), turn (c .before .before) .loop .inv .further (c .if4 .left))
+
+  moved : (c : Called)
+      → (let l = turn (counted c) in
+      let e = c .scan-part .result .end in
+      (1 ≤ e) × (l .loop .at + e ≤ length (entry l .args .t .now)))
+  moved c =
+      let a = c .scan-part .ensures in
+      (part-moves (turn (counted c) .loop .inv) (some (search)) a, omega (arith, a .within, rest (search)))
+
+  scan-part-meets : {M : Type 1} → lts.Closed (claims m) (scan-part-at m) scan-part-reads.Post M
+  scan-part-meets =
+      lts.spec
+      (claims m)
+      (scan-part-at m)
+      scan-part-reads.Post
+      Inv-loop
+      μ-loop
+      (λ c.
+      let s : Entry = search in
+      scan-begin _ _ _ _ _ (s .pre .1 .0 .0) (s .pre .1 .0 .1))
+      (λ c. omega (arith, reach (search)))
+      (λ c. omega (arith, shallow (search)))
+      (λ c. marked (search))
+      (λ c. omega (arith, shallow (search)))
+      (λ c. omega (arith, second (search)))
+      (λ c. scan-open _ _ _ _ _ (done-head c .loop .inv) (c .if1 .taken) (second c) (marked c))
+      (λ c. omega (arith, reach (search)))
+      (λ c. omega (arith, reach (search), some (search)))
+      (λ c κs. search needs)
+      (λ c κs. search needs)
+      (λ c κs.
+      let l : Head = search in
+      scan-raisable _ _ _ _ _ (l .loop .inv) (some (search)) (entry l .pre .1 .0 .1) _ (omega arith))
+      (λ c. omega (arith, reach (search)))
+      (λ c. omega (arith, some (search)))
+      (λ c. omega (arith, reach (search), some (search)))
+      (λ c.
+      let l : Head = search in
+      let k : Kinded = search in
+      let v : place lts.After-number = search in
+      let a : place lts.After-mark = search in
+      scan-variable (l .loop .inv) (some (search)) _ (k .kind .ensures) _ _ (search) (v .number .ensures) (a .mark .ensures)
+      (a .mark .kept .0))
+      (λ c κs. search needs)
+      (λ c κs. search needs)
+      (λ c. omega (arith, reach (search)))
+      (λ c. omega (arith, some (search)))
+      (λ c. omega (arith, reach (search), few (search)))
+      (λ c. omega (arith, reach (search), some (search)))
+      (λ c. scan-flat (turn (c .before) .loop .inv) (some (search)) (parts (search)) (c .if3 .taken))
+      (λ c. omega (arith, reach (search)))
+      (λ c. omega (arith, reach (search)))
+      (λ c. omega (arith, reach (search)))
+      (λ c. omega (arith, reach (search)))
+      (λ c. omega (arith, reach (search)))
+      (λ c. omega (arith, reach (search)))
+      (λ c κs. (starts (search), omega (arith, rest (search), reach (search)), omega (arith, reach (search))))
+      (λ c. omega (arith, reach (search)))
+      (λ c.
+      let l : Head = search in
+      outer-few (l .loop .inv) (some (search)) (parts (search)))
+      (λ c. omega (arith, reach (search), some (search), few (search)))
+      (λ c.
+      let l : Head = search in
+      let b : place lts.Then4 = search in
+      scan-enter (l .loop .inv) (some (search)) (parts (search)) _ (b .before .if3 .left) (b .if4 .taken) (c .open-mark .ensures))
+      (λ c. omega (arith, reach (search)))
+      (λ c. omega (arith, reach (search)))
+      (λ c. omega (arith, reach (search)))
+      (λ c. omega (arith, reach (search)))
+      (λ c. omega (arith, reach (search)))
+      (λ c κs. (
+        omega (arith, fewer (search)),
+        ((starts (search), room (search)), (omega (arith, rest (search), reach (search)), omega (arith, rest (search), reach (search)))),
+      ))
+      (λ c κs. search needs)
+      (λ c. omega (arith, moved (search), reach (search)))
+      (λ c. omega (arith, some (search)))
+      (λ c. omega (arith, moved (search)))
+      (λ c.
+      let a : Called = search in
+      scan-part (turn (counted a) .loop .inv) (some (search)) _ _ _ (a .scan-part .ensures) (search) (a .scan-part .kept .1 .1 .0))
+      (λ c κs. (c .before .before .loop .inv .known, deep (search)))
+      (λ c.
+      let l : Head = search in
+      l .loop .inv .len)
+      (λ c.
+      let l : place lts.After-loop = search in
+      scan-end _ _ _ _ _ (l .before .loop .inv) _ (omega (arith, l .loop-test .left)) refl (c .least-mark .ensures))
 
 pub +scan-part-spec : {M : Type 1} → statement M
-+scan-part-spec = close μ-scan-part λ t. scan-part-lts.spec (
-  kind-reads.Asked,
-  kind-reads.Learnt,
-  number-reads.Asked,
-  number-reads.Learnt,
-  mark-reads.Asked,
-  mark-reads.Learnt,
-  part-count-reads.Asked,
-  part-count-reads.Learnt,
-  outer-count-reads.Asked,
-  outer-count-reads.Learnt,
-  open-mark-reads.Asked,
-  open-mark-reads.Learnt,
-  scan-part-below t,
-  scan-part.Post,
-  lesser-reads.Asked,
-  lesser-reads.Learnt,
-  least-mark-reads.Asked,
-  least-mark-reads.Learnt,
-)
-    (scan-part-at t)
-    scan-part.Post
-    scan-part-Inv-loop
-    scan-part-μ-loop
-    (λ c.
-    let start = c .before .before .before in
-    scan-begin _ _ _ _ _ (start .pre .1 .0 .0) (start .pre .1 .0 .1))
-    (λ c.
-    let start = c .before .before .before .before in
-    omega (arith, march-inside _ _ (c .loop .inv .going), start .pre .1 .1 .0))
-    (λ c.
-    let at-loop = c .before .before in
-    let start = at-loop .before .before .before .before in
-    omega (arith, at-loop .loop .inv .near, march-inside _ _ (at-loop .loop .inv .going), start .pre .1 .0 .1 .deep, start .pre .1 .0 .1 .small))
-    (λ c.
-    let at-loop-test = c .before in
-    let at-loop = at-loop-test .before in
-    let start = at-loop .before .before .before .before in
-    scan-deep _ _ _ _ _ (at-loop .loop .inv) (start .pre .1 .0 .1) (omega (arith, c .if1 .taken, at-loop-test .loop-test .taken)))
-    (λ c.
-    let at-loop = c .before .before in
-    let start = at-loop .before .before .before .before in
-    omega (arith, at-loop .loop .inv .near, march-inside _ _ (at-loop .loop .inv .going), start .pre .1 .0 .1 .deep, start .pre .1 .0 .1 .small))
-    (λ c.
-    let at-loop-test = c .before in
-    omega (arith, c .if1 .taken, at-loop-test .loop-test .taken))
-    (λ c.
-    let at-loop-test = c .before in
-    let at-loop = at-loop-test .before in
-    let start = at-loop .before .before .before .before in
-    scan-open _ _ _ _ _ (at-loop .loop .inv) (c .if1 .taken) (omega (arith, c .if1 .taken, at-loop-test .loop-test .taken))
-    (scan-deep _ _ _ _ _ (at-loop .loop .inv) (start .pre .1 .0 .1) (omega (arith, c .if1 .taken, at-loop-test .loop-test .taken))))
-    (λ c.
-    let at-loop = c .before .before in
-    let start = at-loop .before .before .before .before in
-    omega (arith, march-inside _ _ (at-loop .loop .inv .going), start .pre .1 .1 .0))
-    (λ c.
-    let at-if1 = c .before in
-    let at-loop = at-if1 .before .before in
-    omega (arith, march-inside _ _ (at-loop .loop .inv .going), at-if1 .if1 .left))
-    (λ c κs. search needs)
-    (λ c κs. search needs)
-    (λ c κs.
-    let at-if1 = c .before .before .before .before .before in
-    let at-loop = at-if1 .before .before in
-    let start = at-loop .before .before .before .before in
-    scan-raisable _ _ _ _ _ (at-loop .loop .inv) (omega (arith, at-if1 .if1 .left)) (start .pre .1 .0 .1) _ (omega arith))
-    (λ c.
-    let at-loop = c .before .before .before .before .before .before .before .before .before .before in
-    let start = at-loop .before .before .before .before in
-    omega (arith, march-inside _ _ (at-loop .loop .inv .going), start .pre .1 .1 .0))
-    (λ c.
-    let at-if1 = c .before .before .before .before .before .before .before .before in
-    omega (arith, at-if1 .if1 .left))
-    (λ c.
-    let at-if1 = c .before .before .before .before .before .before .before .before in
-    let at-loop = at-if1 .before .before in
-    omega (arith, march-inside _ _ (at-loop .loop .inv .going), at-if1 .if1 .left))
-    (λ c.
-    let at-mark = c .before .before in
-    let at-number = at-mark .before in
-    let at-if2 = at-number .before .before in
-    let at-kind = at-if2 .before in
-    let at-if1 = at-kind .before .before in
-    let at-loop = at-if1 .before .before in
-    scan-variable (at-loop .loop .inv) (omega (arith, at-if1 .if1 .left)) _ (at-kind .kind .ensures) _ _ (at-if2 .if2 .taken)
-    (at-number .number .ensures) (at-mark .mark .ensures) (at-mark .mark .kept .0))
-    (λ c κs. search needs)
-    (λ c κs. search needs)
-    (λ c.
-    let at-loop = c .before .before .before .before .before .before .before .before in
-    let start = at-loop .before .before .before .before in
-    omega (arith, march-inside _ _ (at-loop .loop .inv .going), start .pre .1 .1 .0))
-    (λ c.
-    let at-if1 = c .before .before .before .before .before .before in
-    omega (arith, at-if1 .if1 .left))
-    (λ c.
-    let at-part-count = c .before .before in
-    let at-loop = at-part-count .before .before .before .before .before .before in
-    let start = at-loop .before .before .before .before in
-    omega (arith, march-inside _ _ (at-loop .loop .inv .going), at-part-count .part-count .ensures .1, start .pre .1 .1 .0))
-    (λ c.
-    let at-if1 = c .before .before .before .before .before .before in
-    let at-loop = at-if1 .before .before in
-    omega (arith, march-inside _ _ (at-loop .loop .inv .going), at-if1 .if1 .left))
-    (λ c.
-    let at-outer-count = c .before in
-    let at-part-count = at-outer-count .before in
-    let at-if2 = at-part-count .before in
-    let at-kind = at-if2 .before in
-    let at-if1 = at-kind .before .before in
-    let at-loop = at-if1 .before .before in
-    scan-flat (at-loop .loop .inv) (omega (arith, at-if1 .if1 .left)) _ (at-kind .kind .ensures) (at-if2 .if2 .left) _ _
-    (at-part-count .part-count .ensures .0) (at-outer-count .outer-count .ensures) (c .if3 .taken))
-    (λ c.
-    let at-loop = c .before .before .before .before .before .before .before .before in
-    let start = at-loop .before .before .before .before in
-    omega (arith, march-inside _ _ (at-loop .loop .inv .going), start .pre .1 .1 .0))
-    (λ c.
-    let at-loop = c .before .before .before .before .before .before .before .before .before in
-    let start = at-loop .before .before .before .before in
-    omega (arith, march-inside _ _ (at-loop .loop .inv .going), start .pre .1 .1 .0))
-    (λ c.
-    let at-loop = c .before .before .before .before .before .before .before .before .before in
-    omega (arith, march-inside _ _ (at-loop .loop .inv .going)))
-    (λ c.
-    let at-loop = c .before .before .before .before .before .before .before .before .before in
-    omega (arith, march-inside _ _ (at-loop .loop .inv .going)))
-    (λ c.
-    let at-loop = c .before .before .before .before .before .before .before .before .before in
-    omega (arith, march-inside _ _ (at-loop .loop .inv .going)))
-    (λ c.
-    let at-loop = c .before .before .before .before .before .before .before .before .before .before in
-    let start = at-loop .before .before .before .before in
-    omega (arith, march-inside _ _ (at-loop .loop .inv .going), start .pre .1 .1 .1))
-    (λ c κs.
-    let at-if1 = c .before .before .before .before .before .before .before .before in
-    let at-loop = at-if1 .before .before in
-    let start = at-loop .before .before .before .before in (
-      scan-starts _ _ _ _ _ (at-loop .loop .inv) (omega (arith, at-if1 .if1 .left)),
-      omega (arith, from-length (start .args .t .now) (at-loop .loop .at), start .pre .1 .1 .0),
-      omega (arith, march-inside _ _ (at-loop .loop .inv .going), start .pre .1 .1 .1),
-    ))
-    (λ c.
-    let at-loop = c .before .before .before .before .before .before .before .before .before .before .before in
-    let start = at-loop .before .before .before .before in
-    omega (arith, march-inside _ _ (at-loop .loop .inv .going), start .pre .1 .1 .0))
-    (λ c.
-    let at-outer-count = c .before .before .before .before in
-    let at-part-count = at-outer-count .before in
-    let at-if2 = at-part-count .before in
-    let at-kind = at-if2 .before in
-    let at-if1 = at-kind .before .before in
-    let at-loop = at-if1 .before .before in
-    outer-few (at-loop .loop .inv) (omega (arith, at-if1 .if1 .left)) _ (at-kind .kind .ensures) (at-if2 .if2 .left) _ _
-    (at-part-count .part-count .ensures .0) (at-outer-count .outer-count .ensures))
-    (λ c.
-    let at-part-count = c .before .before .before .before .before in
-    let at-if1 = at-part-count .before .before .before .before in
-    let at-loop = at-if1 .before .before in
-    omega (arith, march-inside _ _ (at-loop .loop .inv .going), at-if1 .if1 .left, at-part-count .part-count .ensures .1))
-    (λ c.
-    let at-if4 = c .before .before in
-    let at-if3 = at-if4 .before in
-    let at-outer-count = at-if3 .before in
-    let at-part-count = at-outer-count .before in
-    let at-if2 = at-part-count .before in
-    let at-kind = at-if2 .before in
-    let at-if1 = at-kind .before .before in
-    let at-loop = at-if1 .before .before in
-    scan-enter (at-loop .loop .inv) (omega (arith, at-if1 .if1 .left)) _ (at-kind .kind .ensures) (at-if2 .if2 .left) _ _
-    (at-part-count .part-count .ensures .0) (at-outer-count .outer-count .ensures) _ (at-if3 .if3 .left) (at-if4 .if4 .taken)
-    (c .open-mark .ensures))
-    (λ c.
-    let at-loop = c .before .before .before .before .before .before .before .before .before in
-    let start = at-loop .before .before .before .before in
-    omega (arith, march-inside _ _ (at-loop .loop .inv .going), start .pre .1 .1 .0))
-    (λ c.
-    let at-loop = c .before .before .before .before .before .before .before .before .before in
-    omega (arith, march-inside _ _ (at-loop .loop .inv .going)))
-    (λ c.
-    let at-loop = c .before .before .before .before .before .before .before .before .before in
-    omega (arith, march-inside _ _ (at-loop .loop .inv .going)))
-    (λ c.
-    let at-loop = c .before .before .before .before .before .before .before .before .before in
-    omega (arith, march-inside _ _ (at-loop .loop .inv .going)))
-    (λ c.
-    let at-loop = c .before .before .before .before .before .before .before .before .before .before .before in
-    let start = at-loop .before .before .before .before in
-    omega (arith, march-inside _ _ (at-loop .loop .inv .going), start .pre .1 .1 .1))
-    (λ c κs.
-    let at-if4 = c .before .before in
-    let at-if1 = at-if4 .before .before .before .before .before .before .before in
-    let at-loop = at-if1 .before .before in
-    let start = at-loop .before .before .before .before in
-    let l = from-length (start .args .t .now) (at-loop .loop .at) in (
-      omega (arith, l, march-inside _ _ (at-loop .loop .inv .going), at-loop .loop .inv .further (at-if4 .if4 .left), at-if1 .if1 .left),
-      (
-        (
-          scan-starts _ _ _ _ _ (at-loop .loop .inv) (omega (arith, at-if1 .if1 .left)),
-          scan-room _ _ _ _ _ (at-loop .loop .inv) (omega (arith, at-if1 .if1 .left)) (start .pre .1 .0 .1),
-        ),
-        (omega (arith, l, start .pre .1 .1 .0), omega (arith, l, march-inside _ _ (at-loop .loop .inv .going), start .pre .1 .1 .1)),
-      ),
-    ))
-    (λ c κs. search needs)
-    (λ c.
-    let at-scan-part = c .before .before .before .before in
-    let at-loop = at-scan-part .before .before .before .before .before .before .before .before .before .before .before .before in
-    let start = at-loop .before .before .before .before in
-    omega (
-      arith,
-      march-inside _ _ (at-loop .loop .inv .going),
-      start .pre .1 .1 .0,
-      at-scan-part .scan-part .ensures .within,
-      from-length (start .args .t .now) (at-loop .loop .at),
-    ))
-    (λ c.
-    let at-if1 = c .before .before .before .before .before .before .before .before .before .before .before .before .before .before in
-    omega (arith, at-if1 .if1 .left))
-    (λ c.
-    let at-scan-part = c .before .before .before .before in
-    let at-if1 = at-scan-part .before .before .before .before .before .before .before .before .before .before in
-    let at-loop = at-if1 .before .before in
-    omega (
-      arith,
-      march-inside _ _ (at-loop .loop .inv .going),
-      at-if1 .if1 .left,
-      part-moves (at-loop .loop .inv) (omega (arith, at-if1 .if1 .left)) (at-scan-part .scan-part .ensures),
-    ))
-    (λ c.
-    let at-lesser = c .before in
-    let at-scan-part = at-lesser .before .before .before in
-    let at-if1 = at-scan-part .before .before .before .before .before .before .before .before .before .before in
-    let at-loop = at-if1 .before .before in
-    scan-part (at-loop .loop .inv) (omega (arith, at-if1 .if1 .left)) _ _ _ (at-scan-part .scan-part .ensures) (at-lesser .lesser .ensures)
-    (at-scan-part .scan-part .kept .1 .1 .0))
-    (λ c κs.
-    let at-loop = c .before .before in
-    let start = at-loop .before .before .before .before in (
-      at-loop .loop .inv .known,
-      omega (arith, at-loop .loop .inv .near, march-inside _ _ (at-loop .loop .inv .going), start .pre .1 .0 .1 .deep, at-loop .loop .inv .len),
-    ))
-    (λ c.
-    let at-loop = c .before .before .before in
-    at-loop .loop .inv .len)
-    (λ c.
-    let at-loop-test = c .before .before in
-    let at-loop = at-loop-test .before in
-    scan-end _ _ _ _ _ (at-loop .loop .inv) _ (omega (arith, at-loop-test .loop-test .left)) refl (c .least-mark .ensures))
++scan-part-spec = close μ-scan-part λ m. scan-part-meets m

@@ -1,68 +1,64 @@
--- A let that binds a computation has its place for a mark.
+-- Why `open_mark` is right. A let that binds a computation has its place for a mark, any other node 65536. What a let binds is a
+-- computation if its kind is no value's, or else if the value test says so.
 use native.Mathlib.Omega.{arith}
-use mathlib.Core.Path.{sym, _∙_, ap}
+use Prim.Native.Nat.{_+_, _≤_}
+use mathlib.Core.Path.{_≡_, sym, _∙_, ap}
+use lib.ListN.{length, getD}
 use borrow.Author.Needs.{needs}
 use borrow.Author.Tests.{not-true, not-false}
+use Rattle.syntax.specs.Words.{kindOf}
 use Rattle.reduction.specs.FitByKinds.{valueKind}
+use Rattle.words.specs.Fronts.{Starts, from}
 use Rattle.words.proofs.Traversal.{not-empty, from-length}
 use Rattle.search.proofs.OpenMarks.{bound-starts, opens-kind, opens-let, opens-value, opens-other}
 use Rattle.search.proofs.unused.open_mark.Statement.{statement}
 use Rattle.search.proofs.unused.open_mark.Tie as tie
 
+-- the way back from a let to the entry
+abbrev entry : tie.Then1 → tie.Start
+entry c = c .before .before .before .before .before
+
+-- at the entry
+some : (c : tie.Start) → 1 ≤ length (c .args .t .now)
+some c = not-empty (c .pre .0)
+
+-- at a let
+is-let : (c : tie.Then1) → kindOf (getD (entry c .args .t .now) 0 0) ≡ 4
+is-let c = sym (c .before .kind .ensures) ∙ c .if1 .taken
+
+bound : (c : tie.Then1) → Starts (entry c .args .calls .now) (from (entry c .args .t .now) 1)
+bound c = bound-starts (entry c .pre .0) (is-let c)
+
+rest : (c : tie.Then1) → length (from (entry c .args .t .now) 1) + 1 ≡ length (entry c .args .t .now)
+rest c = omega (arith, from-length (entry c .args .t .now) 1, some (entry c))
+
 pub open-mark-spec : {M : Type 1} → statement M
 open-mark-spec =
     tie.close
     (tie.spec
-    (λ c.
-    let pre = c .before .before .before .pre in
-    not-empty (pre .0))
+    (λ c. some (search))
     (λ c κs. search needs)
-    (λ c.
-    let at-if1 = c .before in
-    let at-kind = at-if1 .before in
-    let start = at-kind .before .before .before .before in
-    omega (
-      arith,
-      not-empty (bound-starts (start .pre .0) (sym (at-kind .kind .ensures) ∙ at-if1 .if1 .taken)),
-      from-length
-          (start .args .t .now) 1,
-    ))
+    (λ c. omega (arith, not-empty (bound (search)), rest (search)))
     (λ c κs. search needs)
     (λ c κs. search needs)
     (λ c.
-    let at-value-kind = c .before in
-    let at-kind2 = at-value-kind .before in
-    let at-if1 = at-kind2 .before .before in
-    let at-kind = at-if1 .before in
-    let pre = at-kind .before .before .before .before .pre in
-    opens-kind _ (pre .2) (sym (at-kind .kind .ensures) ∙ at-if1 .if1 .taken)
-    (ap valueKind (sym (at-kind2 .kind2 .ensures)) ∙ sym (at-value-kind .value-kind .ensures) ∙ not-true _ (c .if2 .taken)))
-    (λ c.
-    let pre = c .before .before .before .before .before .before .before .before .before .pre in
-    not-empty (pre .0))
-    (λ c.
-    let pre = c .before .before .before .before .before .before .before .before .before .pre in
-    not-empty (pre .0))
+    let s : tie.Start = search in
+    let k : tie.After-kind2 = search in
+    let v : tie.After-value-kind = search in
+    opens-kind _ (s .pre .2) (is-let (search))
+    (ap valueKind (sym (k .kind2 .ensures)) ∙ sym (v .value-kind .ensures) ∙ not-true _ (c .if2 .taken)))
+    (λ c. some (search))
+    (λ c. some (search))
     (λ c. search needs)
     (λ c κs.
-    let at-if1 = c .before .before .before .before .before in
-    let at-kind = at-if1 .before in
-    let start = at-kind .before .before .before .before in (
-      bound-starts (start .pre .0) (sym (at-kind .kind .ensures) ∙ at-if1 .if1 .taken),
-      omega (arith, from-length (start .args .t .now) 1, start .pre .1),
-    ))
+    let s : tie.Start = search in
+    (bound (search), omega (arith, rest (search), s .pre .1)))
     (λ c.
-    let at-value-test = c .before .before in
-    let at-if1 = at-value-test .before .before .before .before .before .before in
-    let at-kind = at-if1 .before in
-    let pre = at-kind .before .before .before .before .pre in
-    opens-let _ (pre .2) (sym (at-kind .kind .ensures) ∙ at-if1 .if1 .taken) (at-value-test .value-test .ensures)
-    (not-true _ (c .if3 .taken)))
+    let s : tie.Start = search in
+    let v : tie.After-value-test = search in
+    opens-let _ (s .pre .2) (is-let (search)) (v .value-test .ensures) (not-true _ (c .if3 .taken)))
     (λ c.
-    let at-value-test = c .before .before in
-    let at-if1 = at-value-test .before .before .before .before .before .before in
-    let at-kind = at-if1 .before in
-    let pre = at-kind .before .before .before .before .pre in
-    opens-value _ (pre .2) (sym (at-kind .kind .ensures) ∙ at-if1 .if1 .taken) (at-value-test .value-test .ensures)
-    (not-false _ (c .if3 .left)))
+    let s : tie.Start = search in
+    let v : tie.After-value-test = search in
+    opens-value _ (s .pre .2) (is-let (search)) (v .value-test .ensures) (not-false _ (c .if3 .left)))
     (λ c. opens-other _ λ e. c .if1 .left (c .before .kind .ensures ∙ e)))

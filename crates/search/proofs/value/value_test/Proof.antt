@@ -1,6 +1,8 @@
--- The words passed are those of values as long as the test goes on, so the row holds values only if the row ahead does.
+-- Why `value_test` is right. The row of terms at the front holds values exactly if the row ahead does (`ValuesSoFar`), as every node passed
+-- is a value's: of a value's node that is no function the parts come into the row (`opened`), and a function is passed as a whole, whatever
+-- its body (`function`). A node of another kind shows that the row holds a computation (`no-value`); an empty row holds none.
 use borrow.Author.Needs.{needs}
-use Prim.Native.Nat.{ℕ, _-_, _≤_, _<_}
+use Prim.Native.Nat.{ℕ, _+_, _-_, _≤_, _<_}
 use native.Mathlib.Omega.{arith}
 use mathlib.Core.Path.{_≡_, refl, sym, _∙_, ap}
 use mathlib.Core.Bool.{true, false, cond, not}
@@ -10,10 +12,11 @@ use lib.ListN.{length, getD}
 use borrow.Author.Tests.{eq-eqb, eqb-true, le-leb, leb-true, not-true}
 use Rattle.syntax.specs.Kinds.{partsOfKind}
 use Rattle.reduction.specs.FitByKinds.{valueKind}
+use Rattle.words.specs.Fronts.{from}
 use Rattle.words.proofs.PartCounts.{of-kind, kinds-agree, kinds-imply}
 use Rattle.words.proofs.Traversal.{from-length}
 use Rattle.words.proofs.Rows.{Marching, march-inside, march-first}
-use Rattle.search.proofs.ValueByNode.{Testing, test-begin, test-end, test-fails, test-function, function-words, test-open}
+use Rattle.search.proofs.ValueByNode.{ValuesSoFar, test-begin, test-end, test-computation, test-function, function-words, test-open}
 use Rattle.search.proofs.value.value_test.Statement.{statement}
 use Rattle.search.proofs.value.value_test.Tie as tie
 
@@ -22,8 +25,8 @@ abbrev entry : ℕ → ℕ
 entry k = cond (eqb k 2) 4 (cond (valueKind k) (partsOfKind 0 k) 5)
 
 -- a table of them
-abbrev Tabled : List ℕ → Type 0
-Tabled counts = (k : ℕ) → k < 16 → getD counts k 0 ≡ entry k
+record Tabled (counts : List ℕ) : Type 0 where
+  entries : (k : ℕ) → k < 16 → getD counts k 0 ≡ entry k
 
 -- a value's node that is no function, with so many parts
 record ValueNode (k n : ℕ) : Type 0 where
@@ -32,112 +35,125 @@ record ValueNode (k n : ℕ) : Type 0 where
   no-call : k ≡ 1 → ⊥
   no-function : k ≡ 2 → ⊥
 
--- what an entry says of its kind
-module _ (k n : ℕ) (l : k < 16) (is : n ≡ entry k) where
-  bounded : n ≤ 5
+-- what the table says of a kind
+module _ {counts : List ℕ} (table : Tabled counts) {k : ℕ} (l : k < 16) where
+  bounded : getD counts k 0 ≤ 5
   unfolding valueKind
-  bounded = omega (arith, is, leb-true (entry k) 5 (kinds-imply (λ j. true) (λ j. leb (entry j) 5) refl k l refl))
+  bounded = omega (arith, table .entries k l, leb-true (entry k) 5 (kinds-imply (λ j. true) (λ j. leb (entry j) 5) refl k l refl))
 
-  opened : n ≤ 3 → ValueNode k n
+  opened : getD counts k 0 ≤ 3 → ValueNode k (getD counts k 0)
   unfolding valueKind
   opened few =
-      let low : leb (entry k) 3 ≡ true = le-leb (entry k) 3 (omega (arith, is, few)) in
+      let low : leb (entry k) 3 ≡ true = le-leb (entry k) 3 (omega (arith, table .entries k l, few)) in
       record {
         of-value = kinds-imply (λ j. leb (entry j) 3) valueKind refl k l low;
-        parts-are = is ∙ eqb-true _ _ (kinds-imply (λ j. leb (entry j) 3) (λ j. eqb (entry j) (partsOfKind 0 j)) refl k l low);
-        no-call = λ e. omega (arith, is, ap entry e, few);
-        no-function = λ e. omega (arith, is, ap entry e, few);
+        parts-are = table .entries k l
+            ∙ eqb-true _ _ (kinds-imply (λ j. leb (entry j) 3) (λ j. eqb (entry j) (partsOfKind 0 j)) refl k l low);
+        no-call = λ e. omega (arith, table .entries k l, ap entry e, few);
+        no-function = λ e. omega (arith, table .entries k l, ap entry e, few);
       }
 
-  function : n ≡ 4 → k ≡ 2
+  function : getD counts k 0 ≡ 4 → k ≡ 2
   unfolding valueKind
-  function h = eqb-true _ _ (kinds-imply (λ j. eqb (entry j) 4) (λ j. eqb j 2) refl k l (eq-eqb _ _ (sym is ∙ h)))
+  function h = eqb-true _ _ (kinds-imply (λ j. eqb (entry j) 4) (λ j. eqb j 2) refl k l (eq-eqb _ _ (sym (table .entries k l) ∙ h)))
 
-  no-value : 5 ≤ n → valueKind k ≡ false
+  no-value : 5 ≤ getD counts k 0 → valueKind k ≡ false
   unfolding valueKind
   no-value h =
-      let high : leb 5 (entry k) ≡ true = le-leb 5 (entry k) (omega (arith, is, h)) in
+      let high : leb 5 (entry k) ≡ true = le-leb 5 (entry k) (omega (arith, table .entries k l, h)) in
       not-true _ (kinds-imply (λ j. leb 5 (entry j)) (λ j. not (valueKind j)) refl k l high)
 
 abbrev Inv-loop : tie.InvT-loop
-Inv-loop calls t counts owed₀ at₀ owed at = Tabled counts × Marching calls t Testing 1 at owed
+Inv-loop calls t counts owed₀ at₀ owed at = Tabled counts × Marching calls t ValuesSoFar 1 at owed
 
 abbrev μ-loop : tie.MeasureT-loop
 μ-loop calls t counts owed₀ at₀ owed at = length t - at
 
+-- the places, from the top of the code to its end, and the way back from each to the one above it
+abbrev Entry : Type 0
+Entry = tie.Start Inv-loop μ-loop
+
+abbrev Head : Type 0
+Head = tie.At-loop Inv-loop μ-loop
+
+abbrev Turn : Type 0
+Turn = tie.In-loop Inv-loop μ-loop
+
+abbrev Kinded : Type 0
+Kinded = tie.After-kind Inv-loop μ-loop
+
+abbrev Function : Type 0
+Function = tie.After-part-size Inv-loop μ-loop
+
+abbrev start : Head → Entry
+start c = c .before .before .before
+
+abbrev head : Turn → Head
+head c = c .before
+
+abbrev turn : Kinded → Turn
+turn c = c .before .before
+
+abbrev kinded : Function → Kinded
+kinded c = c .before .before .before .before
+
+-- at the head of the loop
+inside : (c : Head) → c .loop .at + c .loop .owed ≤ length (start c .args .t .now)
+inside c = march-inside _ _ (c .loop .inv .1)
+
+short : (c : Head) → length (start c .args .t .now) ≤ 8192
+short c = start c .pre .1
+
+-- in a turn: a term is ahead
+some : (c : Turn) → 1 ≤ head c .loop .owed
+some c = c .loop-test .taken
+
+rest-short : (c : Turn) → length (from (start (head c) .args .t .now) (head c .loop .at)) ≤ 8192
+rest-short c = omega (arith, from-length (start (head c) .args .t .now) (head c .loop .at), short (head c))
+
+-- where its kind is known
+in-table : tie.Need-array-read-n Inv-loop μ-loop
+in-table c = omega (arith, c .kind .ensures, c .before .shared-slice-known3 .given (head (turn c) .loop .at))
+
+-- where a function is measured
+moved : (c : Function) → 1 ≤ c .part-size .result
+moved c =
+    let k = kinded c in
+    function-words (head (turn k) .loop .inv .1) (some (turn k)) (k .kind .ensures) _ (c .part-size .ensures)
+
+reached : (c : Function) → head (turn (kinded c)) .loop .at + c .part-size .result ≤ length (start (head (turn (kinded c))) .args .t .now)
+reached c =
+    let l = head (turn (kinded c)) in
+    omega (arith, c .part-size .ensures .within, from-length (start l .args .t .now) (l .loop .at), inside l)
+
 begins : tie.Need-loop-holds Inv-loop μ-loop
 unfolding valueKind
-begins c = (kinds-agree _ entry refl, test-begin (c .before .before .pre .0))
+begins c = (record { entries = kinds-agree _ entry refl }, test-begin (c .before .before .pre .0))
 
-in-table : tie.Need-array-read-n Inv-loop μ-loop
-in-table c =
-    let loop = c .before .before .before .loop in
-    omega (arith, c .kind .ensures, c .before .shared-slice-known3 .given (loop .at))
-
--- a value's node
-add-owed : tie.Need-add-owed Inv-loop μ-loop
-add-owed c =
-    let loop = c .before .before .before .before .loop in
-    let pre = c .before .before .before .before .before .before .before .pre in
-    omega (arith, march-inside _ _ (loop .inv .1), c .if1 .taken, pre .1)
-
+-- past a value's node
 again : tie.Need-loop-again Inv-loop μ-loop
 again c =
-    let loop = c .before .before .before .before .loop in
-    let loop-test = c .before .before .before .loop-test in
-    let kind = c .before .kind in
-    let l = in-table (c .before) in
-    let o = opened _ _ l (loop .inv .0 _ l) (omega (arith, c .if1 .taken)) in
-    let many = of-kind _ _ _ _ (kind .ensures) (o .no-call) (o .parts-are) .0 in
-    (loop .inv .0, test-open (loop .inv .1) (loop-test .taken) (kind .ensures) _ (o .of-value) (o .no-function) many)
+    let k = c .before in
+    let inv = head (turn k) .loop .inv in
+    let o = opened (inv .0) (in-table k) (omega (arith, c .if1 .taken)) in
+    let many = of-kind _ _ _ _ (k .kind .ensures) (o .no-call) (o .parts-are) .0 in
+    (inv .0, test-open (inv .1) (some (turn k)) (k .kind .ensures) _ (o .of-value) (o .no-function) many)
 
--- a function
-part-size-requires : tie.Need-part-size-requires Inv-loop μ-loop
-part-size-requires c κs =
-    let loop = c .before .before .before .before .before .before .loop in
-    let loop-test = c .before .before .before .before .before .loop-test in
-    let args = c .before .before .before .before .before .before .before .before .before .args in
-    let pre = c .before .before .before .before .before .before .before .before .before .pre in
-    (march-first _ _ (loop .inv .1) (loop-test .taken), omega (arith, from-length (args .t .now) (loop .at), pre .1))
-
-add-at-2 : tie.Need-add-at-2 Inv-loop μ-loop
-add-at-2 c =
-    let loop = c .before .before .before .before .before .before .before .loop in
-    let args = c .before .before .before .before .before .before .before .before .before .before .args in
-    let pre = c .before .before .before .before .before .before .before .before .before .before .pre in
-    omega (arith, c .part-size .ensures .within, from-length (args .t .now) (loop .at), march-inside _ _ (loop .inv .1), pre .1)
-
-less-2 : tie.Need-loop-less-2 Inv-loop μ-loop
-less-2 c =
-    let loop = c .before .before .before .before .before .before .before .loop in
-    let loop-test = c .before .before .before .before .before .before .loop-test in
-    let kind = c .before .before .before .before .kind in
-    omega (
-      arith,
-      function-words (loop .inv .1) (loop-test .taken) (kind .ensures) _ (c .part-size .ensures),
-      march-inside _ _ (loop .inv .1),
-      loop-test .taken,
-    )
-
+-- past a function
 again-2 : tie.Need-loop-again-2 Inv-loop μ-loop
 again-2 c =
-    let loop = c .before .before .before .before .before .before .before .loop in
-    let loop-test = c .before .before .before .before .before .before .loop-test in
-    let kind = c .before .before .before .before .kind in
-    let if2 = c .before .before .if2 in
-    let l = in-table (c .before .before .before .before) in
-    let is = function _ _ l (loop .inv .0 _ l) (if2 .taken) in
-    (loop .inv .0, test-function (loop .inv .1) (loop-test .taken) (kind .ensures) _ is (c .part-size .ensures))
+    let k = kinded c in
+    let inv = head (turn k) .loop .inv in
+    let is = function (inv .0) (in-table k) (c .before .before .if2 .taken) in
+    (inv .0, test-function (inv .1) (some (turn k)) (k .kind .ensures) _ is (c .part-size .ensures))
 
--- a computation's node
+-- at a computation's node
 returns : tie.Need-returns Inv-loop μ-loop
 returns c =
-    let loop = c .before .before .before .before .before .loop in
-    let loop-test = c .before .before .before .before .loop-test in
-    let kind = c .before .before .kind in
-    let l = in-table (c .before .before) in
-    let none = no-value _ _ l (loop .inv .0 _ l) (omega (arith, c .before .if1 .left, c .if2 .left)) in
-    test-fails (loop .inv .1) (loop-test .taken) (kind .ensures) _ none refl
+    let k = c .before .before in
+    let inv = head (turn k) .loop .inv in
+    let none = no-value (inv .0) (in-table k) (omega (arith, c .before .if1 .left, c .if2 .left)) in
+    test-computation (inv .1) (some (turn k)) (k .kind .ensures) _ none refl
 
 pub value-test-spec : {M : Type 1} → statement M
 value-test-spec =
@@ -146,38 +162,26 @@ value-test-spec =
     Inv-loop
     μ-loop
     begins
-    (λ c.
-    let pre = c .before .before .before .before .pre in
-    omega (arith, march-inside _ _ (c .before .loop .inv .1), c .loop-test .taken, pre .1))
-    (λ c.
-    let loop = c .before .before .loop in
-    omega (arith, march-inside _ _ (loop .inv .1), c .before .loop-test .taken))
+    (λ c. omega (arith, inside (search), short (search)))
+    (λ c. omega (arith, inside (search), some (search)))
     (λ c κs. search needs)
     in-table
-    (λ c.
-    let tabled = c .before .before .before .loop .inv .0 in
-    omega (arith, bounded _ _ (in-table c) (tabled _ (in-table c))))
-    (λ c. c .before .before .before .loop-test .taken)
-    add-owed
-    (λ c.
-    let loop = c .before .before .before .before .loop in
-    let pre = c .before .before .before .before .before .before .before .pre in
-    omega (arith, march-inside _ _ (loop .inv .1), pre .1))
-    (λ c.
-    let loop = c .before .before .before .before .loop in
-    omega (arith, march-inside _ _ (loop .inv .1), c .before .before .before .loop-test .taken))
+    (λ c. omega (arith, bounded (head (turn c) .loop .inv .0) (in-table c)))
+    (λ c. some (search))
+    (λ c. omega (arith, inside (search), short (search), c .if1 .taken))
+    (λ c. omega (arith, inside (search), short (search)))
+    (λ c. omega (arith, inside (search), some (search)))
     again
-    (λ c.
-    let loop = c .before .before .before .before .before .loop in
-    let pre = c .before .before .before .before .before .before .before .before .pre in
-    omega (arith, march-inside _ _ (loop .inv .1), pre .1))
-    (λ c. omega (arith, march-inside _ _ (c .before .before .before .before .before .loop .inv .1)))
-    (λ c. omega (arith, march-inside _ _ (c .before .before .before .before .before .loop .inv .1)))
-    (λ c. omega (arith, march-inside _ _ (c .before .before .before .before .before .loop .inv .1)))
-    part-size-requires
-    add-at-2
-    (λ c. c .before .before .before .before .before .before .loop-test .taken)
-    less-2
+    (λ c. omega (arith, inside (search), short (search)))
+    (λ c. omega (arith, inside (search)))
+    (λ c. omega (arith, inside (search)))
+    (λ c. omega (arith, inside (search)))
+    (λ c κs.
+    let l : Head = search in
+    (march-first _ _ (l .loop .inv .1) (some (search)), rest-short (search)))
+    (λ c. omega (arith, reached (search), short (search)))
+    (λ c. some (search))
+    (λ c. omega (arith, moved (search), reached (search)))
     again-2
     returns
     (λ c. test-end (c .before .loop .inv .1) _ (omega (arith, c .loop-test .left)) refl refl))

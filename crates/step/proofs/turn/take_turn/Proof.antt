@@ -1,21 +1,76 @@
--- What is found is the definition's step; the budget is looked at before the next term's length.
+-- What is found is the definition's step; the budget is checked before the next term's length.
+--
+-- Why it is right: a redex that the search finds is the first one (`redex`), so its place is one of the term's and the gap can go there
+-- (`at-redex`). Where it is rewritten the budget is not spent (`budget-left`), so 11 is answered only there; and where the next term is in
+-- the buffer the gap can go to where the search goes on (`next`).
 use native.Mathlib.Omega.{arith}
-use Prim.Native.Nat.{ℕ}
-use mathlib.Core.Path.{_≡_, subst}
-use mathlib.Core.List.{List}
-use Rattle.reduction.specs.declared.Rule.{Rule}
-use Rattle.step.specs.Rewrites.{Rewrites}
-use Rattle.step.specs.declared.rewrite.Rewritten.{Rewritten}
-use Rattle.step.proofs.TurnIsStep.{turn-searchable, turned-stops, turned-spent, place-small, redex-seekable, turn-rewritable}
-use Rattle.step.proofs.TurnIsStep.{turned-full, next-seekable, turned-goes}
+use Prim.Native.Nat.{_+_, _≤_, _<_}
+use lib.ListN.{length}
+use Rattle.step.specs.Rewrites.{RewritesRedex}
+use Rattle.step.specs.declared.rewrite.Rewritten.the-variants.{Next}
+use Rattle.step.proofs.TurnIsStep.{FirstRedex, GapAtRedex, turn-searchable, turned-stops, first-redex, turned-spent, place-small}
+use Rattle.step.proofs.TurnIsStep.{redex-seekable, turn-rewritable, turned-full, next-seekable, turned-goes, rewrites-as}
 use borrow.Author.Needs.{needs}
 use Rattle.step.proofs.turn.take_turn.Statement.{statement}
 use Rattle.step.proofs.turn.take_turn.Tie as tie
 
-told-as : {rule : Rule} {calls before : List ℕ} {start end : ℕ} {after : List ℕ} {r : Rewritten} (w : Rewritten) → r ≡ w
-    → Rewrites rule calls before start end after r → Rewrites rule calls before start end after w
-told-as {rule} {calls} {before} {start} {end} {after} w e x =
-    subst (λ (y : Rewritten). Rewrites rule calls before start end after y) e x
+-- where a redex is found, where the gap is there, where the redex is rewritten, where the next term is in the buffer; and the way back from
+-- each to the one above it
+abbrev Found : Type 0
+Found = tie.After-found
+
+abbrev Sought : Type 0
+Sought = tie.After-seek
+
+abbrev Rewritten : Type 0
+Rewritten = tie.After-rewrite
+
+abbrev There : Type 0
+There = tie.After-rewritten
+
+abbrev entry : tie.After-find → tie.Start
+entry c = c .before .before .before .before .before .before .before .before
+
+abbrev searched : Found → tie.After-find
+searched c = c .before .before .before .before
+
+abbrev budgeted : Sought → tie.Else1
+budgeted c = c .before .before
+
+abbrev found : tie.Else1 → Found
+found c = c .before .before
+
+abbrev sought : Rewritten → Sought
+sought c = c .before .before .before .before .before .before
+
+abbrev rewritten : There → Rewritten
+rewritten c = c .before .before .before .before .before .before .before .before
+
+redex : (c : Found)
+    → (let s = entry (searched c) .args in
+    let p = c .found .given .0 in
+    FirstRedex (s .phase) (s .calls .now) (s .current .now) (s .start) (s .end) (p .0) (p .1 .0))
+redex c = first-redex (searched c .find .ensures) (c .found .given .1)
+
+budget-left : (c : Sought) → 0 < entry (searched (found (budgeted c))) .args .left
+budget-left c = omega (arith, budgeted c .if1 .left)
+
+at-redex : (c : Sought)
+    → (let f = found (budgeted c) in
+    let s = entry (searched f) .args in
+    let p = f .found .given .0 in
+    GapAtRedex (s .phase) (s .calls .now) (s .current .now) (s .start) (s .end) (p .0) (p .1 .0) (c .seek .last .0) (c .seek .result))
+at-redex c = record { redex = redex (found (budgeted c)); seeks = c .seek .ensures; same = c .seek .kept .0 }
+
+next : (c : There)
+    → (let w = rewritten c in
+    let k = sought w in
+    let f = found (budgeted k) in
+    let s = entry (searched f) .args in
+    let p = f .found .given .0 in
+    RewritesRedex (p .0) (s .calls .now) (k .seek .last .0) (s .start + p .1 .0) (k .seek .result) (w .rewrite .last .1 .1 .0)
+    (Next (c .rewritten .given .0 .0)))
+next c = rewrites-as (c .rewritten .given .1) (rewritten c .rewrite .ensures)
 
 pub take-turn-spec : {M : Type 1} → statement M
 take-turn-spec =
@@ -25,77 +80,42 @@ take-turn-spec =
     (λ c. search needs)
     (λ c. search needs)
     (λ c. search needs)
+    (λ c κs. let s : tie.Start = search in turn-searchable (s .pre .0))
+    (λ c. search needs)
+    (λ c. search needs)
+    (λ c. search needs)
+    (λ c. search needs)
+    (λ c. turned-spent (redex (search)) (c .if1 .taken))
+    (λ c. let f : Found = search in omega (arith, place-small (redex f) (entry (searched f) .pre .0)))
+    (λ c κs. let f : Found = search in redex-seekable (redex f) (entry (searched f) .pre .0))
     (λ c κs.
-    let pre = c .before .before .before .before .before .before .before .pre in
-    turn-searchable (pre .0))
-    (λ c. search needs)
-    (λ c. search needs)
-    (λ c. search needs)
-    (λ c. search needs)
-    (λ c.
-    let at-found = c .before .before in
-    let find = at-found .before .before .before .before .find in
-    turned-spent (find .ensures) (at-found .found .given .1) (c .if1 .taken))
-    (λ c.
-    let at-found = c .before .before in
-    let at-find = at-found .before .before .before .before in
-    let pre = at-find .before .before .before .before .before .before .before .before .pre in
-    omega (arith, place-small (at-find .find .ensures) (at-found .found .given .1) (pre .0)))
-    (λ c κs.
-    let at-found = c .before .before .before in
-    let at-find = at-found .before .before .before .before in
-    let pre = at-find .before .before .before .before .before .before .before .before .pre in
-    redex-seekable (at-find .find .ensures) (at-found .found .given .1) (pre .0))
-    (λ c κs.
-    let at-seek = c .before .before .before .before .before in
-    let at-found = at-seek .before .before .before .before in
-    let at-find = at-found .before .before .before .before in
-    let pre = at-find .before .before .before .before .before .before .before .before .pre in (
-      turn-rewritable (at-find .find .ensures) (at-found .found .given .1) (at-seek .seek .ensures) (at-seek .seek .kept .0)
-          (pre .0) _ (search needs),
-      pre .1,
-    ))
+    let k : Sought = search in
+    let s = entry (searched (found (budgeted k))) in
+    (turn-rewritable (at-redex k) (s .pre .0) _ (search needs), s .pre .1))
     (λ c. search needs)
     (λ c. search needs)
     (λ c κs. search needs)
     (λ c κs.
-    let at-next-from = c .before in
-    let at-rewritten = at-next-from .before .before in
-    let at-rewrite = at-rewritten .before .before .before .before .before .before .before .before in
-    let at-seek = at-rewrite .before .before .before .before .before .before in
-    let at-found = at-seek .before .before .before .before in
-    let at-find = at-found .before .before .before .before in
-    let pre = at-find .before .before .before .before .before .before .before .before .pre in
-    next-seekable (at-find .find .ensures) (at-found .found .given .1) (at-seek .seek .ensures) (at-seek .seek .kept .0)
-    (told-as _ (at-rewritten .rewritten .given .1) (at-rewrite .rewrite .ensures)) (pre .0) _ (at-next-from .next-from .ensures))
+    let t : There = search in
+    let k = sought (rewritten t) in
+    let s = entry (searched (found (budgeted k))) in
+    next-seekable (at-redex k) (next t) (s .pre .0) (c .before .next-from .ensures))
     (λ c. search needs)
     (λ c. search needs)
-    (λ c.
-    let find = c .before .before .before .before .find in
-    turned-stops (find .ensures) (c .enum-told .given .1))
+    (λ c. let f : tie.After-find = search in turned-stops (f .find .ensures) (c .enum-told .given .1))
     (λ c. search needs)
     (λ c. search needs)
     (λ c. search needs)
     (λ c.
-    let at-rewrite = c .before .before .before .before .before .before .before .before in
-    let at-seek = at-rewrite .before .before .before .before .before .before in
-    let at-if1 = at-seek .before .before in
-    let at-found = at-if1 .before .before in
-    let find = at-found .before .before .before .before .find in
-    turned-full (find .ensures) (at-found .found .given .1) (at-seek .seek .ensures) (at-seek .seek .kept .0)
-    (omega (arith, at-if1 .if1 .left)) (told-as _ (c .enum-told2 .given .1) (at-rewrite .rewrite .ensures)))
+    let w : Rewritten = search in
+    let k = sought w in
+    turned-full (at-redex k) (budget-left k) (rewrites-as (c .enum-told2 .given .1) (w .rewrite .ensures)))
     (λ c. search needs)
     (λ c. search needs)
     (λ c. search needs)
     (λ c.
-    let at-seek2 = c .before .before in
-    let at-next-from = at-seek2 .before .before in
-    let at-rewritten = at-next-from .before .before in
-    let at-rewrite = at-rewritten .before .before .before .before .before .before .before .before in
-    let at-seek = at-rewrite .before .before .before .before .before .before in
-    let at-if1 = at-seek .before .before in
-    let at-found = at-if1 .before .before in
-    let find = at-found .before .before .before .before .find in
-    turned-goes (find .ensures) (at-found .found .given .1) (at-seek .seek .ensures) (at-seek .seek .kept .0)
-    (told-as _ (at-rewritten .rewritten .given .1) (at-rewrite .rewrite .ensures)) (omega (arith, at-if1 .if1 .left))
-    (at-next-from .next-from .ensures) (at-seek2 .seek2 .ensures)))
+    let t : There = search in
+    let k = sought (rewritten t) in
+    let n : tie.After-next-from = search in
+    let m : tie.After-seek2 = search in
+    turned-goes (at-redex k) (next t) (budget-left k) (n .next-from .ensures) (m .seek2 .ensures)))

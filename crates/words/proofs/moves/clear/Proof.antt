@@ -4,7 +4,7 @@ use Prim.Native.Nat.{ℕ, _≤_, _<_, _+_, _-_}
 use native.Mathlib.Omega.{arith}
 use mathlib.Core.Path.{_≡_, refl, ap}
 use mathlib.Core.List.{List, _++_}
-use lib.ListN.{length, drop, set, replicate, length-set, length-drop, length-append, length-replicate}
+use lib.ListN.{length, drop, set, replicate, length-drop, length-append, length-replicate}
 use Rattle.words.proofs.Pastes.{zeros-next, zeros-all}
 use Rattle.words.proofs.moves.clear.Statement.{statement}
 use Rattle.words.proofs.moves.clear.Tie as tie
@@ -37,7 +37,7 @@ abbrev Inv-loop : tie.InvT-loop
 Inv-loop words₀ i₀ words i = Cleared words₀ words i
 
 abbrev μ-loop : tie.MeasureT-loop
-μ-loop words₀ i₀ words i = length words - i
+μ-loop words₀ i₀ words i = length words₀ - i
 
 pub clear-spec : {M : Type 1} → statement M
 clear-spec =
@@ -49,13 +49,7 @@ clear-spec =
     (λ c. search needs)
     (λ c. search needs)
     (λ c. search needs)
-    (λ c.
-    let loop = c .before .loop in
-    omega (arith, c .loop-test .taken, length-set (loop .words) (loop .i) 0))
-    (λ c.
-    let loop = c .before .loop in
-    turn (loop .inv) (c .loop-test .taken))
+    (λ c. omega (arith, c .loop-test .taken, same-length (c .before .loop .inv)))
+    (λ c. turn (c .before .loop .inv) (c .loop-test .taken))
     (λ c. same-length (c .before .loop .inv))
-    (λ c.
-    let loop = c .before .loop in
-    finish (loop .inv) (c .loop-test .left)))
+    (λ c. finish (c .before .loop .inv) (c .loop-test .left)))

@@ -27,14 +27,16 @@ next : tie.Need-loop-again Inv-loop μ-loop
 next c =
     let t : Turn = search in
     let pre = t .before .before .pre in (
-      pasted-next (t .before .loop .inv .0) _ (omega (arith, pre .1, t .loop-test .taken)) (omega (arith, pre .0, t .loop-test .taken)) refl,
+      pasted-next (t .before .loop .inv .0) _ (omega (arith, pre .1, t .loop-test .taken))
+          (omega (arith, pre .0, t .loop-test .taken)) refl,
       omega (arith, t .loop-test .taken),
     )
 
 whole : tie.Need-returns Inv-loop μ-loop
 whole c =
     let a = c .before .before .args in
-    pasted-at (a .start) (a .at) (a .n) (c .before .loop .inv .0) refl refl (omega (arith, c .before .loop .inv .1, c .loop-test .left)) .pasted
+    pasted-at (a .start) (a .at) (a .n) (c .before .loop .inv .0) refl refl
+    (omega (arith, c .before .loop .inv .1, c .loop-test .left)) .pasted
 
 pub copy-spec : {M : Type 1} → statement M
 copy-spec =

@@ -34,7 +34,8 @@ next c =
 whole : tie.Need-returns Inv-loop μ-loop
 whole c =
     let a = c .before .before .args in
-    pasted-at (a .from) (a .to) (a .n) (c .before .loop .inv .0) refl refl (omega (arith, c .before .loop .inv .1, c .loop-test .left)) .pasted
+    pasted-at (a .from) (a .to) (a .n) (c .before .loop .inv .0) refl refl
+    (omega (arith, c .before .loop .inv .1, c .loop-test .left)) .pasted
 
 pub move-down-spec : {M : Type 1} → statement M
 move-down-spec =

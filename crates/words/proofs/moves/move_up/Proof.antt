@@ -39,7 +39,8 @@ next : tie.Need-loop-again Inv-loop μ-loop
 next c =
     let t : Turn = search in
     let l = t .before .loop in
-    (one-more (l .i) (l .i - 1) (t .before .before .pre .0) (l .inv .1) (omega (arith, t .loop-test .taken)) (l .inv .0), omega (arith, l .inv .1))
+    let at = one-more (l .i) (l .i - 1) (t .before .before .pre .0) (l .inv .1) (omega (arith, t .loop-test .taken)) (l .inv .0) in
+    (at, omega (arith, l .inv .1))
 
 whole : tie.Need-returns Inv-loop μ-loop
 whole c =

@@ -8,4 +8,5 @@ use Rattle.words.proofs.shape.middle_binder.Tie as tie
 
 pub middle-binder-spec : {M : Type 1} → statement M
 middle-binder-spec = tie.close
-    (tie.spec (λ c. (ap counts (sym (eq-eqb _ _ (c .if1 .taken))), omega arith)) (λ c. (ap counts (sym (ne-eqb _ _ (c .if1 .left))), omega arith)))
+    (tie.spec (λ c. (ap counts (sym (eq-eqb _ _ (c .if1 .taken))), omega arith))
+    (λ c. (ap counts (sym (ne-eqb _ _ (c .if1 .left))), omega arith)))

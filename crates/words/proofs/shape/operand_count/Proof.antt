@@ -19,7 +19,8 @@ of-others : (k n : ℕ) → (k ≡ 4 → ⊥) → outerCount k n ≡ operandCoun
 unfolding operandCount outerCount
 of-others k n ne = simp (ne-eqb k 4 ne) (by-tests (eqb k 2) (eqb k 10) refl refl)
   where
-    by-tests : (a b : Bool) → eqb k 2 ≡ a → eqb k 10 ≡ b → cond (a || false || b) (cond (false || b) 1 0) n ≡ cond (a || false) 0 (cond b 1 n)
+    by-tests : (a b : Bool) → eqb k 2 ≡ a → eqb k 10 ≡ b
+        → cond (a || false || b) (cond (false || b) 1 0) n ≡ cond (a || false) 0 (cond b 1 n)
     by-tests true true d e = absurd (omega (arith, eqb-true k 2 d, eqb-true k 10 e))
     by-tests true false d e = refl
     by-tests false true d e = refl
@@ -27,4 +28,5 @@ of-others k n ne = simp (ne-eqb k 4 ne) (by-tests (eqb k 2) (eqb k 10) refl refl
 
 pub operand-count-spec : {M : Type 1} → statement M
 operand-count-spec = tie.close
-    (tie.spec (λ c. of-let _ _ (c .if1 .taken)) (λ c κs. search needs) (λ c. c .outer-count .ensures ∙ of-others _ _ (c .before .if1 .left)))
+    (tie.spec (λ c. of-let _ _ (c .if1 .taken)) (λ c κs. search needs)
+    (λ c. c .outer-count .ensures ∙ of-others _ _ (c .before .if1 .left)))

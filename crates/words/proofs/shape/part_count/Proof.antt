@@ -1,15 +1,19 @@
 -- The number's digits to the base 16 are the part counts of the kinds.
 use mathlib.Core.Path.{_≡_, refl}
+use mathlib.Core.Bool.{true}
 use Prim.Native.Nat.{ℕ, _*_, _/_, _%_, _^_, _<_}
 use native.Mathlib.Omega.{arith}
+use lib.Dec.{eqb}
 use borrow.Author.Needs.{needs}
 use Rattle.syntax.specs.Kinds.{partsOfKind}
-use Rattle.words.proofs.PartCounts.{of-call, of-kind, kinds-agree}
+use Rattle.words.proofs.PartCounts.{of-call, of-kind, passes, kinds-agree}
 use Rattle.words.proofs.shape.part_count.Statement.{statement}
 use Rattle.words.proofs.shape.part_count.Tie as tie
 
-agrees : (k : ℕ) → k < 16 → 3371836776704 / 2 ^ (k * 4) % 16 ≡ partsOfKind 0 k
-agrees = kinds-agree (λ j. 3371836776704 / 2 ^ (j * 4) % 16) (partsOfKind 0) refl
+-- a number's digits are the part counts if they are at each kind
+agrees : (n : ℕ) → passes (λ j. eqb (n / 2 ^ (j * 4) % 16) (partsOfKind 0 j)) 16 ≡ true → (k : ℕ) → k < 16
+    → n / 2 ^ (k * 4) % 16 ≡ partsOfKind 0 k
+agrees n = kinds-agree (λ j. n / 2 ^ (j * 4) % 16) (partsOfKind 0)
 
 pub part-count-spec : {M : Type 1} → statement M
 part-count-spec =
@@ -22,4 +26,4 @@ part-count-spec =
     (c .arity .ensures))
     (λ c. search needs)
     (λ c. search needs)
-    (λ c. of-kind _ _ _ _ (c .before .kind .ensures) (c .if1 .left) (agrees _ (omega (arith, c .before .kind .ensures)))))
+    (λ c. of-kind _ _ _ _ (c .before .kind .ensures) (c .if1 .left) (agrees _ refl _ (omega (arith, c .before .kind .ensures)))))

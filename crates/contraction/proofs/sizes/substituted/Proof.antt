@@ -2,8 +2,8 @@
 use native.Mathlib.Omega.{arith}
 use Rattle.contraction.proofs.RedexSizes.{product-small}
 use borrow.Author.Needs.{needs}
-use Rattle.contraction.proofs.plan.substituted.Statement.{statement}
-use Rattle.contraction.proofs.plan.substituted.Tie as tie
+use Rattle.contraction.proofs.sizes.substituted.Statement.{statement}
+use Rattle.contraction.proofs.sizes.substituted.Tie as tie
 
 pub substituted-spec : {M : Type 1} → statement M
 substituted-spec = tie.close
