@@ -12,6 +12,8 @@ ALL, DISJOINT, REDUCTION = RULES + " " + ROOTS + " " + FIRES, "reduction/proofs/
 CHECKS, VALUES, RUN, NORMALIZE = "typing/specs/Refusals", "syntax/specs/Values", "semantics/specs/Run", "outcomes/specs/Normalize"
 CHECK_2, CHECK_3 = "  _ ← require 2 (wellFormedTypes 0 (tables .types))\n", "  _ ← require 3 (distinct (tables .types))\n"
 CHECK_8, CHECK_9 = "  _ ← scopePlace tables t\n", "  A ← typePlace tables t\n"
+PARTS, CLAIM, VALUE_TYPES = "semantics/specs/TypeParts", "semantics/specs/Claim", "semantics/specs/ValueTypes"
+PART, OF_RESULT = "    itself : PartOf D D\n", "    of-result : PartOf tables D result → Subformula result u D\n"
 CAPACITY = "min (min (length (b .output)) (min (length (b .scratch₁)) (length (b .scratch₂)))) maxCapacity"
 
 # Name, the crate that refuses, edits (files, old, new). Laws of `reduction` state the rules twice more, as families; the first six mutants
@@ -35,14 +37,18 @@ MUTANTS = [
         (ROOTS + " " + FIRES, "{b v : Term} → T (isValue v)", "{b v : Term} → T true"), (FIRES, "(isValue (x .1)) (b", "true (b")]),
     ("left case takes the right branch", "reduction", [(ALL, "(l ⟦ v ⟧)", "(r ⟦ v ⟧)"), (FIRES, "(x .1 ⟦ v ⟧)", "(x .2 ⟦ v ⟧)")]),
     ("a claim that says nothing of redexes", "theory", [
-        ("semantics/specs/Claim", "normal ≡ true", "normal ≡ isNormal allPure normal"), ("theory/proofs/ClaimHolds", "z .normal;", "refl;")]),
+        (CLAIM, "normal ≡ true", "normal ≡ isNormal (mayDrop (tables .calls)) normal"), ("theory/proofs/ClaimHolds", "z .normal;", "refl;")]),
+    ("every type is part of every type", "semantics", [(PARTS, PART, PART + "    ofAny : {A : ℕ} → PartOf D A\n")]),
+    ("every type is allowed as a part's type", "theory", [(CLAIM, OF_RESULT, OF_RESULT + "    of-any : Subformula result u D\n")]),
+    ("a base type has no value, so nothing can be fed", "theory", [
+        (VALUE_TYPES, "Tables, base,", "Tables, arrow,"), (VALUE_TYPES, "components tables base A", "components tables arrow A")]),
     ("a run goes right to left", "theory", [(RUN, "h ← run ρ f\n    v ← run ρ a\n", "v ← run ρ a\n    h ← run ρ f\n")]),
     ("calls put at the trace's front", "theory", [(RUN, "ended x (c ++ d)", "ended x (d ++ c)")]),
     ("let of let also on a value", "reduction", [(RULES, "given (isComputation p) (bind", "given true (bind")]),
     ("drop of a value", "reduction", [(RULES, "isComputation e && pure e", "pure e")]),
     ("second operand named before the first", "reduction", [
         (VALUES, "at f (λ x. app x a) ∷ at a (λ x. app f x) ∷ []", "at a (λ x. app f x) ∷ at f (λ x. app x a) ∷ []")]),
-    ("a case's branches counted as operands", "reduction", [
+    ("a case's branches counted as operands", "syntax", [
         (VALUES, "at s (λ x. case x l r) ∷ []", "at s (λ x. case x l r) ∷ at l (λ x. case s x r) ∷ at r (λ x. case s l x) ∷ []")]),
     ("11 before 10", "reduction", [(REDUCTION, "some s ↦ stopped 10 counts",
         "some s ↦ elim (leb (size (s .next)) capacity) [ false ↦ stopped 11 counts | true ↦ stopped 10 counts ]")]),

@@ -17,11 +17,11 @@ use Rattle.reduction.specs.Reduction.{runPhase, thenPhase, reduce}
 use Rattle.reduction.specs.Rules.{nameFirst, letInsertion, letOfLet, letOfCase, apply, first, second, leftCase, rightCase, letValue}
 use Rattle.reduction.specs.MayDrop.{mayDrop}
 use Rattle.reduction.specs.Rules.{drop, fire, rules}
-use Rattle.outcomes.specs.Buffers.{overwrite}
+use Rattle.outcomes.specs.Buffers.{overwrite, cleared}
 use Rattle.outcomes.specs.Listing.{decimalThen, decimal, hexadecimal, fields, lines, listingOf}
 use Rattle.outcomes.specs.Check.{checkOutcome}
 use Rattle.outcomes.specs.IsNormal.{isNormalOutcome}
-use Rattle.outcomes.specs.Normalize.{reducedTo, checkedTo, normalizeWithin}
+use Rattle.outcomes.specs.Normalize.{reducedTo, checkedTo, normalizeWithin, capacityOf, normalizeOutcome}
 use Rattle.outcomes.specs.ReadBundle.{fromBytes, wordsOf, lengthsOf, readable, wordsAfter, readBundleOutcome}
 use Rattle.outcomes.specs.Respond.{tablesOf, termOf, respondTo, response}
 use Rattle.outcomes.specs.Text.{ascii}
@@ -42,8 +42,8 @@ unfolding leaf unary binary ternary splitForest callBuilder builders graft decod
     partsOf asVar asLam asApp asBind asPair asFst asSnd asInl asInr asCase isValue isComputation argumentsIn operands uses infer
     elaborate lengthsFit wellFormedTypes distinct wellFormedCalls wellFormedInputs wellFormedWords scopedAt scoped contract
     firstStep step runPhase thenPhase reduce nameFirst letInsertion letOfLet letOfCase apply first second leftCase rightCase
-    letValue mayDrop drop fire rules overwrite decimalThen decimal hexadecimal fields lines listingOf reducedTo checkedTo
-    normalizeWithin isNormal checkOutcome isNormalOutcome fromBytes wordsOf lengthsOf readable wordsAfter readBundleOutcome
-    tablesOf termOf respondTo response ascii computed expected bytesOf bundleOf bundle further questions replied awaited
-    badBundles largest slices readings
+    letValue mayDrop drop fire rules overwrite cleared decimalThen decimal hexadecimal fields lines listingOf reducedTo checkedTo
+    normalizeWithin capacityOf normalizeOutcome isNormal checkOutcome isNormalOutcome fromBytes wordsOf lengthsOf readable
+    wordsAfter readBundleOutcome tablesOf termOf respondTo response ascii computed expected bytesOf bundleOf bundle further
+    questions replied awaited badBundles largest slices readings
 computes = record { cases = refl; replies = refl; refusals = refl; longest = refl; read = refl }

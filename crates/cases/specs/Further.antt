@@ -15,9 +15,8 @@ use Rattle.outcomes.specs.declared.Checked.{Checked}
 use Rattle.outcomes.specs.declared.Tested.{Tested}
 use Rattle.outcomes.specs.ReadBundle.{Reading, unreadable}
 use Rattle.outcomes.specs.Text.{ascii}
-use Rattle.cases.specs.Table.{Case, tablesWith, c, d, v0, v1, A, A′, accepts, refuses}
+use Rattle.cases.specs.Table.{Case, roomy, nines, tablesWith, c, d, v0, v1, A, A′, accepts, refuses}
 use Rattle.cases.specs.Sample.{bundleOf, bundle}
-use Rattle.cases.specs.Limits.{nines}
 
 -- a call word: how many arguments, the result type, the argument types
 abbrev callWord : ℕ → ℕ → ℕ → ℕ → ℕ → ℕ
@@ -38,7 +37,7 @@ pairs inputs t u counts =
       tables = tablesWith inputs;
       words = encode t;
       budget = 1000000;
-      capacity = 8192;
+      buffers = roomy;
       refusal = 0;
       type = 2;
       counts = counts;

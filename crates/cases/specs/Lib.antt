@@ -2,3 +2,4 @@ pub mod Table
 pub mod Sample
 pub mod Limits
 pub mod Further
+pub mod Runs

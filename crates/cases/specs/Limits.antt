@@ -1,34 +1,12 @@
--- Buffers before and after a call, and tables at the limits of check 1.
+-- Tables at the limits of check 1, and buffers at the limit of the capacity.
 use Prim.Native.Nat.{ℕ}
 use mathlib.Core.Bool.{Bool}
-use mathlib.Core.List.{List, [], _∷_, _++_}
+use mathlib.Core.List.{List, [], _∷_}
 use lib.ListN.{replicate}
-use Rattle.syntax.specs.Encoding.{encode}
 use Rattle.typing.specs.Refusals.{normalizeLimit}
 use Rattle.typing.specs.TableChecks.{lengthsFit}
-use Rattle.outcomes.specs.Normalize.{Buffers, normalizeOutcome}
-use Rattle.cases.specs.Table.{tablesWith, A, A′}
-
--- case A over buffers that hold 9s: with capacity 7 it is accepted, with capacity 6 refused
-abbrev pub nines : ℕ → List ℕ
-nines n = replicate n 9
-
-unfoldable pub buffered : List Buffers
-buffered =
-    record { output = nines 8; scratch₁ = nines 7; scratch₂ = nines 9 }
-    ∷ record { output = nines 8; scratch₁ = nines 7; scratch₂ = nines 6 }
-    ∷ []
-
--- the normal form at the output's front and its rest unchanged, or all of it unchanged; scratch buffers of zeros
-unfoldable pub leaves : List Buffers
-leaves =
-    record { output = encode A′ ++ nines 4; scratch₁ = replicate 7 0; scratch₂ = replicate 9 0 }
-    ∷ record { output = nines 8; scratch₁ = replicate 7 0; scratch₂ = replicate 6 0 }
-    ∷ []
-
--- the buffers that case A leaves
-unfoldable pub left : Buffers → Buffers
-left before = normalizeOutcome (record { budget = 1000000 }) (tablesWith []) (encode A) before .buffers
+use Rattle.outcomes.specs.Normalize.{capacityOf}
+use Rattle.cases.specs.Table.{Lent, lent, holding}
 
 -- lengths of the four tables: at their limits, then one more of each, then no term word
 pub record Sizes : Type 0 where
@@ -57,3 +35,11 @@ fit s = lengthsFit normalizeLimit (record {
   calls = replicate (s .calls) 0;
   inputs = replicate (s .inputs) 0;
 }) (replicate (s .words) 0)
+
+-- buffers of 8,192 words, longer ones, and one a word shorter
+unfoldable pub rooms : List Lent
+rooms = lent 8192 8192 8192 ∷ lent 8193 8194 8195 ∷ lent 8193 8191 8192 ∷ []
+
+-- the capacity that they give
+unfoldable pub capacity : Lent → ℕ
+capacity b = capacityOf (holding b)

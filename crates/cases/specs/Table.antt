@@ -1,24 +1,44 @@
 -- Paper 01's proved table, cases A to L.
-use Prim.Native.Nat.{ℕ}
+use Prim.Native.Nat.{ℕ, _-_}
 use mathlib.Core.List.{List, [], _∷_, _++_}
-use lib.ListN.{length}
+use lib.ListN.{length, replicate}
 use Rattle.syntax.specs.Words.{pack}
 use Rattle.syntax.specs.Tables.{Tables}
 use Rattle.syntax.specs.Term.{Term, var, call, lam, app, bind, pair, fst, inl, case, done, arg}
 use Rattle.syntax.specs.Encoding.{encode}
 use Rattle.reduction.specs.Reduction.{Counts, zeroCounts}
-use Rattle.outcomes.specs.Normalize.{Normalized, normalizeWithin}
+use Rattle.outcomes.specs.Normalize.{Buffers, Outcome, normalizeOutcome}
 
--- a case: tables, term words, budget and capacity, and the expected refusal, type, counts and words
+-- the lengths of the three lent buffers; paper 01's room is the shortest
+pub record Lent : Type 0 where
+  pub output : ℕ
+  pub scratch₁ : ℕ
+  pub scratch₂ : ℕ
+
+abbrev pub lent : ℕ → ℕ → ℕ → Lent
+lent o s₁ s₂ = record { output = o; scratch₁ = s₁; scratch₂ = s₂ }
+
+-- longer than any term of the table
+abbrev pub roomy : Lent
+roomy = lent 18 17 16
+
+-- a case: tables, term words, budget and buffers, and the expected refusal, type, counts and words
 pub record Case : Type 0 where
   pub tables : Tables
   pub words : List ℕ
   pub budget : ℕ
-  pub capacity : ℕ
+  pub buffers : Lent
   pub refusal : ℕ
   pub type : ℕ
   pub counts : Counts
   pub result : List ℕ
+
+-- what a buffer holds before a call, and what a scratch buffer holds after it
+abbrev pub nines : ℕ → List ℕ
+nines n = replicate n 9
+
+abbrev zeros : ℕ → List ℕ
+zeros n = replicate n 0
 
 -- types 0 base, 1 function 0 to 0, 2 product 0 0, 3 sum 0 0; calls c with no argument, d with one, all of type 0
 abbrev pub tablesWith : List ℕ → Tables
@@ -43,20 +63,20 @@ accepts inputs t u counts =
       tables = tablesWith inputs;
       words = encode t;
       budget = 1000000;
-      capacity = 8192;
+      buffers = roomy;
       refusal = 0;
       type = 0;
       counts = counts;
       result = encode u;
     }
 
-abbrev pub limited : ℕ → ℕ → Term → ℕ → Counts → List ℕ → Case
-limited budget capacity t refusal counts result =
+abbrev pub limited : ℕ → Lent → Term → ℕ → Counts → List ℕ → Case
+limited budget buffers t refusal counts result =
     record {
       tables = tablesWith [];
       words = encode t;
       budget = budget;
-      capacity = capacity;
+      buffers = buffers;
       refusal = refusal;
       type = 0;
       counts = counts;
@@ -68,7 +88,7 @@ refuses tables words n = record {
   tables = tables;
   words = words;
   budget = 1000000;
-  capacity = 8192;
+  buffers = roomy;
   refusal = n;
   type = 0;
   counts = zeroCounts;
@@ -81,15 +101,23 @@ A = app (lam 1 (d v0)) c
 abbrev pub A′ : Term
 A′ = bind c (d v0)
 
--- what the definitions make of a case
-unfoldable pub computed : Case → Normalized
-computed x = normalizeWithin (x .capacity) (record { budget = x .budget }) (x .tables) (x .words)
+-- buffers of 9s
+abbrev pub holding : Lent → Buffers
+holding b = record { output = nines (b .output); scratch₁ = nines (b .scratch₁); scratch₂ = nines (b .scratch₂) }
 
--- what paper 01 says of it
-unfoldable pub expected : Case → Normalized
+-- what the definitions make of a case: the outcome of the call
+unfoldable pub computed : Case → Outcome
+computed x = normalizeOutcome (record { budget = x .budget }) (x .tables) (x .words) (holding (x .buffers))
+
+-- what paper 01 says of it: the answer, the result at the output's front and its rest unchanged, and scratch buffers of zeros
+unfoldable pub expected : Case → Outcome
 expected x = record {
   answer = record { refusal = x .refusal; ty = x .type; length = length (x .result); counts = x .counts };
-  words = x .result;
+  buffers = record {
+    output = x .result ++ nines (x .buffers .output - length (x .result));
+    scratch₁ = zeros (x .buffers .scratch₁);
+    scratch₂ = zeros (x .buffers .scratch₂);
+  };
 }
 
 unfoldable pub table : List Case
@@ -103,12 +131,15 @@ table =
     -- F, G
     ∷ accepts (3 ∷ []) (bind (case v0 v0 v0) (d v0)) (case v0 (d v0) (d v0)) (0 ∷ 0 ∷ 1 ∷ 0 ∷ 0 ∷ 0 ∷ 0 ∷ 0 ∷ 2 ∷ 0 ∷ [])
     ∷ accepts [] (d (d c)) (bind c (bind (d v0) (d v0))) (2 ∷ 1 ∷ 0 ∷ 0 ∷ 0 ∷ 0 ∷ 0 ∷ 0 ∷ 0 ∷ 0 ∷ [])
-    -- H: budget 1, and 2; I: capacity 6, and 7; J: capacity 6 and budget 0
-    ∷ limited 1 8192 A 10 (1 ∷ 0 ∷ 0 ∷ 0 ∷ 0 ∷ 0 ∷ 0 ∷ 0 ∷ 0 ∷ 0 ∷ []) []
-    ∷ limited 2 8192 A 0 (1 ∷ 0 ∷ 0 ∷ 1 ∷ 0 ∷ 0 ∷ 0 ∷ 0 ∷ 0 ∷ 0 ∷ []) (encode A′)
-    ∷ limited 1000000 6 A 11 zeroCounts []
-    ∷ limited 1000000 7 A 0 (1 ∷ 0 ∷ 0 ∷ 1 ∷ 0 ∷ 0 ∷ 0 ∷ 0 ∷ 0 ∷ 0 ∷ []) (encode A′)
-    ∷ limited 0 6 A 10 zeroCounts []
+    -- H: budget 1, and 2
+    ∷ limited 1 roomy A 10 (1 ∷ 0 ∷ 0 ∷ 0 ∷ 0 ∷ 0 ∷ 0 ∷ 0 ∷ 0 ∷ 0 ∷ []) []
+    ∷ limited 2 roomy A 0 (1 ∷ 0 ∷ 0 ∷ 1 ∷ 0 ∷ 0 ∷ 0 ∷ 0 ∷ 0 ∷ 0 ∷ []) (encode A′)
+    -- I: capacity 6 by each of the buffers, and 7; J: capacity 6 and budget 0
+    ∷ limited 1000000 (lent 6 7 8) A 11 zeroCounts []
+    ∷ limited 1000000 (lent 8 6 7) A 11 zeroCounts []
+    ∷ limited 1000000 (lent 7 8 6) A 11 zeroCounts []
+    ∷ limited 1000000 (lent 8 7 9) A 0 (1 ∷ 0 ∷ 0 ∷ 1 ∷ 0 ∷ 0 ∷ 0 ∷ 0 ∷ 0 ∷ 0 ∷ []) (encode A′)
+    ∷ limited 0 (lent 6 6 6) A 10 zeroCounts []
     -- K: two words v0, v0; L: type 0 a function of 0 to 0
     ∷ refuses (tablesWith (0 ∷ [])) (encode v0 ++ encode v0) 7
     ∷ refuses (record { types = pack 1 0 0 ∷ []; calls = []; inputs = 0 ∷ [] }) (encode v0) 2

@@ -21,10 +21,6 @@ told-false e f = sym e ∙ not-true _ f
 pub told : {a b : Bool} → b ≡ a → not b ≡ false → T a
 told e f = subst T (sym (told-true e f)) tt
 
-pub and-false : (b : Bool) → (b && false) ≡ false
-and-false true = refl
-and-false false = refl
-
 -- a test of a whole list from index i on: passed by no members, and by members of which the first passes its test and the others do
 pub record Test (whole : ℕ → List ℕ → Bool) (first : ℕ → ℕ → List ℕ → Bool) : Type 0 where
   pub none : (i : ℕ) → whole i [] ≡ true

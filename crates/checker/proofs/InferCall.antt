@@ -1,6 +1,6 @@
 -- A call's type from its arguments' types: up to three arguments are typed and compared, and more than three fit no signature.
 use mathlib.Core.Path.{_≡_, refl, sym, _∙_, ap}
-use mathlib.Core.Bool.{Bool, false, _&&_}
+use mathlib.Core.Bool.{Bool, false, _&&_, and-false}
 use mathlib.Core.List.{List, [], _∷_}
 use mathlib.Core.Option.{Option, some, none, Option·some-injective, Option·none-ne-some}
 use Prim.Native.Nat.{ℕ, suc, _≤_, _<_}
@@ -15,7 +15,6 @@ use Rattle.syntax.specs.Kinds.{bindersAt}
 use Rattle.syntax.specs.Shaped.{count}
 use Rattle.typing.specs.Infer.{Context, equal, infer, inferAll}
 use Rattle.checker.specs.Nodes.{callType}
-use Rattle.checker.proofs.Every.{and-false}
 use Rattle.checker.proofs.PartTypes.{inferParts}
 use Rattle.checker.proofs.Clauses.{one, two, three}
 

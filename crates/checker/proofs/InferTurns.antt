@@ -2,7 +2,7 @@
 use mathlib.Core.Path.{_≡_, refl, sym, _∙_, ap, subst}
 use mathlib.Core.Bool.{Bool, true, false}
 use mathlib.Core.List.{List, []}
-use mathlib.Core.Option.{Option, none}
+use mathlib.Core.Option.{none}
 use Prim.Native.Nat.{ℕ, _+_, _-_, _*_, _/_, _%_, _≤_, _<_}
 use native.Mathlib.Omega.{arith}
 use lib.Dec.{T}
@@ -118,7 +118,9 @@ module _ {types calls inputs words : List ℕ} where
         (leafType (over [] calls []) (scope inputs stack depth) (getD (from words at) 0 0))) where
       answer : r ≡ startOf (partCount calls w) (leafType (over types calls inputs) (scope inputs stack depth) w)
       unfolding leafType callType
-      answer = e ∙ ap (λ (x : ℕ). startOf (partCount calls x) (leafType (over types calls inputs) (scope inputs stack depth) x)) (first-from words at)
+      answer =
+          e ∙ ap (λ (x : ℕ). startOf (partCount calls x) (leafType (over types calls inputs) (scope inputs stack depth) x))
+          (first-from words at)
 
       pub turn-fail : r ≡ Fails → Infers (over types calls inputs) inputs words Untyped
       turn-fail u = start-fails _ _ r answer (Infers (over types calls inputs) inputs words Untyped) u
@@ -192,29 +194,31 @@ module _ {types calls inputs words : List ℕ} where
         stand = λ t rest h.
             let head = getD nodes last 0 in
             give-next types calls inputs words stack nodes at top depth A t rest (g .stand t rest h) (i .first) last place j refl
-            (halves head) (quarter head) (last - j) outside refl oe S r enters more (omega (arith, i .noted)) (omega (arith, oe, i .stacked));
+            (halves head) (quarter head) (last - j) outside refl oe S r enters more (omega (arith, i .noted))
+            (omega (arith, oe, i .stacked));
       }
 
       -- no part is left, and what `type_from` answers
       module _ (no-more : partCount calls v ≤ j + 1) (r : Inferred)
           (e : r ≡ inferredOf (nodeType (over types calls []) (kindOf v) (numberOf v) (typeOf v) (typesTo (set nodes last A) (last - j) j)))
-          where
-        answered : r ≡ inferredOf (nodeType (over types calls inputs) (kindOf v) (numberOf v) (typeOf v) (typesTo (set nodes last A) (last - j) j))
-        unfolding nodeType callType
-        answered = e
+        where
+          answered : r
+              ≡ inferredOf (nodeType (over types calls inputs) (kindOf v) (numberOf v) (typeOf v) (typesTo (set nodes last A) (last - j) j))
+          unfolding nodeType callType
+          answered = e
 
-        pub turn-untyped : r ≡ Untyped → Infers (over types calls inputs) inputs words Untyped
-        turn-untyped u = untyped types calls inputs words λ t rest h.
-            let head = getD nodes last 0 in
-            give-last types calls inputs words stack nodes at top depth A t rest (g .stand t rest h) (i .first) last place j refl
-            (halves head) (quarter head) (last - j) outside refl oe no-more (omega (arith, i .noted)) .1 (untyped-if _ r answered u)
-
-        pub turn-last : (B : ℕ) → r ≡ Typed B → Having types calls inputs words stack (set nodes last A) at (last - j) outside B
-        turn-last B u = record {
-          start = g .start;
-          low = omega (arith, g .low);
-          stand = λ t rest h.
+          pub turn-untyped : r ≡ Untyped → Infers (over types calls inputs) inputs words Untyped
+          turn-untyped u = untyped types calls inputs words λ t rest h.
               let head = getD nodes last 0 in
               give-last types calls inputs words stack nodes at top depth A t rest (g .stand t rest h) (i .first) last place j refl
-              (halves head) (quarter head) (last - j) outside refl oe no-more (omega (arith, i .noted)) .0 B (typed-if _ B r answered u);
-        }
+              (halves head) (quarter head) (last - j) outside refl oe no-more (omega (arith, i .noted)) .1 (untyped-if _ r answered u)
+
+          pub turn-last : (B : ℕ) → r ≡ Typed B → Having types calls inputs words stack (set nodes last A) at (last - j) outside B
+          turn-last B u = record {
+            start = g .start;
+            low = omega (arith, g .low);
+            stand = λ t rest h.
+                let head = getD nodes last 0 in
+                give-last types calls inputs words stack nodes at top depth A t rest (g .stand t rest h) (i .first) last place j refl
+                (halves head) (quarter head) (last - j) outside refl oe no-more (omega (arith, i .noted)) .0 B (typed-if _ B r answered u);
+          }

@@ -1,6 +1,6 @@
 -- Words marked by their residue, from the last to the first: only words of one residue have to be compared.
 use mathlib.Core.Path.{_≡_, refl, sym, _∙_, ap, subst}
-use mathlib.Core.Bool.{Bool, true, false, _&&_, not}
+use mathlib.Core.Bool.{Bool, true, false, _&&_, not, and-false}
 use mathlib.Core.List.{List, [], _∷_}
 use Prim.Native.Nat.{ℕ, zero, suc, _-_, _≤_, _<_}
 use native.Mathlib.Omega.{arith}
@@ -12,7 +12,7 @@ use borrow.Author.Tests.{eqb-true, eqb-false, ne-eqb}
 use Rattle.syntax.proofs.Nodes.{tail-part}
 use Rattle.typing.specs.TableChecks.{every, distinct}
 use Rattle.checker.specs.Residues.{residueOf, Noted, noted-none, noted-more}
-use Rattle.checker.proofs.Every.{told-true, told-false, and-false}
+use Rattle.checker.proofs.Every.{told-true, told-false}
 
 abbrev absent : ℕ → List ℕ → Bool
 absent w ws = every (λ x. not (eqb w x)) ws

@@ -17,12 +17,13 @@ use words::fields::result;
 use words::fields::ty;
 use words::shape::shape_of;
 
+// the two parts of a type, if it is of the kind that is asked for
 pub enum Components {
     Of(u64, u64),
     Missing,
 }
 
-// the two parts of a type that is of a given kind
+// those of type number a, which is to be of kind `wanted`
 fn parts_of_type(types: &[u64], wanted: u64, a: u64) -> Components
     ensures { λ r. ⌜ r ≡ componentsOf (componentsAt (over (now (types .entry)) [] []) wanted a) ⌝ }
 {
@@ -42,6 +43,7 @@ pub enum Inferred {
     Untyped,
 }
 
+// the type, if the test passed
 fn given(ok: bool, a: u64) -> Inferred
     ensures { λ r. ⌜ r ≡ inferredOf (givenOf ok a) ⌝ }
 {
@@ -80,6 +82,7 @@ pub fn binder(types: &[u64], w: u64, j: usize, first: u64) -> u64
     ty(e)
 }
 
+// the first of two if the test passed, and else the second
 fn pick(b: bool, x: u64, y: u64) -> u64
     ensures { λ r. ⌜ r ≡ cond b x y ⌝ }
 {

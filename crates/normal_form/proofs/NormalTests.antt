@@ -51,10 +51,12 @@ module _ {calls words : List ℕ} (s : Starts calls words) (old : List ℕ) (dep
       → TestsNormal isNormalValue calls words depth old new (record { end = 1; ok = true })
   unfolding isNormalValue class
   value-variable {new} number z ne m = record {
-    told = λ t rest h. variable-at h (sym ke ∙ z) (λ x. NormalAnswer (isNormalValue calls) x depth old new _) λ v e. record {
-      ok-is = refl;
-      passed = λ y. record { end-is = sym (size-var v); marked = subst (λ (i : ℕ). Marked 1 (var i) depth old new) (ne ∙ e) m };
-    };
+    told = λ t rest h.
+        variable-at h (sym ke ∙ z) (λ x. NormalAnswer (isNormalValue calls) x depth old new (record { end = 1; ok = true })) λ v e.
+        record {
+          ok-is = refl;
+          passed = λ y. record { end-is = sym (size-var v); marked = subst (λ (i : ℕ). Marked 1 (var i) depth old new) (ne ∙ e) m };
+        };
   }
 
   -- a node that is not of the kind of a value

@@ -6,7 +6,7 @@ use mathlib.Core.List.{List, [], append-nil}
 use lib.ListN.{length, take, length-take}
 use Rattle.syntax.specs.Tables.{over}
 use Rattle.syntax.specs.Encoding.{encode, size}
-use Rattle.typing.specs.Refusals.{refused, TypedTerm, elaborate, normalizeLimit}
+use Rattle.typing.specs.Refusals.{TypedTerm, elaborate, normalizeLimit}
 use Rattle.typing.proofs.Accepted.{Passed}
 use Rattle.reduction.specs.MayDrop.{mayDrop}
 use Rattle.reduction.specs.Reduction.{zeroCounts, reduce}
@@ -21,10 +21,10 @@ use Rattle.checker.proofs.Verdicts.{Accepts, accepted-of, refused-of, accepted-
 use Rattle.normalizer.specs.Answers.{Fills, FillsNormalized, Settleable, Settles}
 
 -- the checks' answer and the capacity are those of the definitions, and the term is accepted
-pub record Accepted (types calls inputs words : List ℕ) (before : Buffers) (checked : Checked) (capacity : ℕ)
+pub record AcceptedTerm (types calls inputs words : List ℕ) (before : Buffers) (checked : Checked) (capacity : ℕ)
     : Type 0 where
   pub checked-is : checked ≡ checkedOf (elaborate normalizeLimit (over types calls inputs) words)
-  pub accepted : checked .refusal ≡ 0
+  pub not-refused : checked .refusal ≡ 0
   pub capacity-is : capacity ≡ min (min (length (before .output)) (min (length (before .scratch₁)) (length (before .scratch₂)))) 8192
 
 -- an outcome without words
@@ -46,10 +46,10 @@ refusal-fills types calls inputs words before budget checked ce z ae =
     (record { budget = budget })) (refused-of normalizeLimit (over types calls inputs) words checked ce z)) refl ae
 
 module _ {types calls inputs words : List ℕ} {before : Buffers} {checked : Checked} {capacity : ℕ}
-    (y : Accepted types calls inputs words before checked capacity) where
+    (y : AcceptedTerm types calls inputs words before checked capacity) where
   abbrev passed : Accepts (Passed normalizeLimit (over types calls inputs) words) (elaborate normalizeLimit (over types calls inputs) words)
       (checked .ty)
-  passed = accepted-of normalizeLimit (over types calls inputs) words checked (y .checked-is) (y .accepted)
+  passed = accepted-of normalizeLimit (over types calls inputs) words checked (y .checked-is) (y .not-refused)
 
   abbrev x : TypedTerm
   x = passed .typed

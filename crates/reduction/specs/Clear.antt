@@ -1,4 +1,5 @@
 -- Where no redex of a phase stands: before an index.
+-- No public contract rests on this module: it serves proofs.
 use mathlib.Core.Path.{_≡_}
 use mathlib.Core.Bool.{Bool}
 use mathlib.Core.Option.{some, none}

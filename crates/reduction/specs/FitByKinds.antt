@@ -1,5 +1,5 @@
--- The rule of phase 2 that fits a node, by the kinds of three words: the node's, its first part's, and that part's first part's.
--- It is the rule that fits where every operand is a value, since then the kind alone says whether a part is a value.
+-- The rule of phase 2 that fits a node whose operands are values, by the kinds of three words: the node's, its first part's, and that
+-- part's first part's. No public contract rests on this module: it serves proofs.
 use Prim.Native.Nat.{ℕ}
 use mathlib.Core.Bool.{Bool, cond, _||_, not}
 use mathlib.Core.Option.{Option, some, none}

@@ -15,7 +15,7 @@ use Rattle.reduction.specs.declared.Rule.the-variants.{LetInsertion, Let
 use Rattle.reduction.specs.declared.Rule.the-variants.{LetValue, Drop}
 
 -- the first operand that is a computation is bound by a let, over the node with the new variable there;
--- the second list holds the same operand positions of the node moved under the new binder
+-- the second list holds the same operand positions of the node moved under the new binder (syntax/proofs/OperandsRenamed)
 unfoldable pub nameFirst : List Operand → List Operand → Option Term
 nameFirst [] qs = none
 nameFirst (p ∷ ps) [] = none

@@ -14,6 +14,7 @@ pub mod Sizes
 pub mod PartsUnder
 pub mod UsesTraverse
 pub mod Uses
+pub mod OperandsRenamed
 pub mod Agreement
 pub mod Sublists
 pub mod Sites

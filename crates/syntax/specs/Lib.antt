@@ -1,17 +1,19 @@
+-- What public contracts rest on, in the order of reading.
 pub mod Maybe
+pub mod Lists
 pub mod Words
 pub mod Tables
 pub mod Kinds
 pub mod Term
 pub mod Encoding
 pub mod Decoding
+pub mod Substitution
+pub mod Values
+pub mod Positions
+pub mod Calls
+-- What serves proofs alone.
 pub mod Parts
 pub mod Shaped
-pub mod Substitution
 pub mod Under
-pub mod Values
 pub mod PartsUnder
-pub mod Positions
 pub mod Pending
-pub mod Lists
-pub mod Calls

@@ -1,4 +1,5 @@
 -- Where the words of a part end, on words alone.
+-- No public contract rests on this module: it serves proofs.
 use Prim.Native.Nat.{ℕ, zero, suc, _+_}
 use mathlib.Core.List.{List, [], _∷_}
 use mathlib.Core.Option.{Option, some, none, Option·map}

@@ -1,4 +1,5 @@
 -- A traversal and the uses of a variable by a node's parts, whatever its kind: each part stands under its own number of binders.
+-- No public contract rests on this module: it serves proofs.
 use Prim.Native.Nat.{ℕ, suc, _+_}
 use Rattle.syntax.specs.Kinds.{bindersAt}
 use Rattle.syntax.specs.Term.{Terms, done, arg}

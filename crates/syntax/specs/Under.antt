@@ -1,4 +1,5 @@
 -- What is put for variables, carried under several binders: the form that code which counts binders refers to.
+-- No public contract rests on this module: it serves proofs.
 use Prim.Native.Nat.{ℕ, zero, suc, _+_}
 use Rattle.syntax.specs.Term.{Term}
 use Rattle.syntax.specs.Substitution.{Kit, under, renaming, substitution, only}

@@ -97,7 +97,8 @@ parts tables A u e (listed {As = As} h) = record { types = As; are = e; each = �
 
 pub claim-of-sequence : (tables : Tables) (words : List ℕ) (A : ℕ) (t u : Term) → Earlier tables → Fitting tables
     → T (wellFormedWords tables words) → decode (tables .calls) words ≡ some t
-    → infer tables t (tables .inputs) ≡ some A → size u ≤ maxCapacity → Sequence (mayDrop (tables .calls)) t u → Claim tables words A (encode u)
+    → infer tables t (tables .inputs) ≡ some A → size u ≤ maxCapacity → Sequence (mayDrop (tables .calls)) t u
+    → Claim tables words A (encode u)
 claim-of-sequence tables words A t u wf fit w d e l q =
     let z = last tables (mayDrop (tables .calls)) A t u e q in
     let x = typing-of tables (λ k. k ∈ callsIn u) u (tables .inputs) A (z .type) (λ k i. i) in
@@ -137,7 +138,8 @@ passed-at limit tables words (passed p) = p
 -- the claim holds of every accepted outcome
 pub claim : (tables : Tables) (words : List ℕ) (capacity : ℕ) (settings : Settings) (x : TypedTerm) (left : ℕ) (u : Term) (counts : Counts)
     → capacity ≤ maxCapacity
-    → elaborate normalizeLimit tables words ≡ accepted x → reduce (mayDrop (tables .calls)) capacity settings (x .term) ≡ reached left u counts
+    → elaborate normalizeLimit tables words ≡ accepted x
+    → reduce (mayDrop (tables .calls)) capacity settings (x .term) ≡ reached left u counts
     → Claim tables words (x .type) (encode u)
 claim tables words capacity settings x left u counts h e r =
     let p = passed-at normalizeLimit tables words

@@ -25,7 +25,7 @@ Plain (both A B) = Plain A × Plain B
 Plain (either A B) = Plain A × Plain B
 
 module _ (tables : Tables) (wf : Earlier tables) where
-  components-of : (k A w : ℕ) → getElem? (tables .types) A ≡ some w → kindOf w ≡ k → components tables k A ≡ some (leftOf w, rightOf w)
+  pub components-of : (k A w : ℕ) → getElem? (tables .types) A ≡ some w → kindOf w ≡ k → components tables k A ≡ some (leftOf w, rightOf w)
   components-of k A w e h =
       subst (λ (o : Option ℕ). (o >>= λ w. given {X = ℕ × ℕ} (eqb (kindOf w) k) (leftOf w, rightOf w)) ≡ some (leftOf w, rightOf w)) (sym e)
       (go (eqb (kindOf w) k) (subst (λ (n : ℕ). T (eqb (kindOf w) n)) h (eqb-refl (kindOf w))))
@@ -34,10 +34,12 @@ module _ (tables : Tables) (wf : Earlier tables) where
       go true h = refl
       go false h = absurd h
 
-  free-left : {A l r : ℕ} (k : ℕ) → T (isComposite k) → components tables k A ≡ some (l, r) → FunctionFree tables A → FunctionFree tables l
+  pub free-left : {A l r : ℕ} (k : ℕ) → T (isComposite k) → components tables k A ≡ some (l, r) → FunctionFree tables A
+      → FunctionFree tables l
   free-left k c e f D p = f D (ofLeft k c e p)
 
-  free-right : {A l r : ℕ} (k : ℕ) → T (isComposite k) → components tables k A ≡ some (l, r) → FunctionFree tables A → FunctionFree tables r
+  pub free-right : {A l r : ℕ} (k : ℕ) → T (isComposite k) → components tables k A ≡ some (l, r) → FunctionFree tables A
+      → FunctionFree tables r
   free-right k c e f D p = f D (ofRight k c e p)
 
   plain-word : (f A w k : ℕ) → getElem? (tables .types) A ≡ some w → kindOf w ≡ k → FunctionFree tables A

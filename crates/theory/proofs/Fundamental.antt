@@ -13,8 +13,9 @@ use Rattle.syntax.proofs.Algebra.{rename-id, renames-id, rename-rename}
 use Rattle.typing.proofs.Typing.{At, here, there, Typed, TypedAll, t-var, t-call, t-lam, t-app, t-bind, t-pair, t-fst, t-snd, t-inl, t-inr}
 use Rattle.typing.proofs.Typing.{t-case, t-done, t-arg}
 use Rattle.theory.proofs.Ends.{ends-var}
-use Rattle.theory.proofs.Relation.{Model, Rv, Runs, E, EAll}
-use Rattle.theory.proofs.Compatible.{Bound, e-lam, e-app, e-bind, e-pair, e-fst, e-snd, e-inl, e-inr, e-case, e-done, e-arg, e-call}
+use Rattle.theory.proofs.Relation.{Model, Rv, Runs, E, EAll, ends-related}
+use Rattle.theory.proofs.Compatible.{Bound, past-left, past-right, e-lam, e-app, e-bind, e-pair, e-fst, e-snd, e-inl, e-inr}
+use Rattle.theory.proofs.Compatible.{e-case, e-done, e-arg, e-call}
 
 module _ (M : Model) where
   -- t over ρ gives, with no call, a value related to v
@@ -56,7 +57,7 @@ module _ (M : Model) where
       traversed {A = A} {f = f} {ρ′ = ρ′} (t-var {n = n} x) o =
           let g = o .at n A x (uses-itself n) in
           let r = g-term A (g .v) ρ′ (f n) (g .gives) in
-          record { v = g .v; w = r .w; c = []; d = []; p = ends-var (M .answer) (g .p); q = r .ends; calls = M .none; vals = r .vals }
+          ends-related M (ends-var (M .answer) (g .p)) (r .ends) (M .none) (r .vals)
       traversed (t-call z e d xs) o = e-call M z e d (traversedAll xs o)
       traversed (t-lam {A = A} e b) o = e-lam M e λ v w r. traversed b (over-up A o r)
       traversed (t-app {f = f} {a = a} e x y) o = e-app M e (traversed x (over-of (λ n. add-left (uses f n) (uses a n)) o))
@@ -161,7 +162,7 @@ module _ (M : Model) where
     where
       go : (n B : ℕ) → At (A ∷ Γ) n B → Bound M B (also v ρ) n (also w ρ′) n
       go n B here = record { v = v; w = w; p = refl; q = refl; vals = r }
-      go n B (there {n = m} x) = let b = o .at m B x in record { v = b .v; w = b .w; p = b .p; q = b .q; vals = b .vals }
+      go n B (there {n = m} x) = past-left M (past-right M (o .at m B x))
 
   pub same : {Γ : Context} {t : Term} {A : ℕ} {ρ ρ′ : Values} → Typed (M .tables) (M .ok) Γ t A → Same Γ ρ ρ′ → E M A ρ t ρ′ t
   same {t = t} {A = A} {ρ = ρ} {ρ′ = ρ′} x o = subst (λ (y : Term). E M A ρ t ρ′ y) (rename-id t)

@@ -1,5 +1,5 @@
--- The type of a term that passes the checks is an entry of the table of types: the inputs' and the calls' are, a node's own type is looked up
--- there, and a type's parts are earlier entries.
+-- The type of a term that passes the checks is an entry of the table of types: the inputs' and the calls' are, a node's own type is
+-- looked up there, and a type's parts are earlier entries.
 use mathlib.Core.Path.{_≡_, ap}
 use mathlib.Core.List.{List, [], _∷_}
 use mathlib.Core.Option.{some, Option·some-injective}
@@ -16,8 +16,8 @@ use Rattle.typing.specs.Refusals.{TypedTerm}
 use Rattle.typing.proofs.Accepted.{Passed}
 use Rattle.typing.proofs.InferTyped.{typing-of}
 use Rattle.typing.proofs.Trees.{Earlier, earlier, word-of, parts-below}
-use Rattle.typing.proofs.Typing.{At, here, there, Of, Signed, Typed, t-var, t-call, t-lam, t-app, t-bind, t-pair, t-fst, t-snd, t-inl, t-inr}
-use Rattle.typing.proofs.Typing.{t-case}
+use Rattle.typing.proofs.Typing.{At, here, there, Of, Signed, Typed, t-var, t-call, t-lam, t-app, t-bind, t-pair, t-fst, t-snd, t-inl}
+use Rattle.typing.proofs.Typing.{t-inr, t-case}
 use Rattle.theory.proofs.Fields.{below, bind-some, Fitting, fitting}
 
 module _ (tables : Tables) (wf : Earlier tables) (fit : Fitting tables) (ok : ℕ → Type 0) where
@@ -51,7 +51,7 @@ module _ (tables : Tables) (wf : Earlier tables) (fit : Fitting tables) (ok : �
       let f = whole-known o in
       (omega (arith, p .0), omega (arith, p .1))
 
-  result-known : {k A : ℕ} {s : Signature} → Signed tables k s → s .result ≡ A → InTable A
+  pub result-known : {k A : ℕ} {s : Signature} → Signed tables k s → s .result ≡ A → InTable A
   result-known {k} {A} {s} e d =
       let w = bind-some (getElem? (tables .calls) k) (λ w. some (signatureOf w)) (e .is) in
       let q = Option·some-injective (signatureOf (w .0)) s (w .2) in

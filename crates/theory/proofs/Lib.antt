@@ -1,8 +1,8 @@
-pub mod ValuesMakeNoCalls
 pub mod ClaimHolds
 pub mod Compatible
 pub mod ContractHolds
 pub mod Ends
+pub mod FeedExists
 pub mod Fields
 pub mod FitByKinds
 pub mod Forms
@@ -29,3 +29,6 @@ pub mod SoundReduce
 pub mod SoundStep
 pub mod Subformulas
 pub mod TypesKept
+pub mod ValuesMakeNoCalls
+pub mod WrongOnCases
+pub mod WrongPrograms

@@ -103,6 +103,26 @@ module _ (M : Model) where
     pub calls : M .C c d
     pub vals : Rv B x y
 
+  -- each of the three, from its runs; their values and traces are those that the runs end with
+  module _ {c d : Trace} where
+    pub ends-related : {A : ℕ} {ρ ρ′ : Values} {t t′ : Term} {v w : Value} → Runs ρ t v c → Runs ρ′ t′ w d → M .C c d → Rv A v w
+        → E A ρ t ρ′ t′
+    ends-related {v = v} {w = w} p q k r = record { v = v; w = w; c = c; d = d; p = p; q = q; calls = k; vals = r }
+
+    pub ends-related-all : {As : List ℕ} {ρ ρ′ : Values} {ts ts′ : Terms} {vs ws : Values} → EndsAll (M .answer) ρ ts vs c
+        → EndsAll (M .answer) ρ′ ts′ ws d → M .C c d → All Rv As vs ws → EAll As ρ ts ρ′ ts′
+    ends-related-all {vs = vs} {ws = ws} p q k r = record { v = vs; w = ws; c = c; d = d; p = p; q = q; calls = k; vals = r }
+
+    pub enters-related : {B : ℕ} {v a w b x y : Value} → Enters (M .answer) v a x c → Enters (M .answer) w b y d → M .C c d → Rv B x y
+        → Applied B v a w b
+    enters-related {x = x} {y = y} p q k r = record { x = x; y = y; c = c; d = d; p = p; q = q; calls = k; vals = r }
+
+  -- a call with the same arguments on both sides
+  pub one-call : (k : ℕ) {vs ws : Values} → vs ≡ ws
+      → M .C (record { number = k; arguments = vs } ∷ []) (record { number = k; arguments = ws } ∷ [])
+  one-call k {vs} e = subst (λ (x : Values). M .C (record { number = k; arguments = vs } ∷ []) (record { number = k; arguments = x } ∷ []))
+      e (M .one (record { number = k; arguments = vs }))
+
   -- the relation at a type, by the type's parts
   module _ {F A B : ℕ} {v w : Value} where
     at : (k : ℕ) → components (M .tables) (suc k) F ≡ some (A, B) → Rv F v w

@@ -10,7 +10,8 @@ use Rattle.semantics.specs.Run.{lookup}
 use Rattle.typing.proofs.Typing.{Signed, TypedAll, t-arg}
 use Rattle.theory.proofs.Ends.{EndsAll, ends-var, ends-bind}
 use Rattle.theory.proofs.Ends.{ends-arg, ends-call}
-use Rattle.theory.proofs.Relation.{All, all-more, Model, Rv, Runs, E}
+use Rattle.theory.proofs.Relation.{All, all-more, Model, Rv, Runs, E, ends-related, one-call}
+use Rattle.theory.proofs.Compatible.{past-right}
 use Rattle.theory.proofs.Fundamental.{renamedAll, Same, same}
 use Rattle.theory.proofs.ValuesMakeNoCalls.{calm-weaken}
 use Rattle.reduction.proofs.Roots.{Names, this, next}
@@ -39,11 +40,10 @@ module _ (M : Model) where
 
   pub named : {ts us : Terms} {p : Term} → Names ts p us → {Γ : Context} {As : List ℕ} {ρ ρ′ : Values}
       → TypedAll (M .tables) (M .ok) Γ ts As → Same M Γ ρ ρ′ → Named As ρ ρ′ p ts us
-  unfolding lookup
   named (this {ts = ts} _) {ρ = ρ} {ρ′ = ρ′} (t-arg x xs) o =
       let e = same M x o in
       let es = renamedAll M {f = suc} {ρ = ρ} {ρ′ = also (e .w) ρ′} xs
-      (record { at = λ n A y u. let b = o .at n A y in record { v = b .v; w = b .w; p = b .p; q = b .q; vals = b .vals } }) in
+      (record { at = λ n A y u. past-right M (o .at n A y) }) in
       record {
         v = also (e .v) (es .v);
         w = also (e .w) (es .w);
@@ -84,16 +84,7 @@ module _ (M : Model) where
   let-call {k} {A} {s} z e i r =
       let a = M .answers k z s e (r .v) (r .w) (r .vals) in
       let d = r .c′ ++ (r .d′ ++ (record { number = k; arguments = r .w } ∷ [])) in
-      record {
-        v = M .answer k (r .v);
-        w = M .answer k (r .w);
-        c = (r .c ++ r .d) ++ (record { number = k; arguments = r .v } ∷ []);
-        d = d;
-        p = ends-call (M .answer) (r .before);
-        q = ends-bind (M .answer) (r .bound) (ends-call (M .answer) (r .behind));
-        calls = subst (λ (x : Trace). M .C x d) (sym (append-assoc (r .c) (r .d) _))
-            (M .join (r .calls) (M .join (r .calls′)
-            (subst (λ (x : Values). M .C (record { number = k; arguments = r .v } ∷ []) (record { number = k; arguments = x } ∷ [])) (a .0)
-            (M .one (record { number = k; arguments = r .v })))));
-        vals = subst (λ (B : ℕ). Rv M B (M .answer k (r .v)) (M .answer k (r .w))) i (a .1);
-      }
+      ends-related M (ends-call (M .answer) (r .before)) (ends-bind (M .answer) (r .bound) (ends-call (M .answer) (r .behind)))
+      (subst (λ (x : Trace). M .C x d) (sym (append-assoc (r .c) (r .d) _))
+      (M .join (r .calls) (M .join (r .calls′) (one-call M k (a .0)))))
+      (subst (λ (B : ℕ). Rv M B (M .answer k (r .v)) (M .answer k (r .w))) i (a .1))

@@ -9,12 +9,12 @@ use Rattle.syntax.specs.Values.{uses}
 use Rattle.typing.specs.Infer.{Context}
 use Rattle.reduction.specs.Rules.{lower}
 use Rattle.semantics.specs.Value.{Value, Values, also, Trace}
-use Rattle.semantics.specs.Run.{lookup}
 use Rattle.typing.proofs.Typing.{At, here, there, Typed, TypedAll, t-call, t-lam, t-app, t-bind, t-pair, t-fst, t-snd, t-inl, t-inr, t-case}
 use Rattle.typing.proofs.Typing.{t-arg}
 use Rattle.theory.proofs.Ends.{ends-bind}
-use Rattle.theory.proofs.Relation.{Model, E, EAll}
-use Rattle.theory.proofs.Compatible.{Bound, e-lam, e-app, e-bind, e-pair, e-fst, e-snd, e-inl, e-inr, e-case, e-arg, e-call}
+use Rattle.theory.proofs.Relation.{Model, E, EAll, ends-related}
+use Rattle.theory.proofs.Compatible.{Bound, past-left, e-lam, e-app, e-bind, e-pair, e-fst, e-snd, e-inl, e-inr, e-case}
+use Rattle.theory.proofs.Compatible.{e-arg, e-call}
 use Rattle.theory.proofs.Fundamental.{renamed, Same, same-up, same, sameAll}
 use Rattle.reduction.proofs.Roots.{Drops, r-drop, Step, StepAll, s-root, s-call, s-lam, s-app₁, s-app₂, s-bind₁, s-bind₂, s-pair₁, s-pair₂}
 use Rattle.reduction.proofs.Roots.{s-fst, s-snd, s-inl, s-inr, s-case₁, s-case₂, s-case₃, s-this, s-next}
@@ -23,24 +23,14 @@ module _ (M : Model) where
   pub sound₃ : (pure : Term → Bool) → ((a c d : Trace) → M .C c d → M .C (a ++ c) d)
       → {t t′ : Term} → Drops pure t t′ → {Γ : Context} {A : ℕ} {ρ ρ′ : Values} → Typed (M .tables) (M .ok) Γ t A → Same M Γ ρ ρ′
       → E M A ρ t ρ′ t′
-  unfolding lookup
   sound₃ pure skip (r-drop {b = b} _ _ h) {Γ = Γ} {ρ = ρ} {ρ′ = ρ′} (t-bind {A = A} x y) o =
       let e = same M x o in
       let f = renamed M y (record { at = go (e .v) }) in
-      record {
-        v = f .v;
-        w = f .w;
-        c = e .c ++ f .c;
-        d = f .d;
-        p = ends-bind (M .answer) (e .p) (f .p);
-        q = f .q;
-        calls = skip (e .c) (f .c) (f .d) (f .calls);
-        vals = f .vals;
-      }
+      ends-related M (ends-bind (M .answer) (e .p) (f .p)) (f .q) (skip (e .c) (f .c) (f .d) (f .calls)) (f .vals)
     where
       go : (v : Value) (n D : ℕ) → At (A ∷ Γ) n D → 1 ≤ uses b n → Bound M D (also v ρ) n ρ′ (lower n)
       go v n D here u = absurd (omega (arith, eqb→eq (uses b 0) 0 h, u))
-      go v n D (there {n = m} z) u = let b = o .at m D z in record { v = b .v; w = b .w; p = b .p; q = b .q; vals = b .vals }
+      go v n D (there {n = m} z) u = past-left M (o .at m D z)
 
   module _ (R : Term → Term → Type 0)
       (root : (t t′ : Term) → R t t′ → (Γ : Context) (A : ℕ) (ρ ρ′ : Values) → Typed (M .tables) (M .ok) Γ t A → Same M Γ ρ ρ′

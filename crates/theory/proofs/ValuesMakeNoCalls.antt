@@ -16,7 +16,7 @@ use Rattle.typing.proofs.Typing.{At, here, there, Typed, t-var, t-pair, t-inl, 
 use Rattle.theory.proofs.Ends.{ends-var, ends-lam, ends-pair, ends-inl, ends-inr}
 use Rattle.theory.proofs.Ends.{ends-one}
 use Rattle.theory.proofs.Relation.{Model, Rv, Runs, E}
-use Rattle.theory.proofs.Compatible.{Bound}
+use Rattle.theory.proofs.Compatible.{Bound, past-left, past-right}
 use Rattle.theory.proofs.Fundamental.{renamed, Moved, substituted, Same}
 
 module _ (M : Model) where
@@ -81,14 +81,11 @@ module _ (M : Model) where
   -- a term under one more binder, and a body
   pub weakenE : {Γ : Context} {t : Term} {A : ℕ} {ρ ρ′ : Values} (w : Value) → Typed (M .tables) (M .ok) Γ t A → Same M Γ ρ ρ′
       → E M A ρ t (also w ρ′) (weaken t)
-  unfolding lookup
-  weakenE w x o = renamed M x
-      (record { at = λ n A y u. let b = o .at n A y in record { v = b .v; w = b .w; p = b .p; q = b .q; vals = b .vals } })
+  weakenE w x o = renamed M x (record { at = λ n A y u. past-right M (o .at n A y) })
 
   pub calm-weaken : (t : Term) → T (isValue t) → {Γ : Context} {A : ℕ} {ρ ρ′ : Values} (w : Value) → Typed (M .tables) (M .ok) Γ t A
       → Same M Γ ρ ρ′ → Calm A ρ t (also w ρ′) (weaken t)
-  unfolding lookup
-  calm-weaken t h w x o = calm t h x (λ n A y. let b = o .at n A y in record { v = b .v; w = b .w; p = b .p; q = b .q; vals = b .vals })
+  calm-weaken t h w x o = calm t h x (λ n A y. past-right M (o .at n A y))
 
   pub bodyE : {Γ : Context} {t : Term} {A B : ℕ} {ρ ρ′ : Values} {v v′ : Value} (w : Value) → Rv M A v v′
       → Typed (M .tables) (M .ok) (A ∷ Γ) t B → Same M Γ ρ ρ′ → E M B (also v ρ) t (also v′ (also w ρ′)) (weakenBody t)
@@ -97,7 +94,7 @@ module _ (M : Model) where
     where
       go : (n D : ℕ) → At (A ∷ Γ) n D → 1 ≤ uses t n → Bound M D (also v ρ) n (also v′ (also w ρ′)) (under renaming suc n)
       go n D here u = record { v = v; w = v′; p = refl; q = refl; vals = r }
-      go n D (there {n = m} y) u = let b = o .at m D y in record { v = b .v; w = b .w; p = b .p; q = b .q; vals = b .vals }
+      go n D (there {n = m} y) u = past-left M (past-right M (past-right M (o .at m D y)))
 
   -- a value put in
   pub putE : {Γ : Context} {t : Term} {A B : ℕ} {ρ ρ′ : Values} (u : Term) → T (isValue u) → Typed (M .tables) (M .ok) Γ u A → {x : Value}

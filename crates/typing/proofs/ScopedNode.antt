@@ -1,6 +1,6 @@
 -- The variables of a term are in scope if its own is and those of its parts are, each under its binders: by the positions of each kind.
 use mathlib.Core.Path.{_≡_, refl, sym, _∙_, ap, ap₂}
-use mathlib.Core.Bool.{Bool, true, false, _&&_}
+use mathlib.Core.Bool.{Bool, true, false, _&&_, and-assoc}
 use mathlib.Core.List.{List, [], _∷_, _++_, map}
 use Prim.Native.Nat.{ℕ, suc, _+_}
 use native.Mathlib.Omega.{arith}
@@ -15,11 +15,8 @@ use Rattle.typing.specs.TermChecks.{below, scopedAt}
 
 every-append : {X : Type 0} (f : X → Bool) (xs ys : List X) → every f (xs ++ ys) ≡ (every f xs && every f ys)
 every-append f [] ys = refl
-every-append f (x ∷ xs) ys = ap (λ (b : Bool). f x && b) (every-append f xs ys) ∙ assoc (f x) (every f xs) (every f ys)
-  where
-    assoc : (a b c : Bool) → (a && (b && c)) ≡ ((a && b) && c)
-    assoc true b c = refl
-    assoc false b c = refl
+every-append f (x ∷ xs) ys = ap (λ (b : Bool). f x && b) (every-append f xs ys)
+    ∙ sym (and-assoc (f x) (every f xs) (every f ys))
 
 every-map : {X Y : Type 0} (f : Y → Bool) (g : X → Bool) (h : X → Y) → ((x : X) → f (h x) ≡ g x) → (xs : List X)
     → every f (map h xs) ≡ every g xs

@@ -69,7 +69,7 @@ one-place (x ∷ ws) h (suc i) zero w d e =
 one-place (x ∷ ws) h (suc i) (suc j) w d e =
     ap suc (one-place ws (and-right (every (λ y. not (eqb x y)) ws) (distinct ws) h) i j w d e)
 
-present : (ws : List ℕ) (i : ℕ) → i < length ws → (w : ℕ) × (getElem? ws i ≡ some w)
+pub present : (ws : List ℕ) (i : ℕ) → i < length ws → (w : ℕ) × (getElem? ws i ≡ some w)
 present [] i h = absurd (omega arith)
 present (w ∷ ws) zero h = (w, refl)
 present (w ∷ ws) (suc i) h = present ws i (omega arith)

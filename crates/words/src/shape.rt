@@ -84,24 +84,26 @@ pub fn operand_count(k: u64, n: usize) -> usize
     outer_count(k, n)
 }
 
-// whether a node's last part stands under its binder: 1 or 0. A table of its own is faster than the shape where depths are put down.
+// whether a node's last part stands under its binder: 1 or 0
 pub fn last_binder(k: u64) -> u64
     ensures { λ r. ⌜ (r ≡ counts (bindsOf k)) × (r ≤ 1) ⌝ }
 {
-    match k {
-        2 => 1,
-        4 => 1,
-        10 => 1,
-        _ => 0,
+    let s = shape_of(k);
+    if s.binds {
+        return 1;
     }
+    0
 }
 
-// the same of the part before it: a case's left branch does
+// the same of the part before it: where a binder reaches all but the first of three, it does
 pub fn middle_binder(k: u64) -> u64
     ensures { λ r. ⌜ (r ≡ counts (eqb k 10)) × (r ≤ 1) ⌝ }
 {
-    if k == 10 {
-        return 1;
+    let s = shape_of(k);
+    if s.binds {
+        if s.parts == 3 {
+            return 1;
+        }
     }
     0
 }

@@ -16,7 +16,7 @@ pub struct Lengths {
     pub term: usize,
 }
 
-/// Writes the words after the header to the front of `words`, which is left unchanged on refusal.
+/// Copies what follows the header into the front of `words`, which is left unchanged on refusal.
 pub fn read_bundle(bytes: &[u8], words: &mut [u64]) -> Lengths {
     let refused = Lengths {
         refusal: Refusal::Bundle.number(),

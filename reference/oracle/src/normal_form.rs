@@ -34,7 +34,7 @@ fn is_normal_value(term: &Term) -> bool {
     }
 }
 
-/// A variable applied to such a value, a call on such values, first or second of a variable.
+/// An application of a variable, or a call, on normal values; first or second of a variable.
 fn is_operation(term: &Term) -> bool {
     match term {
         Term::Application(head, operand) => is_variable(head) && is_normal_value(operand),

@@ -55,7 +55,8 @@ pub fn has_function(tables: &Tables, number: u32) -> bool {
     any_function(tables, &marked)
 }
 
-/// Demand 3's premise: no input, no result and no call in the term has a function in its types.
+/// Demand 3's premise: the types of the inputs, of the result and of the term's calls have no function in
+/// them.
 pub fn has_first_order_interface(tables: &Tables, term: &Term, type_number: u32) -> bool {
     !any_function(tables, &interface_parts(tables, term, type_number))
 }

@@ -30,7 +30,7 @@ fn placed(value: u64, low: u32, width: u32) -> u64 {
     value << low
 }
 
-/// A type word: kind 4 bits, left 30, right 30.
+/// A type word: 4 bits of kind, 30 of left, 30 of right.
 pub fn pack_type(kind: u64, left: u64, right: u64) -> u64 {
     placed(kind, 60, 4) | placed(left, 30, 30) | placed(right, 0, 30)
 }
@@ -53,7 +53,7 @@ pub fn unpack_call(word: u64) -> (u64, u64, [u64; 3]) {
     (field(word, 60, 4), field(word, 45, 15), arguments)
 }
 
-/// A term word: kind 4 bits, number 30, type 30.
+/// A term word: 4 bits of kind, 30 of number, 30 of type.
 pub fn pack_term(kind: u64, number: u64, type_number: u64) -> u64 {
     placed(kind, 60, 4) | placed(number, 30, 30) | placed(type_number, 0, 30)
 }

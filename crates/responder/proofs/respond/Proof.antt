@@ -1,5 +1,5 @@
--- Why `respond` is right: a bundle that is refused gets the listing of its refusal. One that is read fits the words (`reading-fits`), so its
--- parts are there, and are answered.
+-- Why `respond` is right: a bundle that is refused gets the listing of its refusal. One that is read fits the words (`reading-fits`), so
+-- its parts are there, and are answered.
 use borrow.Author.Needs.{needs}
 use Rattle.responder.proofs.ListedAnswer.{refused-responds, read-responds, reading-fits}
 use Rattle.responder.proofs.respond.Statement.{statement}

@@ -112,7 +112,7 @@ fn broken_terms() -> Vec<Term> {
         pair(A_AND_B, b(), b()),
         pair(A_AND_B, a(), a()),
         pair(A_AND_B, b(), a()),
-        // First and second need a product.
+        // First and second of what is no product.
         first(a()),
         first(left(A_OR_B, a())),
         first(function(FROM_A_TO_B, b())),
@@ -128,7 +128,7 @@ fn broken_terms() -> Vec<Term> {
         right(FROM_A_TO_B, b()),
         right(A_AND_B, b()),
         right(A_OR_B, a()),
-        // A case needs a sum, and its branches have one type.
+        // A subject that is no sum; branches of two types.
         case(a(), a(), a()),
         case(pair(A_AND_B, a(), b()), a(), a()),
         case(function(FROM_A_TO_B, b()), b(), b()),
@@ -137,7 +137,7 @@ fn broken_terms() -> Vec<Term> {
         case(left(A_OR_B, a()), variable(), variable()),
         // A branch's variable has its own part of the sum.
         case(left(A_OR_B, a()), b(), call(2, &[variable()])),
-        // Call arguments have the listed types.
+        // An argument that has not the type of its place.
         call(2, &[b()]),
         call(3, &[b(), b()]),
         call(3, &[a(), a()]),

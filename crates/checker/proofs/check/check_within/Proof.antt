@@ -109,13 +109,16 @@ check-within-spec =
     (λ c κs. search needs)
     (λ c.
     let s : Entry = search in
-    refuses (fails 1 _ (λ _. from-tables (tables s) (words s)) all-left (s .lengths-fit .ensures) (c .if1 .taken)))
+    refuses
+    (fails 1 (lengthsFit (limit s) (tables s) (words s)) (λ _. from-tables (tables s) (words s)) all-left (s .lengths-fit .ensures)
+    (c .if1 .taken)))
     (λ c κs. search needs)
     (λ c.
     let e : tie.Else1 = search in
     let s = entry e in
     refuses
-    (number-fails (from-words (tables s) (words s)) (tablesPlace (tables s)) (left-2 e) (c .before .table-refusal .ensures) (c .if2 .taken)))
+    (number-fails (from-words (tables s) (words s)) (tablesPlace (tables s)) (left-2 e) (c .before .table-refusal .ensures)
+    (c .if2 .taken)))
     (λ c κs. search needs)
     (λ c.
     let e : tie.Else2 = search in

@@ -18,7 +18,7 @@ use Rattle.checker.proofs.InferTurns.{turn-given, turn-whole, turn-next
 use Rattle.checker.proofs.infer.infer.Statement.{statement}
 use Rattle.checker.proofs.infer.infer.Tie as tie
 use Rattle.checker.proofs.infer.infer.Proof.Places.{weight, Inv-loop, μ-loop, place, Entry, Head, entry, Gives, giving}
-use Rattle.checker.proofs.infer.infer.Proof.Places.{Inner, inner, Bound, bound, Counted, counted, Next, next, Entered, entered}
+use Rattle.checker.proofs.infer.infer.Proof.Places.{Inner, inner, Bound, bound, counted, next, Entered, entered}
 use Rattle.checker.proofs.infer.infer.Proof.Places.{Last, last, Closed, closed, Waits, waits, Begun, begun, Opened, opened}
 
 -- the buffers have room for the term, as long as they were at the entry
@@ -44,13 +44,19 @@ given c =
     let h = giving (inner c) in
     turn-given (having (inner c)) (omega (arith, c .if2 .left)) (entry h .pre .0) (room h .0) (room h .1)
 
--- the binders of the part that has the type
-binders : (c : Bound) → let h = giving (inner (bound c)) in let n = getD (h .loop .nodes) (h .loop .top - 1) 0 in
-    c .binders .result ≡ bindersAt (kindOf (getD (entry h .args .term .now) (n / 4) 0)) (n % 4)
-binders c = cc
+-- the head of the innermost open node, and its word
+abbrev node : Inner → ℕ
+node c = let l = giving (inner c) .loop in getD (l .nodes) (l .top - 1) 0
 
-outside : (c : Bound) → let h = giving (inner (bound c)) in let n = getD (h .loop .nodes) (h .loop .top - 1) 0 in
-    h .loop .depth - c .binders .result ≡ h .loop .depth - bindersAt (kindOf (getD (entry h .args .term .now) (n / 4) 0)) (n % 4)
+abbrev word : Inner → ℕ
+word c = getD (entry (giving (inner c)) .args .term .now) (node c / 4) 0
+
+-- the binders of the part that has the type, and the depth outside of them
+binders : (c : Bound) → c .binders .result ≡ bindersAt (kindOf (word (bound c))) (node (bound c) % 4)
+binders c = c .binders .ensures .0 ∙ ap (λ (k : ℕ). bindersAt k (node (bound c) % 4)) (c .before .kind .ensures)
+
+outside : (c : Bound) → let d = giving (inner (bound c)) .loop .depth in
+    d - c .binders .result ≡ d - bindersAt (kindOf (word (bound c))) (node (bound c) % 4)
 outside c = ap (λ (b : ℕ). giving (inner (bound c)) .loop .depth - b) (binders c)
 
 -- a part begins
@@ -81,9 +87,8 @@ next-turn c =
     )
 
 -- no part is left
-no-more : (c : Last) → let o = counted (last c) in let h = giving (inner (bound o)) in
-    let n = getD (h .loop .nodes) (h .loop .top - 1) 0 in
-    partCount (entry h .args .calls .now) (getD (entry h .args .term .now) (n / 4) 0) ≤ n % 4 + 1
+no-more : (c : Last) → let i = bound (counted (last c)) in
+    partCount (entry (giving (inner i)) .args .calls .now) (word i) ≤ node i % 4 + 1
 no-more c = omega (arith, c .if3 .left, last c .part-count .ensures .0)
 
 last-turn : place tie.Need-loop-again-2

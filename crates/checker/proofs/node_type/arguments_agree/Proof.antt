@@ -1,6 +1,6 @@
--- The lists agree as far as the count says, compared type by type.
+-- The lists agree as far as the count says: they are compared type by type until so many are compared, or one differs.
 use mathlib.Core.Path.{_≡_, refl, sym, _∙_, ap}
-use mathlib.Core.Bool.{Bool, true, false, _&&_}
+use mathlib.Core.Bool.{Bool, true, false}
 use mathlib.Core.List.{[], _∷_}
 use Prim.Native.Nat.{ℕ, zero, suc}
 use lib.Dec.{eqb}
@@ -8,6 +8,7 @@ use lib.ListN.{take}
 use borrow.Author.Needs.{needs}
 use borrow.Author.Tests.{eq-eqb, ne-eqb}
 use Rattle.syntax.specs.Words.{countOf, argumentFields}
+use Rattle.syntax.proofs.Options.{and-last}
 use Rattle.words.specs.Shapes.{argumentOf}
 use Rattle.typing.specs.Infer.{equal}
 use Rattle.checker.proofs.node_type.arguments_agree.Statement.{statement}
@@ -48,58 +49,61 @@ module _ (w a b c : ℕ) where
       three (suc zero) h g f = absurd (g refl)
       three (suc (suc zero)) h g f = absurd (f refl)
       three (suc (suc (suc n))) h g f =
-          simp (eq-eqb a (argumentOf w 0) p, eq-eqb b (argumentOf w 1) q, nothing n) (right (eqb c (argumentOf w 2)))
+          simp (eq-eqb a (argumentOf w 0) p, eq-eqb b (argumentOf w 1) q, nothing n) (and-last refl)
         where
           nothing : (m : ℕ) → equal (take m []) (take m []) ≡ true
           nothing zero = refl
           nothing (suc m) = refl
 
-          right : (b : Bool) → b ≡ (b && true)
-          right true = refl
-          right false = refl
+-- the places: the count is known, and the first and then the second argument agree
+abbrev Counted : Type 0
+Counted = tie.After-kind
 
-  of-count : (n : ℕ) (r : Bool) → n ≡ countOf w → r ≡ agree n → r ≡ agree (countOf w)
-  of-count n r e h = h ∙ ap agree e
+abbrev First : Type 0
+First = tie.Else2
 
--- what the tests show on the way
-first : (c : tie.Else2) → let a = c .before .before .before .before .args in a .a ≡ argumentOf (a .w) 0
-first c = c .if2 .left ∙ c .before .argument .ensures
+abbrev counted : First → Counted
+counted c = c .before .before .before
 
-second : (c : tie.Else4) → let a = c .before .before .before .before .before .before .before .args in a .b ≡ argumentOf (a .w) 1
-second c = c .if4 .left ∙ c .before .argument2 .ensures
+abbrev Second : Type 0
+Second = tie.Else4
+
+abbrev first : Second → First
+first c = c .before .before .before
+
+agrees : (c : Counted) (r : Bool) → (let a = c .before .args in r ≡ agree (a .w) (a .a) (a .b) (a .c) (c .kind .result))
+    → (let a = c .before .args in r ≡ agree (a .w) (a .a) (a .b) (a .c) (countOf (a .w)))
+agrees c r h = let a = c .before .args in h ∙ ap (agree (a .w) (a .a) (a .b) (a .c)) (c .kind .ensures)
+
+first-agrees : (c : First) → let a = counted c .before .args in a .a ≡ argumentOf (a .w) 0
+first-agrees c = c .if2 .left ∙ c .before .argument .ensures
+
+second-agrees : (c : Second) → let a = counted (first c) .before .args in a .b ≡ argumentOf (a .w) 1
+second-agrees c = c .if4 .left ∙ c .before .argument2 .ensures
 
 pub arguments-agree-spec : {M : Type 1} → statement M
 arguments-agree-spec =
     tie.close
     (tie.spec
     (λ c κs. search needs)
-    (λ c. of-count (c .before .before .args .w) _ _ _ _ _ (c .before .kind .ensures) (none _ _ _ _ _ (c .if1 .taken)))
+    (λ c. agrees (search) _ (none _ _ _ _ _ (c .if1 .taken)))
     (λ c κs. search needs)
     (λ c.
-    let n = c .before .before in
-    let x = c .before .argument .ensures in
-    of-count (n .before .before .args .w) _ _ _ _ _ (n .before .kind .ensures)
-    (first-not _ _ _ _ _ (n .if1 .left) (λ p. c .if2 .taken (p ∙ sym x))))
-    (λ c.
-    let k = c .before .before .before .before in
-    of-count (k .before .args .w) _ _ _ _ _ (k .kind .ensures) (one _ _ _ _ (first (c .before)) _ (c .if3 .taken)))
+    let n : tie.Else1 = search in
+    agrees (search) _ (first-not _ _ _ _ _ (n .if1 .left) (λ p. c .if2 .taken (p ∙ sym (c .before .argument .ensures)))))
+    (λ c. agrees (search) _ (one _ _ _ _ (first-agrees (search)) _ (c .if3 .taken)))
     (λ c κs. search needs)
     (λ c.
-    let d = c .before .before in
-    let n = d .before .before .before in
-    let y = c .before .argument2 .ensures in
-    of-count (n .before .before .args .w) _ _ _ _ _ (n .before .kind .ensures)
-    (second-not _ _ _ _ (first (d .before)) _ (n .if1 .left) (d .if3 .left) (λ p. c .if4 .taken (p ∙ sym y))))
-    (λ c.
-    let d = c .before .before .before in
-    let k = d .before .before .before .before in
-    of-count (k .before .args .w) _ _ _ _ _ (k .kind .ensures)
-    (two _ _ _ _ (first (d .before)) (second (c .before)) _ (c .if5 .taken)))
+    let n : tie.Else1 = search in
+    let m : tie.Else3 = search in
+    agrees (search) _
+    (second-not _ _ _ _ (first-agrees (search)) _ (n .if1 .left) (m .if3 .left)
+    (λ p. c .if4 .taken (p ∙ sym (c .before .argument2 .ensures)))))
+    (λ c. agrees (search) _ (two _ _ _ _ (first-agrees (search)) (second-agrees (search)) _ (c .if5 .taken)))
     (λ c κs. search needs)
     (λ c.
-    let f = c .before in
-    let d = f .before .before .before in
-    let n = d .before .before .before in
-    let a = n .before .before .args in
-    of-count (a .w) _ _ _ _ _ (n .before .kind .ensures) (ap (eqb (a .c)) (c .argument3 .ensures)
-    ∙ three _ _ _ _ (first (d .before)) (second (f .before)) _ (n .if1 .left) (d .if3 .left) (f .if5 .left))))
+    let n : tie.Else1 = search in
+    let m : tie.Else3 = search in
+    let k : Counted = search in
+    agrees k _ (ap (eqb (k .before .args .c)) (c .argument3 .ensures)
+    ∙ three _ _ _ _ (first-agrees (search)) (second-agrees (search)) _ (n .if1 .left) (m .if3 .left) (c .before .if5 .left))))

@@ -1,4 +1,4 @@
--- The definition by kind.
+-- By kind: a function's argument is the left part of its type, a let binds its first part, and a case the halves of its first part's type.
 use mathlib.Core.Path.{_≡_, sym, _∙_, ap}
 use mathlib.Core.List.{List}
 use Prim.Native.Nat.{ℕ, _≤_, _<_}
@@ -32,6 +32,12 @@ module _ (types : List ℕ) (w j F k : ℕ) (e : k ≡ kindOf w) where
       unfolding binderType
       right l s = s ∙ ap rightOf q ∙ simp (ne-eqb (kindOf w) 2 (λ y. n (e ∙ y)), ne-eqb (kindOf w) 4 (λ y. m (e ∙ y)), lt-leb j 1 l)
 
+abbrev Kinded : Type 0
+Kinded = tie.After-kind
+
+abbrev word : Kinded → ℕ
+word c = c .before .before .args .w
+
 pub binder-spec : {M : Type 1} → statement M
 binder-spec =
     tie.close
@@ -41,22 +47,23 @@ binder-spec =
     (λ c κs. search needs)
     (λ c κs. search needs)
     (λ c.
-    let k = c .before .before .before .before in
-    argument _ (k .before .before .args .w) _ _ _ (k .kind .ensures) _ _ _ (c .before .before .before .if1 .taken)
-    (c .before .before .ty .ensures) (c .before .entry .ensures) (c .number .ensures))
-    (λ c.
-    let k = c .before .before in
-    bound _ (k .before .before .args .w) _ _ _ (k .kind .ensures) (c .before .if1 .left) (c .if2 .taken))
+    let k : Kinded = search in
+    let t : tie.Then1 = search in
+    let y : tie.After-ty = search in
+    argument _ (word k) _ _ _ (k .kind .ensures) _ _ _ (t .if1 .taken) (y .ty .ensures) (c .before .entry .ensures) (c .number .ensures))
+    (λ c. let k : Kinded = search in bound _ (word k) _ _ _ (k .kind .ensures) (c .before .if1 .left) (c .if2 .taken))
     (λ c κs. search needs)
     (λ c κs. search needs)
     (λ c.
-    let n = c .before .before .before in
-    let k = n .before .before in
-    left _ (k .before .before .args .w) _ _ _ (k .kind .ensures) (n .before .if1 .left) (n .if2 .left) _ _
-    (c .before .before .entry2 .ensures) (c .before .if3 .taken) (c .number2 .ensures))
+    let k : Kinded = search in
+    let n : tie.Else2 = search in
+    let e : tie.After-entry2 = search in
+    left _ (word k) _ _ _ (k .kind .ensures) (n .before .if1 .left) (n .if2 .left) _ _ (e .entry2 .ensures) (c .before .if3 .taken)
+    (c .number2 .ensures))
     (λ c κs. search needs)
     (λ c.
-    let n = c .before .before .before in
-    let k = n .before .before in
-    right _ (k .before .before .args .w) _ _ _ (k .kind .ensures) (n .before .if1 .left) (n .if2 .left) _ _
-    (c .before .before .entry2 .ensures) (c .before .if3 .left) (c .ty2 .ensures)))
+    let k : Kinded = search in
+    let n : tie.Else2 = search in
+    let e : tie.After-entry2 = search in
+    right _ (word k) _ _ _ (k .kind .ensures) (n .before .if1 .left) (n .if2 .left) _ _ (e .entry2 .ensures) (c .before .if3 .left)
+    (c .ty2 .ensures)))

@@ -1,4 +1,5 @@
--- The kind decides what the node is about, the components decide the rest.
+-- A call and a let have types of their own. Any other node is about a type, its own or its first part's (`about`): if this is of the kind
+-- that the node asks for, its components decide, and else there is no type.
 use mathlib.Core.Path.{_≡_, refl, _∙_, ap, ap₂}
 use mathlib.Core.Bool.{Bool, cond}
 use mathlib.Core.List.{List, [], _∷_}
@@ -74,37 +75,39 @@ module _ (types calls : List ℕ) (w : ℕ) (F : List ℕ) (k : ℕ) (e : k ≡ 
         go none q = refl
         go (some (x′, y′)) q = let z : _≡_ {A = ℕ} 0 1 = cc in absurd (omega arith)
 
--- the function's arguments
-abbrev Entry : Type 0
-Entry = tie.After-shared-slice-known2
+-- the places: the kind is known, and then what the node is about
+abbrev Kinded : Type 0
+Kinded = tie.After-kind
 
-abbrev types : Entry → List ℕ
-types s = s .before .before .args .types .now
+abbrev entry : Kinded → tie.Start
+entry c = c .before .before .before
 
-abbrev calls : Entry → List ℕ
-calls s = s .before .before .args .calls .now
+abbrev Subject : Type 0
+Subject = tie.After-form
 
-abbrev word : Entry → ℕ
-word s = s .before .before .args .w
+abbrev typed : Subject → tie.After-ty
+typed c = c .before .before .before
 
-abbrev found-types : Entry → List ℕ
-found-types s = let a = s .before .before .args in a .a ∷ a .b ∷ a .c ∷ []
+abbrev kinded : Subject → Kinded
+kinded c = typed c .before .before .before
 
--- what the node is about
-about : (c : tie.After-form) → let n = c .before .before .before .before .before .before in
-    About (types (n .before)) (calls (n .before)) (word (n .before)) (found-types (n .before))
-    (n .kind .result) (n .kind .ensures)
-    (c .before .before .before .ty .result) (c .before .pick .result) (c .form .result)
+-- the types of the parts
+abbrev parts : tie.Start → List ℕ
+parts s = s .args .a ∷ s .args .b ∷ s .args .c ∷ []
+
+about : (c : Subject) → let s = entry (kinded c) in
+    About (s .args .types .now) (s .args .calls .now) (s .args .w) (parts s) (kinded c .kind .result) (kinded c .kind .ensures)
+    (typed c .ty .result) (c .before .pick .result) (c .form .result)
 about c =
-    let ty = c .before .before .before in
-    let d = ty .before in
-    let a = d .before .before .before .before .before .args in
+    let e : tie.Else2 = search in
+    let s : tie.After-shape-of = search in
     record {
-      no-call = d .before .if1 .left;
-      no-let = d .if2 .left;
-      type = ty .ty .ensures;
+      no-call = e .before .if1 .left;
+      no-let = e .if2 .left;
+      type = typed c .ty .ensures;
       form = c .form .ensures;
-      subject = c .before .pick .ensures ∙ ap (λ (v : Bool). cond v (ty .ty .result) (a .a)) (c .before .before .shape-of .ensures .ty);
+      subject = c .before .pick .ensures
+          ∙ ap (λ (v : Bool). cond v (typed c .ty .result) (entry (kinded c) .args .a)) (s .shape-of .ensures .ty);
     }
 
 pub node-type-spec : {M : Type 1} → statement M
@@ -115,13 +118,13 @@ node-type-spec =
     (λ c κs. search needs)
     (λ c κs. search needs)
     (λ c.
-    let k = c .before .before .before in
-    of-call (types (k .before)) _ (word (k .before)) _ _ (k .kind .ensures) _ _ (c .before .before .if1 .taken)
+    let k : Kinded = search in
+    of-call (entry k .args .types .now) _ (entry k .args .w) _ _ (k .kind .ensures) _ _ (c .before .before .if1 .taken)
     (c .before .number .ensures) (c .call-type .ensures))
     (λ c.
-    let k = c .before .before in
-    let s = k .before in
-    of-let (types s) (calls s) (word s) (found-types s) _ (k .kind .ensures) (c .before .if1 .left) (c .if2 .taken))
+    let k : Kinded = search in
+    let s = entry k in
+    of-let (s .args .types .now) (s .args .calls .now) (s .args .w) (parts s) _ (k .kind .ensures) (c .before .if1 .left) (c .if2 .taken))
     (λ c κs. search needs)
     (λ c κs. search needs)
     (λ c κs. search needs)
@@ -131,8 +134,8 @@ node-type-spec =
     (λ c κs. search needs)
     (λ c. search needs)
     (λ c.
-    let q = c .before .before .before .before in
-    found _ _ _ _ _ _ (about (q .before)) _ (q .parts-of-type .ensures) _ _ _ (c .before .before .p .given .1) (c .judge .ensures))
+    let q : tie.After-parts-of-type = search in
+    found _ _ _ _ _ _ (about (search)) _ (q .parts-of-type .ensures) _ _ _ (c .before .before .p .given .1) (c .judge .ensures))
     (λ c.
-    let q = c .before .before in
-    missing _ _ _ _ _ _ (about (q .before)) _ (q .parts-of-type .ensures) (c .enum-told .given .1)))
+    let q : tie.After-parts-of-type = search in
+    missing _ _ _ _ _ _ (about (search)) _ (q .parts-of-type .ensures) (c .enum-told .given .1)))

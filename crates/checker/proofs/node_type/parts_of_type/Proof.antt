@@ -50,13 +50,13 @@ parts-of-type-spec =
     (λ c κs. search needs)
     (λ c κs. search needs)
     (λ c.
-    let k = c .before .before .before in
-    let d = k .before .before in
-    let a = d .before .before .args in
-    of-kind (a .types .now) (a .wanted) (a .a) (d .if1 .taken) _ (k .kind .ensures) _ _ (c .before .before .if2 .taken)
+    let s : tie.Start = search in
+    let k : tie.After-kind = search in
+    let d : tie.Then1 = search in
+    of-kind (s .args .types .now) (s .args .wanted) (s .args .a) (d .if1 .taken) _ (k .kind .ensures) _ _ (c .before .before .if2 .taken)
     (c .before .number .ensures) (c .ty .ensures))
     (λ c.
-    let d = c .before .before .before in
-    let a = d .before .before .args in
-    other (a .types .now) (a .wanted) (a .a) (d .if1 .taken) _ (c .before .kind .ensures) (c .if2 .left))
-    (λ c. let a = c .before .before .args in past (a .types .now) (a .wanted) (a .a) (c .if1 .left)))
+    let s : tie.Start = search in
+    let d : tie.Then1 = search in
+    other (s .args .types .now) (s .args .wanted) (s .args .a) (d .if1 .taken) _ (c .before .kind .ensures) (c .if2 .left))
+    (λ c. let s : tie.Start = search in past (s .args .types .now) (s .args .wanted) (s .args .a) (c .if1 .left)))

@@ -1,6 +1,8 @@
--- The count decides of each argument field whether it is used.
+-- A count over 3 or an unknown result type decides at once. Then the count says of each argument field whether it is used, and the fields
+-- are tested in order (`left-0`, `left-1`, `left-2`): three tests by field are the two tests of the definition, on the fields up to the
+-- count and past it (`by-fields`).
 use mathlib.Core.Path.{_≡_, refl, sym, _∙_, ap}
-use mathlib.Core.Bool.{Bool, true, false, _&&_, not}
+use mathlib.Core.Bool.{Bool, true, false, _&&_, not, and-assoc, and-true}
 use mathlib.Core.List.{List, [], _∷_}
 use Prim.Native.Nat.{ℕ, zero, suc, _≤_, _<_}
 use native.Mathlib.Omega.{arith}
@@ -24,19 +26,16 @@ field t n i x = fieldFits (ltb i n) t x
 abbrev listed : ℕ → ℕ → ℕ → ℕ → ℕ → Bool
 listed t n x y z = every (λ A. ltb A t) (take n (x ∷ y ∷ z ∷ [])) && every (λ A. eqb A 0) (drop n (x ∷ y ∷ z ∷ []))
 
-assoc : (a b c : Bool) → ((a && b) && c) ≡ (a && (b && c))
-assoc true b c = refl
-assoc false b c = refl
-
 by-fields : (t n x y z : ℕ) → n ≤ 3 → every (λ b. b) (field t n 0 x ∷ field t n 1 y ∷ field t n 2 z ∷ []) ≡ listed t n x y z
 by-fields t zero x y z h = refl
-by-fields t (suc zero) x y z h = sym (assoc (ltb x t) true (eqb y 0 && (eqb z 0 && true)))
+by-fields t (suc zero) x y z h = sym (and-assoc (ltb x t) true (eqb y 0 && (eqb z 0 && true)))
 by-fields t (suc (suc zero)) x y z h =
-    sym (assoc (ltb x t) (ltb y t && true) (eqb z 0 && true) ∙ ap (λ (b : Bool). ltb x t && b) (assoc (ltb y t) true (eqb z 0 && true)))
+    sym (and-assoc (ltb x t) (ltb y t && true) (eqb z 0 && true)
+    ∙ ap (λ (b : Bool). ltb x t && b) (and-assoc (ltb y t) true (eqb z 0 && true)))
 by-fields t (suc (suc (suc zero))) x y z h =
-    sym (assoc (ltb x t) (ltb y t && (ltb z t && true)) true
+    sym (and-assoc (ltb x t) (ltb y t && (ltb z t && true)) true
     ∙ ap (λ (b : Bool). ltb x t && b)
-    (assoc (ltb y t) (ltb z t && true) true ∙ ap (λ (b : Bool). ltb y t && b) (assoc (ltb z t) true true)))
+    (and-assoc (ltb y t) (ltb z t && true) true ∙ ap (λ (b : Bool). ltb y t && b) (and-assoc (ltb z t) true true)))
 by-fields t (suc (suc (suc (suc n)))) x y z h = absurd (omega arith)
 
 -- what is left to test of a call word
@@ -51,11 +50,7 @@ module _ {t w : ℕ} {a : Bool} {bs : List Bool} (p : Left t w (a ∷ bs)) where
   fails e f = sym (ap (λ (y : Bool). y && every (λ b. b) bs) (told-false e f)) ∙ p .same
 
 last : {t w : ℕ} {a : Bool} → Left t w (a ∷ []) → (x : Bool) → x ≡ a → x ≡ wellFormedCall t w
-last {a = a} p x e = e ∙ sym (right a) ∙ p .same
-  where
-    right : (b : Bool) → (b && true) ≡ b
-    right true = refl
-    right false = refl
+last {a = a} p x e = e ∙ sym (and-true a) ∙ p .same
 
 module _ (t w n : ℕ) (e : n ≡ countOf w) where
   many : 3 < n → false ≡ wellFormedCall t w
@@ -76,57 +71,81 @@ module _ (t w n : ℕ) (e : n ≡ countOf w) where
         known : listed t (countOf w) (argumentOf w 0) (argumentOf w 1) (argumentOf w 2) ≡ wellFormedCall t w
         known = simp (le-leb (countOf w) 3 (rw (← e) h), lt-ltb (resultOf w) t (rw (← re) g))
 
--- the places past the result's test
-abbrev types : tie.Else2 → ℕ
-types d = d .before .before .before .before .args .types
+-- the places: the count and the result fit, and then one field after the other
+abbrev Known : Type 0
+Known = tie.Else2
 
-abbrev word : tie.Else2 → ℕ
-word d = d .before .before .before .before .args .w
+abbrev counted : Known → tie.After-kind
+counted c = c .before .before .before
 
-abbrev count : tie.Else2 → ℕ
-count d = d .before .before .before .kind .result
+abbrev First : Type 0
+First = tie.After-field-fits
 
-abbrev test : tie.Else2 → ℕ → Bool
-test d i = field (types d) (count d) i (argumentOf (word d) i)
+abbrev known : First → Known
+known c = c .before .before
 
-tests : (d : tie.Else2) (i a : ℕ) (b : Bool) → a ≡ argumentOf (word d) i → b ≡ field (types d) (count d) i a → b ≡ test d i
-tests d i a b e h = h ∙ ap (field (types d) (count d) i) e
+abbrev first : tie.Else3 → First
+first c = c .before
 
-left-0 : (d : tie.Else2) → Left (types d) (word d) (test d 0 ∷ test d 1 ∷ test d 2 ∷ [])
-left-0 d = fields-left (types d) (word d) _ (d .before .before .before .kind .ensures) (d .before .before .if1 .left) _
-    (d .before .result .ensures) (d .if2 .left)
+abbrev Second : Type 0
+Second = tie.After-field-fits2
 
-first : (c : tie.After-field-fits) → c .field-fits .result ≡ test (c .before .before) 0
-first c = tests (c .before .before) 0 _ _ (c .before .argument .ensures) (c .field-fits .ensures)
+abbrev at-second : Second → tie.Else3
+at-second c = c .before .before
 
-left-1 : (c : tie.Else3) → let d = c .before .before .before in Left (types d) (word d) (test d 1 ∷ test d 2 ∷ [])
-left-1 c = passes (left-0 (c .before .before .before)) (first (c .before)) (c .if3 .left)
+abbrev second : tie.Else4 → Second
+second c = c .before
 
-second : (c : tie.After-field-fits2) → c .field-fits2 .result ≡ test (c .before .before .before .before .before) 1
-second c = tests (c .before .before .before .before .before) 1 _ _ (c .before .argument2 .ensures) (c .field-fits2 .ensures)
+abbrev types : Known → ℕ
+types c = counted c .before .args .types
 
-left-2 : (c : tie.Else4) → let d = c .before .before .before .before .before .before in Left (types d) (word d) (test d 2 ∷ [])
-left-2 c = passes (left-1 (c .before .before .before)) (second (c .before)) (c .if4 .left)
+abbrev word : Known → ℕ
+word c = counted c .before .args .w
+
+-- the test of field i
+abbrev test : Known → ℕ → Bool
+test c i = field (types c) (counted c .kind .result) i (argumentOf (word c) i)
+
+tested : (c : Known) (i a : ℕ) (b : Bool) → a ≡ argumentOf (word c) i → b ≡ field (types c) (counted c .kind .result) i a → b ≡ test c i
+tested c i a b e h = h ∙ ap (field (types c) (counted c .kind .result) i) e
+
+first-test : (c : First) → c .field-fits .result ≡ test (known c) 0
+first-test c = tested (known c) 0 _ _ (c .before .argument .ensures) (c .field-fits .ensures)
+
+second-test : (c : Second) → c .field-fits2 .result ≡ test (known (first (at-second c))) 1
+second-test c = tested (known (first (at-second c))) 1 _ _ (c .before .argument2 .ensures) (c .field-fits2 .ensures)
+
+-- what is left to test
+left-0 : (c : Known) → Left (types c) (word c) (test c 0 ∷ test c 1 ∷ test c 2 ∷ [])
+left-0 c =
+    let r : tie.After-result = search in
+    fields-left (types c) (word c) _ (counted c .kind .ensures) (r .before .if1 .left) _ (r .result .ensures) (c .if2 .left)
+
+left-1 : (c : tie.Else3) → let k = known (first c) in Left (types k) (word k) (test k 1 ∷ test k 2 ∷ [])
+left-1 c = passes (left-0 (known (first c))) (first-test (first c)) (c .if3 .left)
+
+left-2 : (c : tie.Else4) → let k = known (first (at-second (second c))) in Left (types k) (word k) (test k 2 ∷ [])
+left-2 c = passes (left-1 (at-second (second c))) (second-test (second c)) (c .if4 .left)
 
 pub call-fits-spec : {M : Type 1} → statement M
 call-fits-spec =
     tie.close
     (tie.spec
     (λ c κs. search needs)
-    (λ c. many _ (c .before .before .args .w) _ (c .before .kind .ensures) (c .if1 .taken))
+    (λ c. let k : tie.After-kind = search in many _ (k .before .args .w) _ (k .kind .ensures) (c .if1 .taken))
     (λ c κs. search needs)
     (λ c.
-    let k = c .before .before .before in
-    unknown _ (k .before .args .w) _ (k .kind .ensures) (c .before .before .if1 .left) _ (c .before .result .ensures) (c .if2 .taken))
+    let k : tie.After-kind = search in
+    let r : tie.After-result = search in
+    unknown _ (k .before .args .w) _ (k .kind .ensures) (r .before .if1 .left) _ (r .result .ensures) (c .if2 .taken))
     (λ c κs. search needs)
     (λ c κs. search needs)
-    (λ c. fails (left-0 (c .before .before .before)) (first (c .before)) (c .if3 .taken))
+    (λ c. fails (left-0 (search)) (first-test (search)) (c .if3 .taken))
     (λ c κs. search needs)
     (λ c κs. search needs)
-    (λ c. fails (left-1 (c .before .before .before)) (second (c .before)) (c .if4 .taken))
+    (λ c. fails (left-1 (search)) (second-test (search)) (c .if4 .taken))
     (λ c κs. search needs)
     (λ c κs. search needs)
     (λ c.
-    let l = c .before .before in
-    let d = l .before .before .before .before .before .before in
-    last (left-2 l) _ (tests d 2 _ _ (c .before .argument3 .ensures) (c .field-fits3 .ensures))))
+    let k : Known = search in
+    last (left-2 (search)) _ (tested k 2 _ _ (c .before .argument3 .ensures) (c .field-fits3 .ensures))))

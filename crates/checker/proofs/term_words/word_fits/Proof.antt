@@ -1,4 +1,5 @@
--- The kind decides which fields are used.
+-- The kind decides which fields are used. The type field is tested first (`Tested`); a variable's number is left to place 8, and for any
+-- other kind the number field decides whether the test of the type field is the answer.
 use mathlib.Core.Path.{_≡_, sym, _∙_, ap}
 use mathlib.Core.Bool.{Bool, true, false}
 use mathlib.Core.List.{[]}
@@ -45,45 +46,54 @@ module _ (tables : Tables) (w k : ℕ) (e : k ≡ kindOf w) where
     fails : g ≡ false → false ≡ wellFormedWord tables w
     fails p = of-kind _ (simp (le-leb k 10 (t .known), ne-eqb k 0 z, sym numbered ∙ p))
 
--- the places past the type field's test
-abbrev tables : tie.After-field-fits → Tables
-tables c = let a = c .before .before .before .before .before .before .before .args in over (a .types .now) (a .calls .now) []
+-- the places: the kind is known, and then whether the type field fits
+abbrev Kinded : Type 0
+Kinded = tie.After-kind
 
-abbrev word : tie.After-field-fits → ℕ
-word c = c .before .before .before .before .before .before .before .args .w
+abbrev entry : Kinded → tie.Start
+entry c = c .before .before .before
 
-kinded : (c : tie.After-field-fits) → c .before .before .before .before .kind .result ≡ kindOf (word c)
-kinded c = c .before .before .before .before .kind .ensures
+abbrev Tested : Type 0
+Tested = tie.After-field-fits
 
-typing : (c : tie.After-field-fits)
-    → Typed (tables c) (word c) (c .before .before .before .before .kind .result) (kinded c) (c .field-fits .result)
+abbrev kinded : Tested → Kinded
+kinded c = c .before .before .before .before
+
+abbrev tables : Kinded → Tables
+tables c = let a = entry c .args in over (a .types .now) (a .calls .now) []
+
+abbrev word : Kinded → ℕ
+word c = entry c .args .w
+
+typing : (c : Tested) → let k = kinded c in Typed (tables k) (word k) (k .kind .result) (k .kind .ensures) (c .field-fits .result)
 typing c =
-    typed (tables c) (word c) _ (kinded c) _ _ _ (c .before .before .before .if1 .left) (c .before .before .shape-of .ensures .ty)
-    (c .before .ty .ensures) (c .field-fits .ensures)
+    let k = kinded c in
+    let e : tie.Else1 = search in
+    let s : tie.After-shape-of = search in
+    typed (tables k) (word k) _ (k .kind .ensures) _ _ _ (e .if1 .left) (s .shape-of .ensures .ty) (c .before .ty .ensures)
+    (c .field-fits .ensures)
 
 pub word-fits-spec : {M : Type 1} → statement M
 word-fits-spec =
     tie.close
     (tie.spec
     (λ c κs. search needs)
-    (λ c.
-    let a = c .before .before .before .before .args in
-    past (over (a .types .now) (a .calls .now) []) (a .w) _ (c .before .kind .ensures) (c .if1 .taken))
+    (λ c. let k : Kinded = search in past (tables k) (word k) _ (k .kind .ensures) (c .if1 .taken))
     (λ c κs. search needs)
     (λ c κs. search needs)
     (λ c κs. search needs)
-    (λ c. let d = c .before in variable (tables d) (word d) _ (kinded d) (typing d) (c .if2 .taken))
+    (λ c. variable _ _ _ _ (typing (search)) (c .if2 .taken))
     (λ c κs. search needs)
     (λ c κs. search needs)
     (λ c.
-    let n = c .before .before in
-    let d = n .before .before in
-    fits (tables d) (word d) _ (kinded d) (typing d) (n .before .if2 .left) _ _ _
-    (d .before .before .shape-of .ensures .number) (n .number .ensures) (c .before .field-fits2 .ensures)
-    (c .if3 .taken))
+    let e : tie.Else2 = search in
+    let s : tie.After-shape-of = search in
+    let n : tie.After-number = search in
+    fits _ _ _ _ (typing (search)) (e .if2 .left) _ _ _ (s .shape-of .ensures .number) (n .number .ensures)
+    (c .before .field-fits2 .ensures) (c .if3 .taken))
     (λ c.
-    let n = c .before .before in
-    let d = n .before .before in
-    fails (tables d) (word d) _ (kinded d) (typing d) (n .before .if2 .left) _ _ _
-    (d .before .before .shape-of .ensures .number) (n .number .ensures) (c .before .field-fits2 .ensures)
-    (c .if3 .left)))
+    let e : tie.Else2 = search in
+    let s : tie.After-shape-of = search in
+    let n : tie.After-number = search in
+    fails _ _ _ _ (typing (search)) (e .if2 .left) _ _ _ (s .shape-of .ensures .number) (n .number .ensures)
+    (c .before .field-fits2 .ensures) (c .if3 .left)))

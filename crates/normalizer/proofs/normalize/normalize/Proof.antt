@@ -1,5 +1,5 @@
--- Why `normalize` is right: what `run` answers and writes is the definition's outcome, and the two calls of `clear` make the scratch buffers
--- those of the outcome too. So the outcome is the definition's (`outcome`), and the claim follows from the equation.
+-- Why `normalize` is right: what `run` answers and writes is the definition's, and the two calls of `clear` make the scratch buffers the
+-- definition's too (`zeros-cleared`). So the whole outcome is (`outcome`), and the claim follows from the equation.
 use Prim.Native.Nat.{ℕ}
 use mathlib.Core.Path.{_≡_, _∙_, ap}
 use mathlib.Core.List.{List}

@@ -1,12 +1,12 @@
 -- Why `run` is right: what the checks refuse is answered with their number (`refuses`). A term that they accept (`accepted`) is refused
--- with 11 if it is longer than the capacity (`too-long`). Otherwise it may be settled in parts of the scratch buffers that are as long as the
--- capacity (`may-settle`), and what that comes to is the outcome (`settled`).
+-- with 11 if it is longer than the capacity (`too-long`). Otherwise it may be settled in parts of the scratch buffers that are as long as
+-- the capacity (`may-settle`), and what that comes to is the outcome (`settled`).
 use borrow.Author.Needs.{needs}
 use native.Mathlib.Omega.{arith}
 use mathlib.Core.Path.{_∙_, ap}
 use Prim.Native.Nat.{ℕ, min}
 use Rattle.outcomes.specs.Normalize.{Buffers}
-use Rattle.normalizer.proofs.AnswerAndOutput.{Accepted, refusal-fills, too-long-fills, first-length, second-length}
+use Rattle.normalizer.proofs.AnswerAndOutput.{AcceptedTerm, refusal-fills, too-long-fills, first-length, second-length}
 use Rattle.normalizer.proofs.AnswerAndOutput.{accepted-settleable, settled-fills}
 use Rattle.normalizer.proofs.normalize.run.Statement.{statement}
 use Rattle.normalizer.proofs.normalize.run.Tie as tie
@@ -30,13 +30,13 @@ refuses c =
 accepted : (c : tie.After-smaller3)
     → (let v = checked c in
     let s = entry v .args in
-    Accepted (s .types .now) (s .calls .now) (s .inputs .now) (s .term .now) (buffers (entry v))
+    AcceptedTerm (s .types .now) (s .calls .now) (s .inputs .now) (s .term .now) (buffers (entry v))
     (v .check-within .result) (c .smaller3 .result))
 accepted c =
     let e : tie.Else1 = search in
     record {
       checked-is = checked c .check-within .ensures;
-      accepted = e .if1 .left;
+      not-refused = e .if1 .left;
       capacity-is = c .smaller3 .ensures ∙ ap (λ (x : ℕ). min x 8192)
           (c .before .smaller2 .ensures ∙ ap (min _) (c .before .before .smaller .ensures));
     }

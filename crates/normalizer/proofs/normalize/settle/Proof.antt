@@ -1,6 +1,6 @@
--- Why `settle` is right: the copy puts the term's words at the end of the first scratch buffer, where `reduce` may begin (`begins`). What it
--- comes to is the definition's: a refusal is answered as it is (`stopped-settles`); otherwise the normal form is at the buffer's end and has
--- room in the output (`inside`), and is copied there (`ended-settles`).
+-- Why `settle` is right: the copy puts the term's words at the end of the first scratch buffer, where `reduce` may begin (`begins`). What
+-- it comes to is the definition's: a refusal is answered as it is (`stopped-settles`). Otherwise the normal form is at the buffer's end and
+-- has room in the output (`inside`), and is copied there (`ended-settles`).
 use borrow.Author.Needs.{needs}
 use native.Mathlib.Omega.{arith}
 use Prim.Native.Nat.{_-_, _≤_}

@@ -12,7 +12,7 @@ use Rattle.reduction.specs.Reduction.{Counts}
 use Rattle.reduction.specs.declared.Phase.{Phase}
 use Rattle.reduction.specs.declared.Phase.the-variants.{Reduction, Dropping}
 use Rattle.reduction.proofs.Path.{Follows, first-second, second-third}
-use Rattle.normalizer.proofs.BetweenTurns.{State, atFront}
+use Rattle.normalizer.proofs.BetweenTurns.{State}
 use Rattle.normalizer.proofs.StepLoop.{Arrives, arrives-here, arrives-on, turn-ready, gap-seekable, budget-left, counts-below}
 use Rattle.normalizer.proofs.StepLoop.{step-arrives}
 use Rattle.normalizer.proofs.PhaseLoop.{initial, arrives-initial, refused-reduces, phase-arrives, form-reduces, phasesAfter}

@@ -24,13 +24,13 @@ Entry = tie.Start Inv-loop μ-loop
 abbrev Head : Type 0
 Head = tie.At-loop Inv-loop μ-loop
 
-abbrev Tested : Type 0
-Tested = tie.After-value-test Inv-loop μ-loop
+abbrev OperandTested : Type 0
+OperandTested = tie.After-value-test Inv-loop μ-loop
 
 abbrev entry : Head → Entry
 entry c = c .before .before .before .before .before .before .before
 
-abbrev head : Tested → Head
+abbrev head : OperandTested → Head
 head c = c .before .before .before
 
 -- at the head of the loop
@@ -45,7 +45,7 @@ reached : (c : tie.Else1 Inv-loop μ-loop)
     → (let p = c .before .before in
     head p .loop .at + p .value-test .result .end ≤ length (entry (head p) .args .t .now))
 reached c =
-    let p : Tested = search in
+    let p : OperandTested = search in
     find-reached (head p .loop .inv) (search) (p .value-test .ensures) (not-false _ (c .if1 .left))
 
 pub first-computation-spec : {M : Type 1} → statement M
@@ -74,12 +74,12 @@ first-computation-spec =
       omega (arith, from-length (entry l .args .t .now) (l .loop .at), short l),
     ))
     (λ c.
-    let p : Tested = search in
+    let p : OperandTested = search in
     find-first (head p .loop .inv) (search) (p .value-test .ensures) _ (not-true _ (c .if1 .taken)) refl refl refl)
     (λ c. omega (arith, reached (search), short (search)))
     (λ c. search needs)
     (λ c. search needs)
     (λ c.
-    let p : Tested = search in
+    let p : OperandTested = search in
     find-next (head p .loop .inv) (search) (p .value-test .ensures) (not-false _ (c .before .if1 .left)))
     (λ c. find-none (c .before .loop .inv) _ (c .loop-test .left) refl))
