@@ -52,7 +52,7 @@ MUTANTS = [
         (VALUES, "at s (λ x. case x l r) ∷ []", "at s (λ x. case x l r) ∷ at l (λ x. case s x r) ∷ at r (λ x. case s l x) ∷ []")]),
     ("11 before 10", "reduction", [(REDUCTION, "some s ↦ stopped 10 counts",
         "some s ↦ elim (leb (size (s .next)) capacity) [ false ↦ stopped 11 counts | true ↦ stopped 10 counts ]")]),
-    ("the input's length not looked at", "reduction", [(REDUCTION, "elim (leb (size t) capacity)", "elim (leb 0 capacity)")]),
+    ("the input's length ignored", "reduction", [(REDUCTION, "elim (leb (size t) capacity)", "elim (leb 0 capacity)")]),
     ("3 before 2", "typing", [(CHECKS, CHECK_2 + CHECK_3, CHECK_3 + CHECK_2)]),
     ("9 before 8", "typing", [(CHECKS, CHECK_8 + CHECK_9, CHECK_9 + CHECK_8)]),
     ("a type's part may be the entry itself", "typing", [("typing/specs/TableChecks", "ltb (leftOf w) i", "leb (leftOf w) i")]),

@@ -14,9 +14,10 @@
  *
  * What holds for both calls: they return, and read and write no memory but the slices and the
  * stack. They keep nothing between calls, so threads may make them at the same time.
- * They use the stack of their thread, the more the deeper a term nests: 4 MiB were enough for terms
- * of over 8,000 levels (bindings/rust/tests/depth.rs). A stack that is too small is not refused by
- * number: the process ends at the stack's guard page.
+ * They use the stack of their thread, the more the deeper a term nests. The least that was enough
+ * for the deepest term: 1,036 KiB for flatten_respond, 780 KiB for flatten_normalize
+ * (bindings/rust/tests/depth.rs). Allow 2 MiB. A stack that is too small is not refused by number:
+ * the process ends at the stack's guard page.
  */
 #ifndef FLATTEN_H
 #define FLATTEN_H
@@ -38,8 +39,9 @@ extern "C" {
  * The answer of flatten_normalize.
  *
  * refusal  0 where the term is accepted, else the reason:
- *          1  over 1,024 types, 1,024 calls, 256 inputs or 4,096 term words, or no term word
- *          2  a type word is malformed             3  a type word stands twice
+ *          1  over 1,024 types, over 1,024 calls, over 256 inputs, over 4,096 term words,
+ *             or no term word
+ *          2  a type word is malformed             3  a type word is duplicated
  *          4  a call word is malformed             5  an input's type is unknown
  *          6  a term word is malformed             7  the term's words end early or are left over
  *          8  a variable names no binder and no input
@@ -48,8 +50,8 @@ extern "C" {
  *         11  the term handed in, or the next term, is longer than the capacity
  * type     the number of the term's type; 0 where it is refused
  * length   the words of the normal form; 0 where it is refused
- * counts   how often each rule was applied, in the order let, let of let, let of case, apply,
- *          first, second, left case, right case, let value, drop; all zero where it is refused
+ * counts   how often each rule was applied: 0 let, 1 let of let, 2 let of case, 3 apply, 4 first,
+ *          5 second, 6 left case, 7 right case, 8 let value, 9 drop; all zero where it is refused
  *          with 1 to 9, and the steps taken where it is refused with 10 or 11
  */
 struct flatten_answer {

@@ -16,8 +16,9 @@
 //! # Ok::<(), flatten::Refused>(())
 //! ```
 //!
-//! The calls use the stack of their thread, the more the deeper a term nests: 4 MiB were enough for
-//! terms of over 8,000 levels (tests/depth.rs). A stack that is too small ends the process.
+//! The calls use the stack of their thread, the more the deeper a term nests. The least that was
+//! enough for the deepest term: 1,036 KiB for `respond`, 780 KiB for `normalize` (tests/depth.rs).
+//! A thread's default of 2 MiB is enough. A stack that is too small ends the process.
 
 mod normalize;
 mod refused;

@@ -150,7 +150,7 @@ fn the_readme_quotes_the_files() {
         assert!(!lines.is_empty());
         assert!(readme.contains(&lines), "not in README.md:\n{lines}");
     };
-    for path in ["sample.listing", "register.listing", "register.words"] {
+    for path in ["register.listing", "register.words"] {
         quotes(set_in(4, &text(&format!("examples/{path}"))));
     }
     for name in ["register", "tithe"] {
