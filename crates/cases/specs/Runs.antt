@@ -4,7 +4,7 @@ use Prim.Native.Nat.{ℕ, zero, suc, _+_, _-_}
 use mathlib.Core.List.{List, [], _∷_}
 use Rattle.syntax.specs.Term.{Term, var, call, lam, app, bind, pair, fst, snd, inl, inr, case, done, arg}
 use Rattle.semantics.specs.Value.{Value, Values, num, closure, tuple, left, right, empty, also, Call, Trace}
-use Rattle.semantics.specs.Run.{Outcome, ended, run}
+use Rattle.semantics.specs.Run.{RunOutcome, ended, run}
 use Rattle.cases.specs.Table.{c, d, v0, v1, A, A′}
 
 -- a run: the term, the values of the inputs, what answers the calls, and the expected value and trace
@@ -87,8 +87,8 @@ runs =
     ∷ []
 
 -- what the definition makes of a run, and what is expected; none has more than 20 nodes one inside another
-unfoldable pub ran : Trial → Outcome Value
+unfoldable pub ran : Trial → RunOutcome Value
 ran x = run (x .answer) 20 (x .inputs) (x .term)
 
-unfoldable pub foreseen : Trial → Outcome Value
+unfoldable pub foreseen : Trial → RunOutcome Value
 foreseen x = ended (x .value) (x .trace)

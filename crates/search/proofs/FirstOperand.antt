@@ -15,7 +15,8 @@ use Rattle.words.specs.Fronts.{Holds, Starts, from}
 use Rattle.words.proofs.Traversal.{front-of, Going, enter, Does, reached, onward, next}
 use Rattle.words.specs.Joined.{joined}
 use Rattle.search.specs.ValueTest.{TestsValue}
-use Rattle.search.specs.Operands.{operandCount, allValues, FindsOperand}
+use Rattle.search.specs.Operands.{allValues, FindsOperand}
+use Rattle.words.specs.Shapes.{operandCount}
 use Rattle.search.specs.declared.value.ValueEnd.{ValueEnd}
 use Rattle.search.specs.declared.fits.FoundOperand.{FoundOperand}
 use Rattle.search.proofs.ValueByNode.{apart}

@@ -11,7 +11,8 @@ use Rattle.syntax.specs.Substitution.{traverse, traverseAll, renaming, weaken}
 use Rattle.syntax.specs.Values.{isValue, argumentsIn, operands}
 use Rattle.reduction.specs.Rules.{nameFirst, letInsertion}
 use Rattle.words.specs.Joined.{joined}
-use Rattle.search.specs.Operands.{operandCount, allValues}
+use Rattle.search.specs.Operands.{allValues}
+use Rattle.words.specs.Shapes.{operandCount}
 
 -- whether the first m of these are values
 unfoldable pub valuesTo : ℕ → Terms → Bool

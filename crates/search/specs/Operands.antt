@@ -1,9 +1,8 @@
 -- The operands of a node on words: how many of its parts they are, and which of them is the first computation.
 use Prim.Native.Nat.{ℕ, _+_, _<_}
 use mathlib.Core.Path.{_≡_}
-use mathlib.Core.Bool.{Bool, true, false, cond, _&&_, _||_}
+use mathlib.Core.Bool.{Bool, true, false, _&&_}
 use mathlib.Core.List.{List}
-use lib.Dec.{eqb}
 use lib.ListN.{length}
 use Rattle.syntax.specs.Maybe.{isSome}
 use Rattle.syntax.specs.Term.{Term, Terms, done, arg, node}
@@ -13,12 +12,8 @@ use Rattle.syntax.specs.Values.{isValue}
 use Rattle.reduction.specs.Rules.{letInsertion}
 use Rattle.words.specs.Fronts.{Holds}
 use Rattle.words.specs.Joined.{joined}
+use Rattle.words.specs.Shapes.{operandCount}
 use Rattle.search.specs.declared.fits.FoundOperand.{FoundOperand}
-
--- how many parts of a node of kind k, of its n parts the first ones, are operands: none of a function's and a let's, a case's subject,
--- and all parts of any other node
-unfoldable pub operandCount : ℕ → ℕ → ℕ
-operandCount k n = cond (eqb k 2 || eqb k 4) 0 (cond (eqb k 10) 1 n)
 
 -- whether all of these are values
 unfoldable pub allValues : Terms → Bool

@@ -6,7 +6,7 @@ ghost use Rattle.syntax.specs.Words.{kindOf};
 ghost use Rattle.syntax.specs.Maybe.{given};
 ghost use Rattle.words.specs.Fronts.{Starts};
 ghost use Rattle.reduction.specs.FitByKinds.{letByKinds, ruleByKinds};
-ghost use Rattle.search.specs.Operands.{operandCount, FindsOperand};
+ghost use Rattle.search.specs.Operands.{FindsOperand};
 ghost use Rattle.search.specs.Fits.{rootRedex, caseByKind, Fits};
 use crate::value::value_kind;
 use crate::value::value_test;
@@ -14,19 +14,8 @@ use reduction::Found;
 use reduction::Phase;
 use reduction::Rule;
 use words::fields::kind;
+use words::shape::operand_count;
 use words::shape::part_count;
-
-// how many of a node's n parts are operands: the first ones. A match, as only three kinds differ from the rest.
-fn operand_count(k: u64, n: usize) -> usize
-    ensures { λ r. ⌜ r ≡ operandCount k n ⌝ }
-{
-    match k {
-        2 => 0,
-        4 => 0,
-        10 => 1,
-        _ => n,
-    }
-}
 
 // an operand that is a computation, if one was found: its index among the parts, and where its words start
 pub struct FoundOperand {

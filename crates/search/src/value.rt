@@ -7,7 +7,9 @@ ghost use Rattle.reduction.specs.FitByKinds.{valueKind};
 ghost use Rattle.search.specs.ValueTest.{TestsValue};
 use words::ends::part_size;
 use words::fields::kind;
+use words::shape::FUNCTION;
 use words::shape::shape_of;
+use words::shape::value_parts;
 
 // whether a part is a value, and where it ends if it is
 pub struct ValueEnd {
@@ -27,17 +29,13 @@ pub fn value_kind(k: u64) -> bool
     s.ty
 }
 
-// what the table of value_test says of a function: it is passed as a whole
-const FUNCTION: usize = 4;
-
 // whether the part at the front is a value, and its end if it is: word by word, as long as they can be those of a value;
 // a function is one whatever its body, any other value is one if its parts are
 pub fn value_test(calls: &[u64], t: &[u64]) -> ValueEnd
     requires { ⌜ Starts (now calls) (now t) × (length (now t) ≤ 8192) ⌝ }
     ensures { λ r. ⌜ TestsValue (now (calls .entry)) (now (t .entry)) r ⌝ }
 {
-    // by kind: how many parts a value's node has; FUNCTION; 5 if the kind is no value's
-    let counts: [u8; 16] = [0, 5, 4, 5, 5, 2, 5, 5, 1, 1, 5, 5, 5, 5, 5, 5];
+    let counts = value_parts();
     let mut owed: usize = 1;
     let mut at: usize = 0;
     while 0 < owed {

@@ -13,20 +13,13 @@ use borrow.Author.Tests.{eq-eqb, eqb-true, le-leb, leb-true, not-true}
 use Rattle.syntax.specs.Kinds.{partsOfKind}
 use Rattle.reduction.specs.FitByKinds.{valueKind}
 use Rattle.words.specs.Fronts.{from}
-use Rattle.words.proofs.PartCounts.{of-kind, kinds-agree, kinds-imply}
+use Rattle.words.specs.Shapes.{Tabled, valueParts}
+use Rattle.words.proofs.PartCounts.{of-kind, kinds-imply}
 use Rattle.words.proofs.Traversal.{from-length}
 use Rattle.words.proofs.Rows.{Marching, march-inside, march-first}
 use Rattle.search.proofs.ValueByNode.{ValuesSoFar, test-begin, test-end, test-computation, test-function, function-words, test-open}
 use Rattle.search.proofs.value.value_test.Statement.{statement}
 use Rattle.search.proofs.value.value_test.Tie as tie
-
--- how many parts a value's node of this kind has; 4 if it is a function; 5 if the kind is no value's
-abbrev entry : ℕ → ℕ
-entry k = cond (eqb k 2) 4 (cond (valueKind k) (partsOfKind 0 k) 5)
-
--- a table of them
-record Tabled (counts : List ℕ) : Type 0 where
-  entries : (k : ℕ) → k < 16 → getD counts k 0 ≡ entry k
 
 -- a value's node that is no function, with so many parts
 record ValueNode (k n : ℕ) : Type 0 where
@@ -36,35 +29,35 @@ record ValueNode (k n : ℕ) : Type 0 where
   no-function : k ≡ 2 → ⊥
 
 -- what the table says of a kind
-module _ {counts : List ℕ} (table : Tabled counts) {k : ℕ} (l : k < 16) where
+module _ {counts : List ℕ} (table : Tabled valueParts counts) {k : ℕ} (l : k < 16) where
   bounded : getD counts k 0 ≤ 5
   unfolding valueKind
-  bounded = omega (arith, table .entries k l, leb-true (entry k) 5 (kinds-imply (λ j. true) (λ j. leb (entry j) 5) refl k l refl))
+  bounded = omega (arith, table .at-kind k l, leb-true (valueParts k) 5 (kinds-imply (λ j. true) (λ j. leb (valueParts j) 5) refl k l refl))
 
   opened : getD counts k 0 ≤ 3 → ValueNode k (getD counts k 0)
   unfolding valueKind
   opened few =
-      let low : leb (entry k) 3 ≡ true = le-leb (entry k) 3 (omega (arith, table .entries k l, few)) in
+      let low : leb (valueParts k) 3 ≡ true = le-leb (valueParts k) 3 (omega (arith, table .at-kind k l, few)) in
       record {
-        of-value = kinds-imply (λ j. leb (entry j) 3) valueKind refl k l low;
-        parts-are = table .entries k l
-            ∙ eqb-true _ _ (kinds-imply (λ j. leb (entry j) 3) (λ j. eqb (entry j) (partsOfKind 0 j)) refl k l low);
-        no-call = λ e. omega (arith, table .entries k l, ap entry e, few);
-        no-function = λ e. omega (arith, table .entries k l, ap entry e, few);
+        of-value = kinds-imply (λ j. leb (valueParts j) 3) valueKind refl k l low;
+        parts-are = table .at-kind k l
+            ∙ eqb-true _ _ (kinds-imply (λ j. leb (valueParts j) 3) (λ j. eqb (valueParts j) (partsOfKind 0 j)) refl k l low);
+        no-call = λ e. omega (arith, table .at-kind k l, ap valueParts e, few);
+        no-function = λ e. omega (arith, table .at-kind k l, ap valueParts e, few);
       }
 
   function : getD counts k 0 ≡ 4 → k ≡ 2
   unfolding valueKind
-  function h = eqb-true _ _ (kinds-imply (λ j. eqb (entry j) 4) (λ j. eqb j 2) refl k l (eq-eqb _ _ (sym (table .entries k l) ∙ h)))
+  function h = eqb-true _ _ (kinds-imply (λ j. eqb (valueParts j) 4) (λ j. eqb j 2) refl k l (eq-eqb _ _ (sym (table .at-kind k l) ∙ h)))
 
   no-value : 5 ≤ getD counts k 0 → valueKind k ≡ false
   unfolding valueKind
   no-value h =
-      let high : leb 5 (entry k) ≡ true = le-leb 5 (entry k) (omega (arith, table .entries k l, h)) in
-      not-true _ (kinds-imply (λ j. leb 5 (entry j)) (λ j. not (valueKind j)) refl k l high)
+      let high : leb 5 (valueParts k) ≡ true = le-leb 5 (valueParts k) (omega (arith, table .at-kind k l, h)) in
+      not-true _ (kinds-imply (λ j. leb 5 (valueParts j)) (λ j. not (valueKind j)) refl k l high)
 
 abbrev Inv-loop : tie.InvT-loop
-Inv-loop calls t counts owed₀ at₀ owed at = Tabled counts × Marching calls t ValuesSoFar 1 at owed
+Inv-loop calls t counts owed₀ at₀ owed at = Tabled valueParts counts × Marching calls t ValuesSoFar 1 at owed
 
 abbrev μ-loop : tie.MeasureT-loop
 μ-loop calls t counts owed₀ at₀ owed at = length t - at
@@ -86,7 +79,7 @@ abbrev Function : Type 0
 Function = tie.After-part-size Inv-loop μ-loop
 
 abbrev start : Head → Entry
-start c = c .before .before .before
+start c = c .before .before .before .before
 
 abbrev head : Turn → Head
 head c = c .before
@@ -127,8 +120,7 @@ reached c =
     omega (arith, c .part-size .ensures .within, from-length (start l .args .t .now) (l .loop .at), inside l)
 
 begins : tie.Need-loop-holds Inv-loop μ-loop
-unfolding valueKind
-begins c = (record { entries = kinds-agree _ entry refl }, test-begin (c .before .before .pre .0))
+begins c = (c .value-parts .ensures, test-begin (c .before .before .before .pre .0))
 
 -- past a value's node
 again : tie.Need-loop-again Inv-loop μ-loop
@@ -161,6 +153,7 @@ value-test-spec =
     (tie.spec
     Inv-loop
     μ-loop
+    (λ c κs. search needs)
     begins
     (λ c. omega (arith, inside (search), short (search)))
     (λ c. omega (arith, inside (search), some (search)))
