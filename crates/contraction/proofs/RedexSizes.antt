@@ -5,7 +5,7 @@ use native.Mathlib.Nat.{mul-le-mul}
 use mathlib.Core.Path.{_≡_, sym, _∙_, ap, ap₂, subst}
 use mathlib.Core.List.{List, _++_}
 use lib.Dec.{eqb→eq}
-use Rattle.syntax.specs.Term.{Term, Terms, var, lam, app, bind, pair, inl, inr, case, done, arg, node}
+use Rattle.syntax.specs.Term.{Term, Terms, var, lam, bind, pair, inl, inr, case, done, arg, node}
 use Rattle.syntax.specs.Encoding.{encodeAll, size}
 use Rattle.syntax.specs.Substitution.{_⟦_⟧}
 use Rattle.syntax.specs.Values.{uses}

@@ -10,7 +10,7 @@ use native.Mathlib.Omega.{arith}
 use Prim.Native.Nat.{_+_, _-_, _^_, _≤_, _<_}
 use mathlib.Core.Path.{_≡_, refl, _∙_}
 use lib.Dec.{eqb}
-use lib.ListN.{length, getD, length-set}
+use lib.ListN.{length, length-set}
 use Rattle.words.specs.Fronts.{from}
 use Rattle.words.proofs.Traversal.{not-empty, from-length}
 use Rattle.contraction.specs.Insertion.{PartRoom}

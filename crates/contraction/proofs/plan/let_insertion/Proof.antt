@@ -3,7 +3,7 @@
 -- Why it is right: the rule fires, so there is such an operand and it starts where the search says (`bound`). Its size says where the parts
 -- behind it start (`behind-in`), and its index how many they are (`index-below`, `later`). Where they end the node ends (`end-small`).
 use borrow.Author.Needs.{needs}
-use Prim.Native.Nat.{_+_, _-_, _≤_, _<_}
+use Prim.Native.Nat.{_+_, _-_, _≤_}
 use native.Mathlib.Omega.{arith}
 use lib.ListN.{length}
 use Rattle.words.specs.Fronts.{StartsAll, from}

@@ -5,7 +5,7 @@
 use native.Mathlib.Omega.{arith}
 use Prim.Native.Nat.{_+_}
 use mathlib.Core.Path.{_≡_, _∙_}
-use lib.ListN.{length, getD, set, length-set}
+use lib.ListN.{length, length-set}
 use Rattle.contraction.specs.Writers.{LetRoom}
 use Rattle.contraction.proofs.LetOver.{let-room}
 use Rattle.contraction.proofs.Contracta.{MovingCase, moving-case, case-writes}

@@ -4,8 +4,7 @@
 -- (`at-redex`). Where it is rewritten the budget is not spent (`budget-left`), so 11 is answered only there; and where the next term is in
 -- the buffer the gap can go to where the search goes on (`next`).
 use native.Mathlib.Omega.{arith}
-use Prim.Native.Nat.{_+_, _≤_, _<_}
-use lib.ListN.{length}
+use Prim.Native.Nat.{_+_, _<_}
 use Rattle.step.specs.Rewrites.{RewritesRedex}
 use Rattle.step.specs.declared.rewrite.Rewritten.the-variants.{Next}
 use Rattle.step.proofs.TurnIsStep.{FirstRedex, GapAtRedex, turn-searchable, turned-stops, first-redex, turned-spent, place-small}
