@@ -77,7 +77,7 @@ runs =
     ∷ trial (case c v0 (d v0)) [] choosing (num 15) (made 0 [] ∷ made 1 (num 5 ∷ []) ∷ [])
     -- an injection's operand runs, and the injection is the answer
     ∷ trial (inr 3 (d v0)) (num 3 ∷ []) counting (right (num 13)) (made 1 (num 3 ∷ []) ∷ [])
-    -- a function gives itself with the values in scope, and its body does not run
+    -- a function is a closure over the values in scope; its body does not run
     ∷ trial (lam 1 (e v0 v1)) (num 3 ∷ []) counting (closure (values (num 3 ∷ [])) (e v0 v1)) []
     -- applied under further binders it still has the values that it kept: v1 in its body is the input, not the let's c
     ∷ trial (bind (lam 1 (e v0 v1)) (bind c (app v1 v0))) (num 3 ∷ []) counting (num 4) (made 0 [] ∷ made 2 (num 7 ∷ num 3 ∷ []) ∷ [])

@@ -40,7 +40,8 @@ nines n = replicate n 9
 abbrev zeros : ℕ → List ℕ
 zeros n = replicate n 0
 
--- types 0 base, 1 function 0 to 0, 2 product 0 0, 3 sum 0 0; calls c with no argument, d with one, all of type 0
+-- the type table: a base type, and over it a function, a product and a sum type; the call table: c takes nothing, d one argument; every
+-- type in it is the base type
 abbrev pub tablesWith : List ℕ → Tables
 tablesWith inputs = record { types = pack 0 0 0 ∷ pack 1 0 0 ∷ pack 2 0 0 ∷ pack 3 0 0 ∷ []; calls = 0 ∷ pack 1 0 0 ∷ []; inputs = inputs }
 
@@ -56,7 +57,7 @@ v0 = var 0
 abbrev pub v1 : Term
 v1 = var 1
 
--- counts in the order let, let of let, let of case, apply, first, second, left case, right case, let value, drop
+-- the counts, in the order of `Rule`
 abbrev pub accepts : List ℕ → Term → Term → Counts → Case
 accepts inputs t u counts =
     record {
@@ -140,7 +141,7 @@ table =
     ∷ limited 1000000 (lent 7 8 6) A 11 zeroCounts []
     ∷ limited 1000000 (lent 8 7 9) A 0 (1 ∷ 0 ∷ 0 ∷ 1 ∷ 0 ∷ 0 ∷ 0 ∷ 0 ∷ 0 ∷ 0 ∷ []) (encode A′)
     ∷ limited 0 (lent 6 6 6) A 10 zeroCounts []
-    -- K: two words v0, v0; L: type 0 a function of 0 to 0
+    -- K: two words v0, v0; L: a function type that is its own part
     ∷ refuses (tablesWith (0 ∷ [])) (encode v0 ++ encode v0) 7
     ∷ refuses (record { types = pack 1 0 0 ∷ []; calls = []; inputs = 0 ∷ [] }) (encode v0) 2
     ∷ []

@@ -1,4 +1,4 @@
-// The public call `is_normal` (paper 01: a yes or no whether a term is flat).
+// The public call `is_normal` (paper 01: the flat test).
 ghost use mathlib.Core.Path.{_≡_};
 ghost use Rattle.syntax.specs.Tables.{over};
 ghost use Rattle.outcomes.specs.IsNormal.{isNormalOutcome};

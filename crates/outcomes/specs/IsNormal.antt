@@ -1,4 +1,4 @@
--- The outcome of the public call `is_normal` (paper 01: a yes or no whether a term is flat).
+-- The outcome of the public call `is_normal` (paper 01: the flat test).
 use Prim.Native.Nat.{ℕ}
 use mathlib.Core.Bool.{Bool, false}
 use mathlib.Core.List.{List}

@@ -21,19 +21,20 @@ use Rattle.syntax.specs.Calls.{callsIn}
 use Rattle.semantics.specs.TypeParts.{PartOf, FunctionFree, CallType}
 
 module _ (tables : Tables) where
-  -- D is part of the result's type, of an input's, or of an argument or result type of a call in the term
+  -- D is part of the type of the result, of an input, or of an argument or the result of a call that the term names
   pub data Subformula (result : ℕ) (u : Term) (D : ℕ) : Type 0 where
     of-result : PartOf tables D result → Subformula result u D
     of-input : {A : ℕ} → A ∈ tables .inputs → PartOf tables D A → Subformula result u D
     of-call : {A : ℕ} → CallType tables u A → PartOf tables D A → Subformula result u D
 
-  -- no input, no result and no call in the term has a function in its types
+  -- the types of the inputs, of the result and of every call that the term names are free of functions
   pub record FirstOrder (result : ℕ) (t : Term) : Type 0 where
     pub inputs : (A : ℕ) → A ∈ tables .inputs → FunctionFree tables A
     pub result′ : FunctionFree tables result
     pub calls : (A : ℕ) → CallType tables t A → FunctionFree tables A
 
-  -- a run's feed: a value of its type for each input, and an answer of its result type to each call in the term on arguments of their types
+  -- a run's feed: for each input a value of its type; for each call that the term names, on arguments of their types, an answer of its result
+  -- type
   pub record Feed (t : Term) (ρ : Values) (answer : ℕ → Values → Value) : Type 0 where
     pub inputs : HaveTypes tables (tables .inputs) ρ
     pub answers : (k : ℕ) (s : Signature) → k ∈ callsIn t → signature tables k ≡ some s
@@ -47,7 +48,7 @@ pub record SameRuns (answer : ℕ → Values → Value) (ρ : Values) (t u : Ter
   -- a run of the source and a run of the normal form both end, with the same answer
   pub source-ends : Ends answer ρ t value trace
   pub normal-ends : Ends answer ρ u value trace′
-  -- the normal form's list of calls is the source's with some struck out or none
+  -- the normal form's list of calls is a sublist of the source's
   pub calls-struck : Sublist trace′ trace
   -- a run of each term between ends with that same answer and exactly the source's list of calls
   pub between-ends : (w : Term) → w ∈ ts → Ends answer ρ w value trace
@@ -68,11 +69,11 @@ pub record Claim (tables : Tables) (words : List ℕ) (A : ℕ) (result : List �
   pub normal-type : infer tables normal (tables .inputs) ≡ some A
   -- no rule fits anywhere in it
   pub no-redex : isNormal (mayDrop (tables .calls)) normal ≡ true
-  -- each part's type is part of the result's type, of an input's, or of an argument or result type of a call it contains
+  -- every node has a type, and it is a subformula: part of the type of the result, of an input, or of a call that the normal form names
   pub part-types : List ℕ
   pub every-part : nodeTypes tables normal (tables .inputs) ≡ some part-types
   pub subformulas : (D : ℕ) → D ∈ part-types → Subformula tables A normal D
-  -- with no function in those types, whatever the inputs hold and whatever the calls answer, the runs agree:
-  -- the source, the normal form, and each term up to and including the one the third phase starts from
+  -- where those types are free of functions the runs agree, for all inputs and all answers: those of the source, of the normal form, and of
+  -- each term that phases 1 and 2 go through, the last one included
   pub same-runs : FirstOrder tables A source → (ρ : Values) (answer : ℕ → Values → Value) → Feed tables source ρ answer
       → SameRuns answer ρ source normal (beforeDropping (mayDrop (tables .calls)) sequence)

@@ -5,7 +5,7 @@ use mathlib.Core.List.{List, [], _∷_}
 use lib.Dec.{eqb}
 use Rattle.syntax.specs.Term.{Term, Terms, var, call, lam, app, bind, pair, fst, snd, inl, inr, case, done, arg}
 
--- a value (paper 01: V): a variable, a function, a pair of values or an injection of a value
+-- a value (paper 01: V): variables and functions are values; a pair or an injection is one if its parts are
 unfoldable pub isValue : Term → Bool
 isValue (var n) = true
 isValue (call k ts) = false

@@ -1,5 +1,5 @@
--- Phase 1 takes as many steps as the input has operand positions holding a computation: a step names one of them and makes no new one, and
--- where no step is left none is held. So phase 1 ends, on every term.
+-- The steps of phase 1 are as many as the operand positions of the input that hold a computation: a step names one of them and makes no
+-- new one, and where no step is left none is held. So phase 1 ends, on every term.
 use mathlib.Core.Path.{_≡_, refl, sym, _∙_, ap, ap₂}
 use mathlib.Core.Bool.{Bool, true, false, _&&_, not}
 use mathlib.Core.List.{List, [], _∷_}

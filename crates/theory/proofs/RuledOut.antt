@@ -1,4 +1,4 @@
--- The claim alone rules out the normalizer that copies its input and the one that inserts lets and skips phases 2 and 3: on case A of
+-- The claim alone rules out the normalizer that copies its input and the one that stops after phase 1: on case A of
 -- paper 01's table the words they hand back decode to a term that a rule fits, and a claim says that no rule fits there. What it says of
 -- part types rules the copy out once more: the function in it has a type that is part of no type the claim allows.
 use mathlib.Core.Path.{_≡_, refl, sym, _∙_, ap, subst}
@@ -41,7 +41,7 @@ no-claim tables words A result u d n c =
     let e = Option·some-injective u (c .normal) (sym d ∙ c .normal-decoded) in
     subst T (sym (c .no-redex) ∙ ap (isNormal (mayDrop (tables .calls))) (sym e) ∙ n) tt
 
--- case A: types 0 base, 1 function 0 to 0, 2 product 0 0, 3 sum 0 0; calls c with no argument and d with one, all of type 0
+-- case A: a base type, and over it a function, a product and a sum type; c takes nothing, d one argument, all of the base type
 abbrev pub tables : Tables
 tables = record { types = pack 0 0 0 ∷ pack 1 0 0 ∷ pack 2 0 0 ∷ pack 3 0 0 ∷ []; calls = 0 ∷ pack 1 0 0 ∷ []; inputs = [] }
 
@@ -103,7 +103,7 @@ unfolding node partsOf asVar asLam asApp asBind asPair asFst asSnd asInl asInr a
     fire rules contract firstStep step isNormal
 named-has-redex = refl
 
--- the one that inserts lets and skips phases 2 and 3: it hands back the last term of phase 1
+-- the one that stops after phase 1: it hands back the last term of phase 1
 pub insertion-ruled-out : {u : Term} {ss : List Step} → Steps (mayDrop (tables .calls)) Insertion source ss u
     → Claim tables (encode source) 0 (encode u) → ⊥
 unfolding leaf unary binary splitForest callBuilder builders graft decodeForest decode encode node

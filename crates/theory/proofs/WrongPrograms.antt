@@ -1,5 +1,5 @@
 -- The contract of `normalize` rules out wrong programs (paper 01, c): one that refuses each term, one that hands back a fixed normal form,
--- one that invents the counts, and one that says 10 or 11 before a step that fits. A reduction is determined by its steps, so where the
+-- one that invents the counts, and one that refuses with 10 or 11 too early. A reduction is determined by its steps, so where the
 -- checks accept, the answer is too; and the ten counts say how many steps it took.
 use mathlib.Core.Path.{_≡_, refl, sym, _∙_, ap, subst}
 use mathlib.Core.Bool.{Bool}
@@ -102,7 +102,7 @@ module _ {settings : Settings} {tables : Tables} {words : List ℕ} {before : Bu
     pub counts-ruled-out : (answer .counts ≡ tally (steps pure q) zeroCounts → ⊥) → ⊥
     counts-ruled-out h = h (ap (λ (a : Answer). a .counts) in-full)
 
-  -- The program that says 10 or 11 before a step that fits: it refuses, and by its counts it took the steps ss, though the step after
+  -- The program that answers 10 or 11 too early: it refuses, and by its counts it took the steps ss, though the step after
   -- these is within the budget and the capacity.
   pub early-refusal-ruled-out : {phase : Phase} {w : Term} {ss : List Step} {s : Step} → Path pure Insertion (x .term) ss phase w
       → Within capacity (x .term ∷ nexts ss) → step pure phase w ≡ some s → length ss < settings .budget → size (s .next) ≤ capacity

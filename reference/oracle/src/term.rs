@@ -95,7 +95,7 @@ impl Term {
         1 + self.parts().map(|(_, part)| part.size()).sum::<usize>()
     }
 
-    /// A value (the paper's V): a variable, a function, a pair of values, an injection of a value.
+    /// A value (the paper's V): variables and functions; pairs and injections whose parts are values.
     /// Everything else is a computation (the paper's P).
     pub fn is_value(&self) -> bool {
         match self {
