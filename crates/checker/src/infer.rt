@@ -59,7 +59,7 @@ fn leaf(calls: &[u64], inputs: &[u64], stack: &[u64], depth: usize, w: u64) -> I
 }
 
 // how a part starts: its type or the lack of one if it has no parts itself, or else a node to be opened
-pub enum PartStart {
+enum PartStart {
     Has(u64),
     Fails,
     Node,

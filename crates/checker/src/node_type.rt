@@ -18,7 +18,7 @@ use words::fields::ty;
 use words::shape::shape_of;
 
 // the two parts of a type, if it is of the kind that is asked for
-pub enum Components {
+enum Components {
     Of(u64, u64),
     Missing,
 }

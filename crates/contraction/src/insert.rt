@@ -8,7 +8,7 @@ use words::shape::binders;
 use words::shape::part_count;
 
 // words read of a part, and words written
-pub struct Moved {
+struct Moved {
     pub read: usize,
     pub wrote: usize,
 }
