@@ -24,12 +24,16 @@ reducedTo A (reached left u counts) = record { answer = record { refusal = 0; ty
 
 -- what a check comes to: refused by its number with zero counts, or reduced; `pure` says what may be dropped
 unfoldable pub checkedTo : (Term → Bool) → ℕ → Settings → Verdict TypedTerm → Normalized
-checkedTo pure capacity settings (refused n) = record { answer = record { refusal = n; ty = 0; length = 0; counts = zeroCounts }; words = [] }
+checkedTo pure capacity settings (refused n) = record {
+  answer = record { refusal = n; ty = 0; length = 0; counts = zeroCounts };
+  words = [];
+}
 checkedTo pure capacity settings (accepted x) = reducedTo (x .type) (reduce pure capacity settings (x .term))
 
 -- normalization (paper 01: flattening) within a capacity
 unfoldable pub normalizeWithin : ℕ → Settings → Tables → List ℕ → Normalized
-normalizeWithin capacity settings tables words = checkedTo (mayDrop (tables .calls)) capacity settings (elaborate normalizeLimit tables words)
+normalizeWithin capacity settings tables words =
+    checkedTo (mayDrop (tables .calls)) capacity settings (elaborate normalizeLimit tables words)
 
 -- the largest capacity
 abbrev pub maxCapacity : ℕ

@@ -21,7 +21,7 @@ use Rattle.reduction.proofs.Path.{inserted, path-finished, path-fits}
 use Rattle.reduction.proofs.RunsHalt.{from, path-from, Halt, spent, full, over, halt-from, insertion-comes}
 
 module _ (pure : Term → Bool) (capacity : ℕ) where
-  -- where a reduction is refused: there is a step to take and no budget left; the next term is too long, and the budget is not used up; or the
+  -- where a reduction is refused: there is a step to take and no budget left; the next term is too long, and budget is left; or the
   -- first term is too long. The counts are those of the steps taken.
   pub data Refused (budget : ℕ) (t : Term) : ℕ → Counts → Type 0 where
     budget-spent : {phase : Phase} {w : Term} {ss : List Step} {s : Step} {counts : Counts} → Path pure Insertion t ss phase w

@@ -33,8 +33,8 @@ module _ (tables : Tables) where
     pub result′ : FunctionFree tables result
     pub calls : (A : ℕ) → CallType tables t A → FunctionFree tables A
 
-  -- a run's feed: for each input a value of its type; for each call that the term names, on arguments of their types, an answer of its result
-  -- type
+  -- a run's feed: for each input a value of its type; for each call that the term names, on arguments of their types, an answer of its
+  -- result type
   pub record Feed (t : Term) (ρ : Values) (answer : ℕ → Values → Value) : Type 0 where
     pub inputs : HaveTypes tables (tables .inputs) ρ
     pub answers : (k : ℕ) (s : Signature) → k ∈ callsIn t → signature tables k ≡ some s

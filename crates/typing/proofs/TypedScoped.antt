@@ -1,5 +1,5 @@
--- A term that has a type is in scope: a variable's type is looked up in the context, which grows by one under each binder. So check 9 refuses
--- whatever check 8 refuses.
+-- A term that has a type is in scope: a variable's type is looked up in the context, which grows by one under each binder. So check 9
+-- refuses whatever check 8 refuses.
 use mathlib.Core.Path.{_≡_, refl}
 use mathlib.Core.Bool.{true}
 use mathlib.Core.List.{List}

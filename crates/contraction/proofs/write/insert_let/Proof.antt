@@ -50,4 +50,5 @@ insert-let-spec =
     (λ c. search needs)
     (λ c.
     let w : tie.After-insert-node = search in
-    insert-writes (entry (copied w) .args .dst .now) (copied w .copy .kept .1 .1 .1 .0) (copied w .copy .ensures) (w .insert-node .ensures)))
+    insert-writes (entry (copied w) .args .dst .now) (copied w .copy .kept .1 .1 .1 .0) (copied w .copy .ensures)
+    (w .insert-node .ensures)))

@@ -10,7 +10,8 @@ tables s = let a = s .before .before .before .before .args in over (a .types .no
 
 pub is-normal-spec : {M : Type 1} → statement M
 is-normal-spec = tie.close
-    (tie.spec (λ c κs. search needs) (λ c. refused-tested (tables (c .before .before)) _ _ (c .before .check-within .ensures) (c .if1 .taken))
+    (tie.spec (λ c κs. search needs)
+    (λ c. refused-tested (tables (c .before .before)) _ _ (c .before .check-within .ensures) (c .if1 .taken))
     (λ c κs.
     let checked = c .before .check-within in (
       accepted-starts (tables (c .before .before)) _ _ (checked .ensures) (c .if1 .left),
