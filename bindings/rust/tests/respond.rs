@@ -1,8 +1,10 @@
-//! The call `respond` on the sample bundle, and on bundles that cannot be read.
+//! The call `respond` on two shipped examples, and on bundles that cannot be read.
 
 use flatten::respond;
 
 const SAMPLE: &[u8] = include_bytes!("../../../examples/sample.bundle");
+const SAMPLE_LISTING: &[u8] = include_bytes!("../../../examples/sample.listing");
+const REGISTER: &[u8] = include_bytes!("../../../examples/register.bundle");
 const README: &str = include_str!("../../../README.md");
 
 /// A listing as README.md shows it.
@@ -14,9 +16,14 @@ fn indented(listing: &str) -> String {
 }
 
 #[test]
-fn the_sample_is_listed_as_in_the_readme() {
-    let listing = String::from_utf8(respond(SAMPLE)).expect("a listing is ASCII");
-    assert!(listing.starts_with("ok 0 4 "));
+fn the_sample_is_listed_as_in_its_file() {
+    assert_eq!(respond(SAMPLE), SAMPLE_LISTING);
+}
+
+#[test]
+fn the_register_is_listed_as_in_the_readme() {
+    let listing = String::from_utf8(respond(REGISTER)).expect("a listing is ASCII");
+    assert!(listing.starts_with("ok 4 21 "));
     assert!(README.contains(&indented(&listing)), "{listing}");
 }
 
