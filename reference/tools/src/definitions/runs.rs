@@ -15,7 +15,7 @@ use Rattle.syntax.specs.Tables.{Tables, over, product, sum, components, Signatu
 use Rattle.syntax.specs.Term.{Term}
 use Rattle.syntax.specs.Decoding.{decode}
 use Rattle.semantics.specs.Value.{Value, Values, num, closure, tuple, left, right, empty, also, Trace}
-use Rattle.semantics.specs.Run.{Outcome, ended, stuck, run}
+use Rattle.semantics.specs.Run.{RunOutcome, ended, stuck, run}
 
 pub record Row : Type 0 where
   pub types : List ℕ
@@ -63,14 +63,14 @@ answerOf tables k vs = elim (signature tables k) [
 ]
 
 -- a run of a term that is there, with fuel for a thousand nodes one inside another
-unfoldable pub ran : Tables → Values → Option Term → Outcome Value
+unfoldable pub ran : Tables → Values → Option Term → RunOutcome Value
 ran tables ρ none = stuck
 ran tables ρ (some t) = run (answerOf tables) 1000 ρ t
 
-unfoldable pub computed : Row → Outcome Value
+unfoldable pub computed : Row → RunOutcome Value
 computed x = ran (over (x .types) (x .calls) (x .inputs)) (x .values) (decode (x .calls) (x .term))
 
-unfoldable pub expected : Row → Outcome Value
+unfoldable pub expected : Row → RunOutcome Value
 expected x = ended (x .answer) (x .trace)
 ";
 
