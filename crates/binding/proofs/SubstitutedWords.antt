@@ -113,8 +113,8 @@ module _ {calls body value old : List ℕ} {depth at : ℕ} {p new : List ℕ} {
   substitute-end z = record { told = λ t rest h v. trace-end substitution (valued calls value) g z t rest h v .1 }
 
 -- the depths before a part of the buffer that is lent stay
-lent-kept : (p ys : List ℕ) (a k j : ℕ) → a ≤ length p → j < a → getD (putMid a k p ys) j 0 ≡ getD p j 0
-lent-kept p ys a k j le l =
+kept-before-part : (p ys : List ℕ) (a k j : ℕ) → a ≤ length p → j < a → getD (putMid a k p ys) j 0 ≡ getD p j 0
+kept-before-part p ys a k j le l =
     let h : j < length (take a p) = omega (arith, l, length-take-le a p le) in
     List·getD-append (take a p) (ys ++ postOf a k p) 0 j h ∙ sym (List·getD-append (take a p) (drop a p) 0 j h)
     ∙ ap (λ (x : List ℕ). getD x j 0) (take-append-drop a p)
@@ -150,7 +150,7 @@ module _ {calls body value old : List ℕ} {depth at : ℕ} {p new : List ℕ} {
   unfolding partCount traverse underBy
   substitute-value ys new′ k r l ln s =
       trace-leaf substitution (valued calls value) g lt w under we ue (putMid owed k p ys) new′ r (at + o) (same-len-mid owed k p ys l)
-      (λ j c. lent-kept p ys owed k j (omega (arith, march-within calls body (g .going), g .spare)) (omega (arith, c))) ln
+      (λ j c. kept-before-part p ys owed k j (omega (arith, march-within calls body (g .going), g .spare)) (omega (arith, c))) ln
       (ap (partsOfKind (arity calls (numberOf w))) kind-is) refl λ t a b c v.
       is-variable (λ x. (new′ ≡ sets new (at + o) (encode (put substitution (valued calls value) v x under)))
       × (r ≡ size (put substitution (valued calls value) v x under))) t a b c (

@@ -23,7 +23,7 @@ use Rattle.words.specs.Reach.{outer, inner, outerCount}
 use Rattle.words.specs.Depths.{OpensParts}
 use Rattle.words.proofs.Joined.{none-left}
 use Rattle.words.proofs.Reach.{encode-binding}
-use Rattle.words.proofs.Stretches.{Writing, write-none, write-next, write-all, write-room}
+use Rattle.words.proofs.Stretches.{getD-behind, Writing, write-none, write-next, write-all, write-room}
 use Rattle.words.proofs.RowAtDepths.{Gathering, ahead, ahead-one, ahead-same, ahead-opened, Near, near-begin, near-next, opens-room}
 use Rattle.words.proofs.Rows.{Marching, Visit, march-from, march-end, visit, march-on}
 use Rattle.words.proofs.Rows.{one-starts, one-holds}
@@ -110,6 +110,12 @@ module _ {X A : Type 0} (kit : Kit X) (f : A → ℕ → X) where
     trace-end z t rest h a =
         let e = march-end calls words (g .going) z (arg t done) rest (one-holds h) in
         (omega (arith, e .0, size-arg t done, size-done), write-all (e .1 a) .0 ∙ ap (sets old at) (putAll-one a t d))
+
+    -- the words behind those written are as they were
+    pub trace-behind : (j : ℕ) → at + o ≤ j → getD new j 0 ≡ getD old j 0
+    trace-behind j le =
+        let w = g .going .stand _ _ (g .going .start .holds) .to-do (g .given) in
+        ap (λ (l : List ℕ). getD l j 0) (w .written) ∙ getD-behind old at (w .done) j (omega (arith, le, w .reach))
 
     -- what comes next has room
     next-room : (xs left : List ℕ) → Writing old new at o (putAll (g .given) (g .going .start .terms) d) (xs ++ left)

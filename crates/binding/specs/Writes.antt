@@ -10,7 +10,7 @@ use Rattle.syntax.specs.Words.{numberOf}
 use Rattle.syntax.specs.Term.{Term}
 use Rattle.syntax.specs.Encoding.{encode, size}
 use Rattle.syntax.specs.Substitution.{rename, substitute}
-use Rattle.syntax.specs.Under.{raiseAt, onlyAt}
+use Rattle.syntax.specs.Under.{raiseAt, lowerAt, onlyAt}
 use Rattle.words.specs.Fronts.{Holds, Starts, Whole}
 
 -- a term starts here, and fits into len words from `at` on
@@ -26,6 +26,10 @@ pub record WritesTerm (read : ℕ) (old new : List ℕ) (at : ℕ) (t y : Term) 
 -- the term at the front is written with its variables from `cut` on raised
 pub record Renames (calls src old new : List ℕ) (at cut by r : ℕ) : Type 0 where
   pub told : (t : Term) (rest : List ℕ) → Holds calls src t rest → WritesTerm r old new at t (rename t (raiseAt cut by))
+
+-- the term at the front was written over, with its variables past variable 0 lowered by one
+pub record Lowers (calls old new : List ℕ) : Type 0 where
+  pub told : (t : Term) (rest : List ℕ) → Holds calls old t rest → new ≡ sets old 0 (encode (rename t (lowerAt 0)))
 
 -- a body starts here, the other words are a value, the body with the value in it fits into len words from `at` on, and there is space for
 -- the depths of the parts of both

@@ -1,24 +1,13 @@
 // A part with a value substituted for a variable, written into a buffer.
-ghost use mathlib.Core.Path.{_≡_};
 ghost use Prim.Native.Nat.{_+_, _≤_};
 ghost use lib.ListN.{length};
 ghost use Rattle.words.specs.Fronts.{Whole};
-ghost use Rattle.binding.specs.Writes.{RoomFor, Substitutes, loweredWord, Raises};
+ghost use Rattle.binding.specs.Writes.{RoomFor, Substitutes, Raises};
+use crate::lower::lowered;
 use crate::rename::rename_into;
 use words::depths::open_parts;
 use words::fields::kind;
-use words::fields::number;
 use words::moves::copy;
-
-// a variable's word, lowered by one if it is that of one past `depth`
-fn lowered(w: u64, depth: u64) -> u64
-    ensures { λ r. ⌜ r ≡ loweredWord depth w ⌝ }
-{
-    if depth < number(w) {
-        return w - 1073741824;
-    }
-    w
-}
 
 // writes the value to dst from `at` on, its variables raised by `by`; answers its size
 fn put_value(

@@ -2,20 +2,17 @@
 use Prim.Native.Nat.{ℕ, _+_, _-_, _*_, _≤_}
 use native.Mathlib.Omega.{arith}
 use native.Mathlib.Nat.{mul-le-mul}
-use mathlib.Core.Path.{_≡_, sym, _∙_, ap, ap₂, subst}
+use mathlib.Core.Path.{_≡_, refl, sym, _∙_, ap, ap₂}
 use mathlib.Core.List.{List, _++_}
-use lib.Dec.{eqb→eq}
 use Rattle.syntax.specs.Term.{Term, Terms, var, lam, bind, pair, inl, inr, case, done, arg, node}
 use Rattle.syntax.specs.Encoding.{encodeAll, size}
 use Rattle.syntax.specs.Substitution.{_⟦_⟧}
 use Rattle.syntax.specs.Values.{uses}
 use Rattle.syntax.proofs.Sizes.{size-var, size-lam, size-app, size-bind, size-pair, size-fst, size-snd, size-inl, size-inr, size-case}
-use Rattle.syntax.proofs.Sizes.{size-rename, size-substitute}
+use Rattle.syntax.proofs.Sizes.{size-substitute}
 use Rattle.reduction.specs.MayDrop.{mayDrop}
-use Rattle.reduction.specs.Rules.{lower}
 use Rattle.reduction.specs.declared.Rule.the-variants.{LetOfLet, LetOfCase, Apply, First, Second, LeftCase, RightCase, LetValue, Drop}
 use Rattle.reduction.proofs.Fires.{Fires, f-let, f-case, f-apply, f-first, f-second, f-left, f-right, f-value, f-drop}
-use Rattle.reduction.proofs.DropSubstitutes.{rename-lower}
 use Rattle.reduction.proofs.NextSize.{size-letOfLet, size-letOfCase}
 use Rattle.words.specs.Joined.{joined}
 use Rattle.words.specs.Fronts.{Holds, from}
@@ -27,7 +24,7 @@ use Rattle.words.proofs.PartsAt.{PartsAt, parts-of, parts-open, part-here, part
 use Rattle.binding.proofs.UsesByNode.{counts-sized}
 use Rattle.contraction.specs.declared.plan.Plan.the-variants.{Substitute, Copy, MoveLet, MoveCase}
 use Rattle.contraction.specs.Sizes.{SizedTwo, SizedWith, BodyWith}
-use Rattle.contraction.specs.Plans.{PlanMakes, substitutes, copies, moves-let, moves-case, MeasuredAs, Measures}
+use Rattle.contraction.specs.Plans.{substitutes, copies, moves-let, moves-case, MeasuredAs, Measures, UncoversBody, Uncovers}
 use Rattle.contraction.proofs.RedexRows.{fired}
 
 pub product-small : (u n : ℕ) → u ≤ 8192 → n ≤ 8192 → u * n ≤ 67108864
@@ -113,26 +110,27 @@ module _ {calls words : List ℕ} where
         let two = two-held s (parts-of calls words h) in
         put-into h (two .second) (two .first) (two .first-size) f (let-size two) (omega (arith, two .second-size))
 
-    -- dropping an unused variable is substituting anything for it
-    dropped : {x y : Term} {rest : List ℕ} → Holds calls words x rest → Fires (mayDrop calls) Drop x y
-        → MeasuredAs calls words x y (record { plan = Substitute (1 + n) 1 n; read = 1 + n + m; wrote = m })
-    unfolding node
-    dropped h (f-drop {e = v} {b = b} p q z) =
-        let two = two-held s (parts-of calls words h) in
-        let e = let-size two in
-        record {
-          read-is = e;
-          wrote-is = two .second-size ∙ sym (size-rename b lower);
-          makes = subst (λ (y : Term). PlanMakes calls words (Substitute (1 + n) 1 n) y) (sym (rename-lower b v (eqb→eq (uses b 0) 0 z)))
-              (substitutes (two .second) (two .first) (two .first-size) (omega (arith, e, two .second-size, fits h)));
-        }
-
     pub value-measures : {w : ℕ} → SizedWith calls (from words (1 + n)) n w
         → Measures LetValue calls words (record { plan = Substitute (1 + n) 1 n; read = 1 + n + m; wrote = w })
     value-measures f = record { told = λ x y rest h e. bound-value h (fired LetValue x y e) f }
 
-    pub drop-measures : Measures Drop calls words (record { plan = Substitute (1 + n) 1 n; read = 1 + n + m; wrote = m })
-    drop-measures = record { told = λ x y rest h e. dropped h (fired Drop x y e) }
+  -- a let that is dropped: behind its word and its bound part stands the body
+  uncovered : {x y : Term} {rest : List ℕ} {n : ℕ} → Holds calls words x rest → Fires (mayDrop calls) Drop x y
+      → Sized calls (from words 1) n → UncoversBody calls words x y (1 + n)
+  unfolding node
+  uncovered {n = n} h (f-drop {e = v} {b = b} p q z) s =
+      let at = parts-of calls words h in
+      let e = s .told _ _ (part-here calls words at) in
+      record {
+        body = b;
+        rest = _;
+        holds = part-here calls words (parts-past calls words at n e);
+        size-is = omega (arith, size-bind v b, e);
+        becomes = refl;
+      }
+
+  pub drop-uncovers : {n : ℕ} → Sized calls (from words 1) n → Uncovers Drop calls words (1 + n)
+  drop-uncovers s = record { told = λ x y rest h e. uncovered h (fired Drop x y e) s }
 
   -- a case on an injection: the value, then the branches
   module _ {n m k w : ℕ} (s : SizedTwo calls words 2 n m) (d : Sized calls (from words (2 + n + m)) k) where

@@ -12,12 +12,14 @@ use Rattle.syntax.specs.Encoding.{wordOf, size}
 use Rattle.syntax.specs.Substitution.{rename, weakenBody, _⟦_⟧}
 use Rattle.syntax.specs.Under.{raiseAt}
 use Rattle.reduction.specs.MayDrop.{mayDrop}
-use Rattle.reduction.specs.Rules.{fire}
+use Rattle.reduction.specs.Rules.{lower, fire}
 use Rattle.reduction.specs.declared.Rule.{Rule}
 use Rattle.words.specs.Fronts.{Holds, Starts, from}
 use Rattle.contraction.specs.declared.plan.Plan.{Plan}
 use Rattle.contraction.specs.declared.plan.Plan.the-variants.{Substitute, Copy, MoveLet, MoveCase, Insert}
 use Rattle.contraction.specs.declared.plan.Measured.{Measured}
+use Rattle.contraction.specs.declared.plan.Contraction.{Contraction}
+use Rattle.contraction.specs.declared.plan.Contraction.the-variants.{Rewrite, Lower}
 
 -- a part under b binders of a node that moves under a new binder: the part moved too, or the new variable for it
 abbrev pub insertPart : Bool → ℕ → Term → Term
@@ -77,3 +79,20 @@ pub record StartsRedex (rule : Rule) (calls words : List ℕ) : Type 0 where
 -- for whatever redex of the rule is at the front
 pub record Measures (rule : Rule) (calls words : List ℕ) (r : Measured) : Type 0 where
   pub told : (x y : Term) (rest : List ℕ) → Holds calls words x rest → fire (mayDrop calls) rule x ≡ some y → MeasuredAs calls words x y r
+
+-- behind the first n words of a node x stands the rest of it, a body, and the node becomes that body, lowered
+pub record UncoversBody (calls words : List ℕ) (x y : Term) (n : ℕ) : Type 0 where
+  pub body : Term
+  pub rest : List ℕ
+  pub holds : Holds calls (from words n) body rest
+  pub size-is : size x ≡ n + size body
+  pub becomes : y ≡ rename body lower
+
+-- for whatever redex of the rule is at the front
+pub record Uncovers (rule : Rule) (calls words : List ℕ) (n : ℕ) : Type 0 where
+  pub told : (x y : Term) (rest : List ℕ) → Holds calls words x rest → fire (mayDrop calls) rule x ≡ some y → UncoversBody calls words x y n
+
+-- what is done with the redex makes of it what the rule does
+pub data Contracts (rule : Rule) (calls words : List ℕ) : Contraction → Type 0 where
+  rewrites : {m : Measured} → Measures rule calls words m → Contracts rule calls words (Rewrite m)
+  lowers : {n : ℕ} → Uncovers rule calls words n → Contracts rule calls words (Lower n)

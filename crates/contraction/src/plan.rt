@@ -1,9 +1,9 @@
-// How many words a redex has, how many it becomes, and how these are written.
+// How many words a redex has, how many it becomes, and how these are written; of a drop, how many words go.
 ghost use Prim.Native.Nat.{_≤_};
 ghost use lib.ListN.{length};
 ghost use Rattle.reduction.specs.declared.Rule.the-variants.{LetInsertion, LetOfLet, LetOfCase, Apply, First, Second, LeftCase, RightCase};
 ghost use Rattle.reduction.specs.declared.Rule.the-variants.{LetValue, Drop};
-ghost use Rattle.contraction.specs.Plans.{StartsRedex, Measures};
+ghost use Rattle.contraction.specs.Plans.{StartsRedex, Measures, Uncovers, Contracts};
 use crate::sizes::body_with;
 use crate::sizes::size_from;
 use crate::sizes::substituted;
@@ -31,6 +31,13 @@ pub struct Measured {
     pub plan: Plan,
     pub read: usize,
     pub wrote: usize,
+}
+
+// what is done with a redex: it is rewritten as measured; or its first words go, so many, and the body behind them stays where it is, its
+// variables lowered
+pub enum Contraction {
+    Rewrite(Measured),
+    Lower(usize),
 }
 
 // apply: the body stands at 2, the value behind it; the body comes first, so its uses are counted for every value
@@ -63,18 +70,12 @@ fn let_value(calls: &[u64], t: &[u64], pending: &mut [u64]) -> Measured
     }
 }
 
-// drop: as for let value; the variable is not used, so the body stays as long as it is
-fn drop_let(calls: &[u64], t: &[u64]) -> Measured
+// drop: the let's word goes, and the bound part, which stands at 1
+fn drop_let(calls: &[u64], t: &[u64]) -> usize
     requires { ⌜ StartsRedex Drop (now calls) (now t) × (length (now t) ≤ 8192) ⌝ }
-    ensures { λ r. ⌜ Measures Drop (now (calls .entry)) (now (t .entry)) r ⌝ }
+    ensures { λ r. ⌜ Uncovers Drop (now (calls .entry)) (now (t .entry)) r ⌝ }
 {
-    let parts = two_sizes(calls, t, 1);
-    let start = 1 + parts.first;
-    Measured {
-        plan: Plan::Substitute(start, 1, parts.first),
-        read: start + parts.second,
-        wrote: parts.second,
-    }
+    1 + size_from(calls, t, 1)
 }
 
 // left case: the value stands at 2, then the branches
@@ -188,21 +189,21 @@ fn let_insertion(calls: &[u64], t: &[u64]) -> Measured
     }
 }
 
-// a redex of a rule: how many words it has, how many it becomes, and how these are written
-pub fn measure(rule: Rule, calls: &[u64], t: &[u64], pending: &mut [u64]) -> Measured
+// a redex of a rule: what is done with it
+pub fn measure(rule: Rule, calls: &[u64], t: &[u64], pending: &mut [u64]) -> Contraction
     requires { ⌜ StartsRedex rule (now calls) (now t) × (length (now t) ≤ 8192) × (8194 ≤ length (now pending)) ⌝ }
-    ensures { λ r. ⌜ Measures rule (now (calls .entry)) (now (t .entry)) r ⌝ }
+    ensures { λ r. ⌜ Contracts rule (now (calls .entry)) (now (t .entry)) r ⌝ }
 {
     match rule {
-        Rule::LetInsertion => let_insertion(calls, t),
-        Rule::LetOfLet => let_of_let(calls, t),
-        Rule::LetOfCase => let_of_case(calls, t),
-        Rule::Apply => apply(calls, t, pending),
-        Rule::First => first(calls, t),
-        Rule::Second => second(calls, t),
-        Rule::LeftCase => left_case(calls, t, pending),
-        Rule::RightCase => right_case(calls, t, pending),
-        Rule::LetValue => let_value(calls, t, pending),
-        Rule::Drop => drop_let(calls, t),
+        Rule::LetInsertion => Contraction::Rewrite(let_insertion(calls, t)),
+        Rule::LetOfLet => Contraction::Rewrite(let_of_let(calls, t)),
+        Rule::LetOfCase => Contraction::Rewrite(let_of_case(calls, t)),
+        Rule::Apply => Contraction::Rewrite(apply(calls, t, pending)),
+        Rule::First => Contraction::Rewrite(first(calls, t)),
+        Rule::Second => Contraction::Rewrite(second(calls, t)),
+        Rule::LeftCase => Contraction::Rewrite(left_case(calls, t, pending)),
+        Rule::RightCase => Contraction::Rewrite(right_case(calls, t, pending)),
+        Rule::LetValue => Contraction::Rewrite(let_value(calls, t, pending)),
+        Rule::Drop => Contraction::Lower(drop_let(calls, t)),
     }
 }

@@ -1,4 +1,5 @@
 pub mod GapMoved
+mod LoweredBody
 mod RewrittenRedex
 mod InPlace
 mod TurnIsStep

@@ -2,6 +2,8 @@
 ghost use Prim.Native.Nat.{_≤_};
 ghost use lib.ListN.{length as lengthOf};
 ghost use Rattle.step.specs.Rewrites.{Rewritable, RewritesRedex};
+use binding::lower::lower_part;
+use contraction::plan::Contraction;
 use contraction::plan::measure;
 use contraction::write::write;
 use reduction::Rule;
@@ -13,8 +15,9 @@ pub enum Rewritten {
     Next(usize),
 }
 
-// what the redex becomes has room in its own place and the gap before it, or the next term is longer than the buffer; that is
-// known before a word is written. The words before the gap and behind the redex are not touched.
+// a dropped let and what it binds become part of the gap, and the body stays where it is. Of any other rule, what the redex becomes has room
+// in its own place and the gap before it, or the next term is longer than the buffer; that is known before a word is written. The words
+// before the gap and behind the redex are not touched.
 pub fn rewrite(
     rule: Rule,
     calls: &[u64],
@@ -27,15 +30,24 @@ pub fn rewrite(
     requires { ⌜ Rewritable rule (now calls) (now current) start end (now second) × (8194 ≤ lengthOf (now pending)) ⌝ }
     ensures { λ r. ⌜ RewritesRedex rule (now (calls .entry)) (now (current .entry)) start end (now (current .exit)) r ⌝ }
 {
-    let m = measure(rule, calls, &current[end..], pending);
-    let plan = m.plan;
-    let wrote = m.wrote;
-    let behind = end + m.read;
-    if behind - start < wrote {
-        return Rewritten::Full;
+    let contraction = measure(rule, calls, &current[end..], pending);
+    match contraction {
+        Contraction::Lower(gone) => {
+            let body = end + gone;
+            lower_part(calls, &mut current[body..], pending);
+            Rewritten::Next(body)
+        }
+        Contraction::Rewrite(m) => {
+            let plan = m.plan;
+            let wrote = m.wrote;
+            let behind = end + m.read;
+            if behind - start < wrote {
+                return Rewritten::Full;
+            }
+            write(plan, calls, &current[end..], second, wrote, pending);
+            let next = behind - wrote;
+            copy(second, 0, wrote, current, next);
+            Rewritten::Next(next)
+        }
     }
-    write(plan, calls, &current[end..], second, wrote, pending);
-    let next = behind - wrote;
-    copy(second, 0, wrote, current, next);
-    Rewritten::Next(next)
 }

@@ -5,7 +5,7 @@ use Prim.Native.Nat.{ℕ, zero, suc, _+_, _-_, _≤_, _<_}
 use native.Mathlib.Omega.{arith}
 use Rattle.syntax.specs.Term.{Term, var}
 use Rattle.syntax.specs.Substitution.{Kit, under, traverse, renaming, rename, weaken, weakenBody}
-use Rattle.syntax.specs.Under.{underBy, raiseAt, onlyAt}
+use Rattle.syntax.specs.Under.{underBy, raiseAt, lowerAt, onlyAt}
 use Rattle.syntax.proofs.Algebra.{rename-id, rename-rename}
 
 module _ {X : Type 0} (kit : Kit X) where
@@ -26,6 +26,18 @@ unfolding underBy
 raiseAt-above zero by n h = refl
 raiseAt-above (suc c) by zero h = absurd (omega (arith, h))
 raiseAt-above (suc c) by (suc n) h = omega (arith, raiseAt-above c by n (omega (arith, h)))
+
+pub lowerAt-low : (d n : ℕ) → n ≤ d → lowerAt d n ≡ n
+unfolding underBy
+lowerAt-low zero n h = omega (arith, h)
+lowerAt-low (suc d) zero h = refl
+lowerAt-low (suc d) (suc n) h = ap suc (lowerAt-low d n (omega (arith, h)))
+
+pub lowerAt-above : (d n : ℕ) → d < n → lowerAt d n ≡ n - 1
+unfolding underBy
+lowerAt-above zero n h = refl
+lowerAt-above (suc d) zero h = absurd (omega (arith, h))
+lowerAt-above (suc d) (suc n) h = omega (arith, lowerAt-above d n (omega (arith, h)), h)
 
 -- the renamings of the rules
 pub weaken-raiseAt : (t : Term) → weaken t ≡ rename t (raiseAt 0 1)

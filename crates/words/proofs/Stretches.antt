@@ -4,13 +4,18 @@ use native.Mathlib.Omega.{arith}
 use native.Mathlib.Nat.{add-zero, add-suc, suc-add}
 use mathlib.Core.Path.{_≡_, refl, sym, _∙_, ap, subst}
 use mathlib.Core.List.{List, [], _∷_, _++_, append-assoc, append-nil}
-use lib.ListN.{length, set, length-append}
-use lib.Seq.{sets}
+use lib.ListN.{length, getD, set, length-append}
+use lib.Seq.{sets, getD-set-other}
 
 -- two stretches in a row
 pub sets-append : (l : List ℕ) (i : ℕ) (xs ys : List ℕ) → sets l i (xs ++ ys) ≡ sets (sets l i xs) (i + length xs) ys
 sets-append l i [] ys = rw add-zero
 sets-append l i (x ∷ xs) ys = rw (add-suc i (length xs), ← suc-add i (length xs)) (sets-append (set l i x) (suc i) xs ys)
+
+-- what is behind a stretch stays
+pub getD-behind : (l : List ℕ) (i : ℕ) (xs : List ℕ) (j : ℕ) → i + length xs ≤ j → getD (sets l i xs) j 0 ≡ getD l j 0
+getD-behind l i [] j h = refl
+getD-behind l i (x ∷ xs) j h = getD-behind (set l i x) (suc i) xs j (omega (arith, h)) ∙ getD-set-other l i j x 0 (λ e. omega (arith, e, h))
 
 -- o words of the whole are written from `at` on, and `left` is still to be written
 pub record Writing (old new : List ℕ) (at o : ℕ) (whole left : List ℕ) : Type 0 where

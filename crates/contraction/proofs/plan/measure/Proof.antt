@@ -1,11 +1,11 @@
--- Each rule has its measure.
+-- Each rule has its measure, and a drop the words that go.
 --
 -- Why it is right: a redex of the rule is a redex of the rule that the match names (`redex`), and what is measured of that one holds of
--- the rule (`measures-as`).
+-- the rule (`contracts-as`).
 use mathlib.Core.Path.{_≡_}
 use Rattle.reduction.specs.declared.Rule.{Rule}
-use Rattle.contraction.specs.Plans.{StartsRedex}
-use Rattle.contraction.proofs.SameCase.{redex-as, measures-as}
+use Rattle.contraction.specs.Plans.{StartsRedex, rewrites, lowers}
+use Rattle.contraction.proofs.SameCase.{redex-as, contracts-as}
 use borrow.Author.Needs.{needs}
 use Rattle.contraction.proofs.plan.measure.Statement.{statement}
 use Rattle.contraction.proofs.plan.measure.Tie as tie
@@ -37,29 +37,29 @@ measure-spec =
     (λ c κs. let s : tie.Start = search in (redex s (c .before .enum-told9 .given .1), s .pre .1, s .pre .2))
     (λ c. search needs)
     (λ c κs. let s : tie.Start = search in (redex s (c .enum-told10 .given .1), s .pre .1))
-    (λ c. measures-as (c .before .enum-told .given .1) (c .let-insertion .ensures))
-    (λ c. measures-as (c .before .enum-told2 .given .1) (c .let-of-let .ensures))
-    (λ c. measures-as (c .before .enum-told3 .given .1) (c .let-of-case .ensures))
+    (λ c. contracts-as (c .before .enum-told .given .1) (rewrites (c .let-insertion .ensures)))
+    (λ c. contracts-as (c .before .enum-told2 .given .1) (rewrites (c .let-of-let .ensures)))
+    (λ c. contracts-as (c .before .enum-told3 .given .1) (rewrites (c .let-of-case .ensures)))
     (λ c. search needs)
     (λ c.
     let p : tie.After-enum-told4 = search in
     let m : tie.After-apply = search in
-    measures-as (p .enum-told4 .given .1) (m .apply .ensures))
-    (λ c. measures-as (c .before .enum-told5 .given .1) (c .first .ensures))
-    (λ c. measures-as (c .before .enum-told6 .given .1) (c .second .ensures))
+    contracts-as (p .enum-told4 .given .1) (rewrites (m .apply .ensures)))
+    (λ c. contracts-as (c .before .enum-told5 .given .1) (rewrites (c .first .ensures)))
+    (λ c. contracts-as (c .before .enum-told6 .given .1) (rewrites (c .second .ensures)))
     (λ c. search needs)
     (λ c.
     let p : tie.After-enum-told7 = search in
     let m : tie.After-left-case = search in
-    measures-as (p .enum-told7 .given .1) (m .left-case .ensures))
+    contracts-as (p .enum-told7 .given .1) (rewrites (m .left-case .ensures)))
     (λ c. search needs)
     (λ c.
     let p : tie.After-enum-told8 = search in
     let m : tie.After-right-case = search in
-    measures-as (p .enum-told8 .given .1) (m .right-case .ensures))
+    contracts-as (p .enum-told8 .given .1) (rewrites (m .right-case .ensures)))
     (λ c. search needs)
     (λ c.
     let p : tie.After-enum-told9 = search in
     let m : tie.After-let-value = search in
-    measures-as (p .enum-told9 .given .1) (m .let-value .ensures))
-    (λ c. measures-as (c .before .enum-told10 .given .1) (c .drop-let .ensures)))
+    contracts-as (p .enum-told9 .given .1) (rewrites (m .let-value .ensures)))
+    (λ c. contracts-as (c .before .enum-told10 .given .1) (lowers (c .drop-let .ensures))))

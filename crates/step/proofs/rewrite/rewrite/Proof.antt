@@ -9,22 +9,37 @@ use mathlib.Core.Path.{refl}
 use lib.ListN.{length}
 use Rattle.words.specs.Fronts.{from}
 use Rattle.words.proofs.Traversal.{from-length}
-use Rattle.contraction.specs.Plans.{StartsRedex}
+use Rattle.contraction.specs.Plans.{StartsRedex, Measures, Uncovers}
 use Rattle.contraction.specs.Writers.{SizedPlanRoom}
-use Rattle.step.proofs.InPlace.{redex-starts, read-inside, wrote-small, plan-fits, rewrites-full, rewrites-next}
+use Rattle.contraction.specs.declared.plan.Measured.{Measured}
+use Rattle.step.proofs.InPlace.{redex-starts, contracts-rewrite, contracts-lower, read-inside, wrote-small, plan-fits, rewrites-full, rewrites-next}
+use Rattle.step.proofs.InPlace.{body-inside, body-starts, rewrites-lowered}
 use borrow.Author.Needs.{needs}
 use Rattle.step.proofs.rewrite.rewrite.Statement.{statement}
 use Rattle.step.proofs.rewrite.rewrite.Tie as tie
 
--- where the redex is measured, where it fits, where it is written, and the way back from each to the one above it
+-- where the redex is measured, where it is dropped, where it is to be rewritten, where what it becomes fits and where that is written; and
+-- the way back from each to the one above it
+abbrev Dropping : Type 0
+Dropping = tie.After-contraction
+
+abbrev Rewriting : Type 0
+Rewriting = tie.After-contraction2
+
 abbrev Fits : Type 0
 Fits = tie.Else1
 
 abbrev entry : tie.After-measure → tie.Start
 entry c = c .before .before .before .before .before .before .before .before
 
-abbrev measured : Fits → tie.After-measure
+abbrev measured-drop : Dropping → tie.After-measure
+measured-drop c = c .before .before .before .before
+
+abbrev measured : Rewriting → tie.After-measure
 measured c = c .before .before .before .before
+
+abbrev rewriting : Fits → Rewriting
+rewriting c = c .before .before .before
 
 abbrev fits : tie.After-write → Fits
 fits c = c .before .before .before .before .before
@@ -35,28 +50,57 @@ starts c = redex-starts (c .pre .0)
 short : (c : tie.Start) → length (from (c .args .current .now) (c .args .end)) ≤ 8192
 short c = omega (arith, from-length (c .args .current .now) (c .args .end), c .pre .0 .limit)
 
-behind-in : (c : tie.After-measure) → entry c .args .end + c .measure .result .read ≤ length (entry c .args .current .now)
-behind-in c = read-inside (c .measure .ensures) (entry c .pre .0)
+-- a drop: the body stands behind the words that go
+uncovers : (c : Dropping)
+    → (let s = entry (measured-drop c) .args in
+    Uncovers (s .rule) (s .calls .now) (from (s .current .now) (s .end)) (c .contraction .given .0 .0))
+uncovers c = contracts-lower (measured-drop c .measure .ensures) (c .contraction .given .1)
 
-behind-small : (c : tie.After-measure) → entry c .args .end + c .measure .result .read ≤ 8192
-behind-small c = omega (arith, behind-in c, entry c .pre .0 .limit)
+body-in : (c : Dropping)
+    → (let s = entry (measured-drop c) .args in s .end + c .contraction .given .0 .0 ≤ length (s .current .now))
+    × (length (entry (measured-drop c) .args .current .now) ≤ 8192)
+body-in c = let s = entry (measured-drop c) in (body-inside (uncovers c) (s .pre .0), s .pre .0 .limit)
+
+lowers-body : tie.Need-lower-part-requires
+lowers-body c κs =
+    let d : Dropping = search in
+    let m = measured-drop d in
+    let s = entry m in
+    let l = from-length (s .args .current .now) (s .args .end + d .contraction .given .0 .0) in (
+      body-starts (uncovers d) (s .pre .0),
+      omega (arith, l, s .pre .0 .limit),
+      omega (arith, l, s .pre .0 .limit, s .pre .1, m .measure .kept .1 .1 .1 .0),
+    )
+
+-- any other rule: what was measured
+abbrev sizes : Rewriting → Measured
+sizes c = c .contraction2 .given .0 .0
+
+measures : (c : Rewriting)
+    → (let s = entry (measured c) .args in Measures (s .rule) (s .calls .now) (from (s .current .now) (s .end)) (sizes c))
+measures c = contracts-rewrite (measured c .measure .ensures) (c .contraction2 .given .1)
+
+behind-in : (c : Rewriting) → entry (measured c) .args .end + sizes c .read ≤ length (entry (measured c) .args .current .now)
+behind-in c = read-inside (measures c) (entry (measured c) .pre .0)
+
+behind-small : (c : Rewriting) → entry (measured c) .args .end + sizes c .read ≤ 8192
+behind-small c = omega (arith, behind-in c, entry (measured c) .pre .0 .limit)
 
 -- the next term is not too long
 room : (c : Fits)
-    → (let m = measured c in
-    let r = m .measure .result in
-    r .wrote ≤ entry m .args .end + r .read - entry m .args .start)
+    → (let m = rewriting c in
+    let s = entry (measured m) .args in
+    sizes m .wrote ≤ s .end + sizes m .read - s .start)
 room c = omega (arith, c .if1 .left)
 
 plan-room : (c : Fits)
-    → (let m = measured c in
-    let s = entry m .args in
-    let r = m .measure .result in
-    SizedPlanRoom (s .calls .now) (from (s .current .now) (s .end)) (r .plan) (length (s .second .now)) (r .wrote))
-plan-room c = let m = measured c in plan-fits (m .measure .ensures) (entry m .pre .0) refl (room c)
+    → (let m = rewriting c in
+    let s = entry (measured m) .args in
+    SizedPlanRoom (s .calls .now) (from (s .current .now) (s .end)) (sizes m .plan) (length (s .second .now)) (sizes m .wrote))
+plan-room c = let m = rewriting c in plan-fits (measures m) (entry (measured m) .pre .0) refl (room c)
 
-wrote-in : (c : Fits) → measured c .measure .result .wrote ≤ length (entry (measured c) .args .current .now)
-wrote-in c = let m = measured c in wrote-small (m .measure .ensures) (entry m .pre .0) (room c)
+wrote-in : (c : Fits) → sizes (rewriting c) .wrote ≤ length (entry (measured (rewriting c)) .args .current .now)
+wrote-in c = let m = rewriting c in wrote-small (measures m) (entry (measured m) .pre .0) (room c)
 
 pub rewrite-spec : {M : Type 1} → statement M
 rewrite-spec =
@@ -67,28 +111,42 @@ rewrite-spec =
     (λ c. search needs)
     (λ c. search needs)
     (λ c κs. let s : tie.Start = search in (starts s, short s, s .pre .1))
+    (λ c. search needs)
+    (λ c. omega (arith, body-in (search)))
+    (λ c. omega (arith, body-in (search)))
+    (λ c. omega (arith, body-in (search)))
+    (λ c. omega (arith, body-in (search)))
+    (λ c. omega (arith, body-in (search)))
+    lowers-body
+    (λ c. search needs)
     (λ c. omega (arith, behind-small (search)))
     (λ c. search needs)
     (λ c. search needs)
     (λ c. search needs)
-    (λ c. let m : tie.After-measure = search in rewrites-full (m .measure .ensures) (c .if1 .taken))
+    (λ c. let m : Rewriting = search in rewrites-full (measures m) (c .if1 .taken))
     (λ c. search needs)
     (λ c. search needs)
     (λ c. search needs)
     (λ c. search needs)
     (λ c κs.
     let f : Fits = search in
-    let m = measured f in
+    let m = measured (rewriting f) in
     let s = entry m in
     (plan-room f, short s, omega (arith, s .pre .1, m .measure .kept .1 .1 .1 .0)))
     (λ c. search needs)
     (λ c κs.
     let w : tie.After-write = search in
     let f = fits w in
-    let s = entry (measured f) in (
+    let s = entry (measured (rewriting f)) in (
       omega (arith, wrote-in f, s .pre .0 .scratch, w .write .kept .1 .1 .1 .0),
-      omega (arith, room f, behind-in (measured f)),
+      omega (arith, room f, behind-in (rewriting f)),
     ))
+    (λ c. search needs)
+    (λ c. search needs)
+    (λ c.
+    let d : Dropping = search in
+    let l : tie.After-lower-part = search in
+    rewrites-lowered (uncovers d) refl (l .lower-part .ensures) refl)
     (λ c. search needs)
     (λ c. search needs)
     (λ c. search needs)
@@ -96,7 +154,7 @@ rewrite-spec =
     let k : tie.After-copy = search in
     let w : tie.After-write = search in
     let f = fits w in
-    let m = measured f in
-    let s = entry m in
-    rewrites-next (m .measure .ensures) (s .args .second .now) (w .write .kept .1 .1 .1 .0) (s .pre .0 .scratch) (room f) refl
+    let m = rewriting f in
+    let s = entry (measured m) in
+    rewrites-next (measures m) (s .args .second .now) (w .write .kept .1 .1 .1 .0) (s .pre .0 .scratch) (room f) refl
     (w .write .ensures) (k .copy .ensures)))

@@ -3,8 +3,8 @@ use borrow.Author.Needs.{needs}
 use native.Mathlib.Omega.{arith}
 use borrow.Author.Tests.{lt-ltb, le-ltb}
 use Rattle.syntax.specs.Words.{numberOf}
-use Rattle.binding.proofs.substitute.lowered.Statement.{statement}
-use Rattle.binding.proofs.substitute.lowered.Tie as tie
+use Rattle.binding.proofs.lower.lowered.Statement.{statement}
+use Rattle.binding.proofs.lower.lowered.Tie as tie
 
 pub lowered-spec : {M : Type 1} → statement M
 lowered-spec =
