@@ -3,17 +3,17 @@ use Prim.Native.Nat.{ℕ}
 use mathlib.Core.Path.{_≡_, sym, subst}
 use mathlib.Core.List.{List}
 use Rattle.reduction.specs.declared.Rule.{Rule}
-use Rattle.contraction.specs.declared.plan.Contraction.{Contraction}
+use Rattle.contraction.specs.declared.plan.Action.{Action}
 use Rattle.contraction.specs.declared.plan.Plan.{Plan}
-use Rattle.contraction.specs.Plans.{StartsRedex, Contracts}
+use Rattle.contraction.specs.Plans.{StartsRedex, Acts}
 use Rattle.contraction.specs.Writers.{SizedPlanRoom, WritesPlan}
 
 module _ {calls words : List ℕ} where
   pub redex-as : {r r′ : Rule} → r ≡ r′ → StartsRedex r calls words → StartsRedex r′ calls words
   redex-as e s = subst (λ (q : Rule). StartsRedex q calls words) e s
 
-  pub contracts-as : {r r′ : Rule} {c : Contraction} → r ≡ r′ → Contracts r′ calls words c → Contracts r calls words c
-  contracts-as {c = c} e f = subst (λ (q : Rule). Contracts q calls words c) (sym e) f
+  pub acts-as : {r r′ : Rule} {c : Action} → r ≡ r′ → Acts r′ calls words c → Acts r calls words c
+  acts-as {c = c} e f = subst (λ (q : Rule). Acts q calls words c) (sym e) f
 
   pub plan-room-as : {p p′ : Plan} {len wrote : ℕ} → p ≡ p′ → SizedPlanRoom calls words p len wrote → SizedPlanRoom calls words p′ len wrote
   plan-room-as {len = len} {wrote = wrote} e r = subst (λ (q : Plan). SizedPlanRoom calls words q len wrote) e r

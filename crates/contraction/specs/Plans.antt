@@ -18,8 +18,8 @@ use Rattle.words.specs.Fronts.{Holds, Starts, from}
 use Rattle.contraction.specs.declared.plan.Plan.{Plan}
 use Rattle.contraction.specs.declared.plan.Plan.the-variants.{Substitute, Copy, MoveLet, MoveCase, Insert}
 use Rattle.contraction.specs.declared.plan.Measured.{Measured}
-use Rattle.contraction.specs.declared.plan.Contraction.{Contraction}
-use Rattle.contraction.specs.declared.plan.Contraction.the-variants.{Rewrite, Lower}
+use Rattle.contraction.specs.declared.plan.Action.{Action}
+use Rattle.contraction.specs.declared.plan.Action.the-variants.{Rewrite, Lower}
 
 -- a part under b binders of a node that moves under a new binder: the part moved too, or the new variable for it
 abbrev pub insertPart : Bool → ℕ → Term → Term
@@ -93,6 +93,6 @@ pub record Uncovers (rule : Rule) (calls words : List ℕ) (n : ℕ) : Type 0 wh
   pub told : (x y : Term) (rest : List ℕ) → Holds calls words x rest → fire (mayDrop calls) rule x ≡ some y → UncoversBody calls words x y n
 
 -- what is done with the redex makes of it what the rule does
-pub data Contracts (rule : Rule) (calls words : List ℕ) : Contraction → Type 0 where
-  rewrites : {m : Measured} → Measures rule calls words m → Contracts rule calls words (Rewrite m)
-  lowers : {n : ℕ} → Uncovers rule calls words n → Contracts rule calls words (Lower n)
+pub data Acts (rule : Rule) (calls words : List ℕ) : Action → Type 0 where
+  is-rewritten : {m : Measured} → Measures rule calls words m → Acts rule calls words (Rewrite m)
+  is-lowered : {n : ℕ} → Uncovers rule calls words n → Acts rule calls words (Lower n)

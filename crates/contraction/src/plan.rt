@@ -3,7 +3,7 @@ ghost use Prim.Native.Nat.{_≤_};
 ghost use lib.ListN.{length};
 ghost use Rattle.reduction.specs.declared.Rule.the-variants.{LetInsertion, LetOfLet, LetOfCase, Apply, First, Second, LeftCase, RightCase};
 ghost use Rattle.reduction.specs.declared.Rule.the-variants.{LetValue, Drop};
-ghost use Rattle.contraction.specs.Plans.{StartsRedex, Measures, Uncovers, Contracts};
+ghost use Rattle.contraction.specs.Plans.{StartsRedex, Measures, Uncovers, Acts};
 use crate::sizes::body_with;
 use crate::sizes::size_from;
 use crate::sizes::substituted;
@@ -35,7 +35,7 @@ pub struct Measured {
 
 // what is done with a redex: it is rewritten as measured; or its first words go, so many, and the body behind them stays where it is, its
 // variables lowered
-pub enum Contraction {
+pub enum Action {
     Rewrite(Measured),
     Lower(usize),
 }
@@ -190,20 +190,20 @@ fn let_insertion(calls: &[u64], t: &[u64]) -> Measured
 }
 
 // a redex of a rule: what is done with it
-pub fn measure(rule: Rule, calls: &[u64], t: &[u64], pending: &mut [u64]) -> Contraction
+pub fn measure(rule: Rule, calls: &[u64], t: &[u64], pending: &mut [u64]) -> Action
     requires { ⌜ StartsRedex rule (now calls) (now t) × (length (now t) ≤ 8192) × (8194 ≤ length (now pending)) ⌝ }
-    ensures { λ r. ⌜ Contracts rule (now (calls .entry)) (now (t .entry)) r ⌝ }
+    ensures { λ r. ⌜ Acts rule (now (calls .entry)) (now (t .entry)) r ⌝ }
 {
     match rule {
-        Rule::LetInsertion => Contraction::Rewrite(let_insertion(calls, t)),
-        Rule::LetOfLet => Contraction::Rewrite(let_of_let(calls, t)),
-        Rule::LetOfCase => Contraction::Rewrite(let_of_case(calls, t)),
-        Rule::Apply => Contraction::Rewrite(apply(calls, t, pending)),
-        Rule::First => Contraction::Rewrite(first(calls, t)),
-        Rule::Second => Contraction::Rewrite(second(calls, t)),
-        Rule::LeftCase => Contraction::Rewrite(left_case(calls, t, pending)),
-        Rule::RightCase => Contraction::Rewrite(right_case(calls, t, pending)),
-        Rule::LetValue => Contraction::Rewrite(let_value(calls, t, pending)),
-        Rule::Drop => Contraction::Lower(drop_let(calls, t)),
+        Rule::LetInsertion => Action::Rewrite(let_insertion(calls, t)),
+        Rule::LetOfLet => Action::Rewrite(let_of_let(calls, t)),
+        Rule::LetOfCase => Action::Rewrite(let_of_case(calls, t)),
+        Rule::Apply => Action::Rewrite(apply(calls, t, pending)),
+        Rule::First => Action::Rewrite(first(calls, t)),
+        Rule::Second => Action::Rewrite(second(calls, t)),
+        Rule::LeftCase => Action::Rewrite(left_case(calls, t, pending)),
+        Rule::RightCase => Action::Rewrite(right_case(calls, t, pending)),
+        Rule::LetValue => Action::Rewrite(let_value(calls, t, pending)),
+        Rule::Drop => Action::Lower(drop_let(calls, t)),
     }
 }

@@ -15,11 +15,11 @@ use Rattle.words.proofs.Traversal.{fits}
 use Rattle.binding.specs.Writes.{Lowers}
 use Rattle.reduction.specs.Rules.{lower}
 use Rattle.reduction.specs.declared.Rule.{Rule}
-use Rattle.contraction.specs.Plans.{MeasuredAs, StartsRedex, Measures, UncoversBody, Uncovers, Contracts, rewrites, lowers}
+use Rattle.contraction.specs.Plans.{MeasuredAs, StartsRedex, Measures, UncoversBody, Uncovers, Acts, is-rewritten, is-lowered}
 use Rattle.contraction.specs.Writers.{SizedPlanRoom, WritesPlan}
 use Rattle.contraction.specs.declared.plan.Measured.{Measured}
-use Rattle.contraction.specs.declared.plan.Contraction.{Contraction}
-use Rattle.contraction.specs.declared.plan.Contraction.the-variants.{Rewrite, Lower}
+use Rattle.contraction.specs.declared.plan.Action.{Action}
+use Rattle.contraction.specs.declared.plan.Action.the-variants.{Rewrite, Lower}
 use Rattle.step.specs.Rewrites.{RedexAt, Rewritable, too-long, there, RewritesRedex}
 use Rattle.step.specs.declared.rewrite.Rewritten.the-variants.{Full, Next}
 use Rattle.step.proofs.RewrittenRedex.{holds-behind, redex-inside, plugged-length, rewritten, written-front}
@@ -27,11 +27,11 @@ use Rattle.step.proofs.LoweredBody.{from-from, put-pasted, lowerAt-lowe
 
 module _ {rule : Rule} {calls words : List ℕ} where
   -- what is done with the redex
-  pub contracts-rewrite : {c : Contraction} {m : Measured} → Contracts rule calls words c → c ≡ Rewrite m → Measures rule calls words m
-  contracts-rewrite {m = m} d e = elim (subst (λ (x : Contraction). Contracts rule calls words x) e d) [ rewrites f ↦ f ]
+  pub acts-rewrite : {c : Action} {m : Measured} → Acts rule calls words c → c ≡ Rewrite m → Measures rule calls words m
+  acts-rewrite {m = m} d e = elim (subst (λ (x : Action). Acts rule calls words x) e d) [ is-rewritten f ↦ f ]
 
-  pub contracts-lower : {c : Contraction} {n : ℕ} → Contracts rule calls words c → c ≡ Lower n → Uncovers rule calls words n
-  contracts-lower {n = n} d e = elim (subst (λ (x : Contraction). Contracts rule calls words x) e d) [ lowers f ↦ f ]
+  pub acts-lower : {c : Action} {n : ℕ} → Acts rule calls words c → c ≡ Lower n → Uncovers rule calls words n
+  acts-lower {n = n} d e = elim (subst (λ (x : Action). Acts rule calls words x) e d) [ is-lowered f ↦ f ]
 
 module _ {rule : Rule} {calls words : List ℕ} {start end : ℕ} where
   pub redex-starts : {second : List ℕ} → Rewritable rule calls words start end second → StartsRedex rule calls (from words end)

@@ -3,7 +3,7 @@ ghost use Prim.Native.Nat.{_≤_};
 ghost use lib.ListN.{length as lengthOf};
 ghost use Rattle.step.specs.Rewrites.{Rewritable, RewritesRedex};
 use binding::lower::lower_part;
-use contraction::plan::Contraction;
+use contraction::plan::Action;
 use contraction::plan::measure;
 use contraction::write::write;
 use reduction::Rule;
@@ -30,14 +30,14 @@ pub fn rewrite(
     requires { ⌜ Rewritable rule (now calls) (now current) start end (now second) × (8194 ≤ lengthOf (now pending)) ⌝ }
     ensures { λ r. ⌜ RewritesRedex rule (now (calls .entry)) (now (current .entry)) start end (now (current .exit)) r ⌝ }
 {
-    let contraction = measure(rule, calls, &current[end..], pending);
-    match contraction {
-        Contraction::Lower(gone) => {
+    let action = measure(rule, calls, &current[end..], pending);
+    match action {
+        Action::Lower(gone) => {
             let body = end + gone;
             lower_part(calls, &mut current[body..], pending);
             Rewritten::Next(body)
         }
-        Contraction::Rewrite(m) => {
+        Action::Rewrite(m) => {
             let plan = m.plan;
             let wrote = m.wrote;
             let behind = end + m.read;

@@ -12,7 +12,7 @@ use Rattle.words.proofs.Traversal.{from-length}
 use Rattle.contraction.specs.Plans.{StartsRedex, Measures, Uncovers}
 use Rattle.contraction.specs.Writers.{SizedPlanRoom}
 use Rattle.contraction.specs.declared.plan.Measured.{Measured}
-use Rattle.step.proofs.InPlace.{redex-starts, contracts-rewrite, contracts-lower, read-inside, wrote-small, plan-fits, rewrites-full, rewrites-next}
+use Rattle.step.proofs.InPlace.{redex-starts, acts-rewrite, acts-lower, read-inside, wrote-small, plan-fits, rewrites-full, rewrites-next}
 use Rattle.step.proofs.InPlace.{body-inside, body-starts, rewrites-lowered}
 use borrow.Author.Needs.{needs}
 use Rattle.step.proofs.rewrite.rewrite.Statement.{statement}
@@ -21,10 +21,10 @@ use Rattle.step.proofs.rewrite.rewrite.Tie as tie
 -- where the redex is measured, where it is dropped, where it is to be rewritten, where what it becomes fits and where that is written; and
 -- the way back from each to the one above it
 abbrev Dropping : Type 0
-Dropping = tie.After-contraction
+Dropping = tie.After-action
 
 abbrev Rewriting : Type 0
-Rewriting = tie.After-contraction2
+Rewriting = tie.After-action2
 
 abbrev Fits : Type 0
 Fits = tie.Else1
@@ -53,11 +53,11 @@ short c = omega (arith, from-length (c .args .current .now) (c .args .end), c .p
 -- a drop: the body stands behind the words that go
 uncovers : (c : Dropping)
     → (let s = entry (measured-drop c) .args in
-    Uncovers (s .rule) (s .calls .now) (from (s .current .now) (s .end)) (c .contraction .given .0 .0))
-uncovers c = contracts-lower (measured-drop c .measure .ensures) (c .contraction .given .1)
+    Uncovers (s .rule) (s .calls .now) (from (s .current .now) (s .end)) (c .action .given .0 .0))
+uncovers c = acts-lower (measured-drop c .measure .ensures) (c .action .given .1)
 
 body-in : (c : Dropping)
-    → (let s = entry (measured-drop c) .args in s .end + c .contraction .given .0 .0 ≤ length (s .current .now))
+    → (let s = entry (measured-drop c) .args in s .end + c .action .given .0 .0 ≤ length (s .current .now))
     × (length (entry (measured-drop c) .args .current .now) ≤ 8192)
 body-in c = let s = entry (measured-drop c) in (body-inside (uncovers c) (s .pre .0), s .pre .0 .limit)
 
@@ -66,7 +66,7 @@ lowers-body c κs =
     let d : Dropping = search in
     let m = measured-drop d in
     let s = entry m in
-    let l = from-length (s .args .current .now) (s .args .end + d .contraction .given .0 .0) in (
+    let l = from-length (s .args .current .now) (s .args .end + d .action .given .0 .0) in (
       body-starts (uncovers d) (s .pre .0),
       omega (arith, l, s .pre .0 .limit),
       omega (arith, l, s .pre .0 .limit, s .pre .1, m .measure .kept .1 .1 .1 .0),
@@ -74,11 +74,11 @@ lowers-body c κs =
 
 -- any other rule: what was measured
 abbrev sizes : Rewriting → Measured
-sizes c = c .contraction2 .given .0 .0
+sizes c = c .action2 .given .0 .0
 
 measures : (c : Rewriting)
     → (let s = entry (measured c) .args in Measures (s .rule) (s .calls .now) (from (s .current .now) (s .end)) (sizes c))
-measures c = contracts-rewrite (measured c .measure .ensures) (c .contraction2 .given .1)
+measures c = acts-rewrite (measured c .measure .ensures) (c .action2 .given .1)
 
 behind-in : (c : Rewriting) → entry (measured c) .args .end + sizes c .read ≤ length (entry (measured c) .args .current .now)
 behind-in c = read-inside (measures c) (entry (measured c) .pre .0)
