@@ -17,7 +17,7 @@
 //! ```
 //!
 //! The calls use the stack of their thread, the more the deeper a term nests. The least that was
-//! enough for the deepest term: 1,036 KiB for `respond`, 780 KiB for `normalize` (tests/depth.rs).
+//! enough for the deepest term: 1,028 KiB for `respond`, 772 KiB for `normalize` (tests/depth.rs).
 //! A thread's default of 2 MiB is enough. A stack that is too small ends the process.
 
 mod normalize;

@@ -1,6 +1,5 @@
 // The public call `normalize`.
 ghost use mathlib.Core.Path.{_≡_};
-ghost use Prim.Native.Nat.{min};
 ghost use lib.ListN.{length as lengthOf};
 ghost use Rattle.syntax.specs.Tables.{over};
 ghost use Rattle.outcomes.specs.Contract.{Normalizes};
@@ -9,17 +8,9 @@ use crate::reduce::reduce;
 use checker::check::NORMALIZE_LIMIT;
 use checker::check::check_within;
 use outcomes::Answer;
+use words::lesser::lesser;
 use words::moves::clear;
 use words::moves::copy;
-
-fn smaller(a: usize, b: usize) -> usize
-    ensures { λ r. ⌜ r ≡ min a b ⌝ }
-{
-    if a < b {
-        return a;
-    }
-    b
-}
 
 // a refusal, with the counts of the steps taken
 fn refused(refusal: u32, counts: [u32; 10]) -> Answer
@@ -91,10 +82,8 @@ fn run(
     if refusal != 0 {
         return refused(refusal, none);
     }
-    let capacity = smaller(
-        smaller(output.len(), smaller(first.len(), second.len())),
-        8192,
-    );
+    let scratch = lesser(first.len() as u64, second.len() as u64);
+    let capacity = lesser(lesser(output.len() as u64, scratch), 8192) as usize;
     if capacity < term.len() {
         return refused(11, none);
     }

@@ -1,5 +1,5 @@
 -- The search of phase 3, one term further by a call or one variable.
-use Prim.Native.Nat.{ℕ, _+_, _-_, _*_, _^_, _≤_, _<_}
+use Prim.Native.Nat.{ℕ, _+_, _-_, _*_, _^_, _≤_, _<_, min}
 use native.Mathlib.Omega.{arith}
 use mathlib.Core.Path.{_≡_, refl, sym, _∙_, ap, subst}
 use mathlib.Core.List.{List}
@@ -19,7 +19,7 @@ use Rattle.words.proofs.Traversal.{from-length}
 use Rattle.syntax.proofs.ByKind.{by-kind}
 use Rattle.words.proofs.Rows.{Cut, Marching, march-term, march-on, visit}
 use Rattle.search.specs.Marks.{Marked}
-use Rattle.search.specs.Unused.{NoUnusedBefore, Least, Scans}
+use Rattle.search.specs.Unused.{NoUnusedBefore, Scans}
 use Rattle.search.specs.declared.unused.PartScan.{PartScan}
 use Rattle.search.proofs.MarkedUses.{uses-size}
 use Rattle.search.proofs.FirstByMarks.{passed-back, passed-next, passed-behind, passed-row, flat-mark}
@@ -60,7 +60,7 @@ module _ {calls words : List ℕ} {base depth : ℕ} {old cur : List ℕ} {owed 
 
   -- a whole term, by a call
   pub scan-part : (part : PartScan) (new : List ℕ) (least : ℕ) → Scans calls (from words at) (base + at) under cur new part
-      → Least first (part .first) least → length new ≡ length cur → State new (owed - 1) later under (at + part .end) fresh least
+      → least ≡ min first (part .first) → length new ≡ length cur → State new (owed - 1) later under (at + part .end) fresh least
   unfolding uses
   scan-part part new least a m le = record {
     len = le ∙ g .len;
@@ -114,12 +114,12 @@ module _ {calls words : List ℕ} {base depth : ℕ} {old cur : List ℕ} {owed 
               now = λ d l. omega (arith, f .now d l, a .told t rest h .1 .marks d l);
               around = f .around;
               passes = λ x lim b. passed-row at (part .end)
-                  (f .passes x lim (record { found = omega (arith, b .found, m .left); spine = b .spine; opened = b .opened }))
-                  (a .before x (omega (arith, b .found, m .right)) lim);
+                  (f .passes x lim (record { found = omega (arith, b .found, m); spine = b .spine; opened = b .opened }))
+                  (a .before x (omega (arith, b .found, m)) lim);
               bounds = λ x lim p.
                   let b = f .bounds x lim (passed-back at (omega arith) p) in
                   record {
-                    found = m .greatest x (b .found) (a .greatest x lim (passed-behind at (part .end) p));
+                    found = omega (arith, m, b .found, a .greatest x lim (passed-behind at (part .end) p));
                     spine = b .spine;
                     opened = b .opened;
                   };

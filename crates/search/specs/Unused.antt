@@ -56,12 +56,6 @@ pub record MarksBinder (calls words : List ℕ) (place r : ℕ) : Type 0 where
   pub small : r ≤ 65536
   pub told : (t : Term) (rest : List ℕ) → Holds calls words t rest → r ≡ openMark place t
 
--- the least of two numbers
-pub record Least (a b r : ℕ) : Type 0 where
-  pub left : r ≤ a
-  pub right : r ≤ b
-  pub greatest : (x : ℕ) → x ≤ a → x ≤ b → x ≤ r
-
 -- the least of a number and the marks of so many binders
 pub record LeastMark (used : List ℕ) (start end first r : ℕ) : Type 0 where
   pub first-least : r ≤ first

@@ -3,7 +3,7 @@ ghost use mathlib.Core.Path.{_≡_};
 ghost use Prim.Native.Nat.{_+_, _≤_};
 ghost use lib.ListN.{length};
 ghost use Rattle.words.specs.Fronts.{Starts};
-ghost use Rattle.search.specs.Unused.{hasLet, MarkSpace, MarksBinder, Least, LeastMark, Scans, FindsUnused};
+ghost use Rattle.search.specs.Unused.{hasLet, MarkSpace, MarksBinder, LeastMark, Scans, FindsUnused};
 use crate::marks::mark;
 use crate::value::value_kind;
 use crate::value::value_test;
@@ -11,6 +11,7 @@ use reduction::Found;
 use reduction::Rule;
 use words::fields::kind;
 use words::fields::number;
+use words::lesser::lesser;
 use words::shape::outer_count;
 use words::shape::part_count;
 
@@ -21,15 +22,6 @@ const NO_PLACE: u64 = 65536;
 struct PartScan {
     pub end: usize,
     pub first: u64,
-}
-
-fn lesser(a: u64, b: u64) -> u64
-    ensures { λ r. ⌜ Least a b r ⌝ }
-{
-    if a < b {
-        return a;
-    }
-    b
 }
 
 // the mark of the node's binder before any use: its place if it is a let that binds a computation

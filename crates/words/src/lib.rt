@@ -8,3 +8,4 @@ pub mod shape; // shape.rt: what a kind decides, by one match; the number of par
 pub mod ends; // ends.rt: where a part ends
 pub mod depths; // depths.rt: the depths of the parts still to come
 pub mod moves; // moves.rt: words copied, moved and cleared
+pub mod lesser; // lesser.rt: the lesser of two numbers

@@ -15,7 +15,7 @@ use Rattle.normalizer.proofs.normalize.run.Tie as tie
 abbrev entry : tie.After-check-within → tie.Start
 entry c = c .before .before .before .before .before .before .before .before
 
-abbrev checked : tie.After-smaller3 → tie.After-check-within
+abbrev checked : tie.After-lesser3 → tie.After-check-within
 checked c = c .before .before .before .before
 
 abbrev buffers : tie.Start → Buffers
@@ -28,18 +28,18 @@ refuses c =
     (c .refused .ensures)
 
 -- where the capacity is known
-accepted : (c : tie.After-smaller3)
+accepted : (c : tie.After-lesser3)
     → (let v = checked c in
     let s = entry v .args in
     AcceptedTerm (s .types .now) (s .calls .now) (s .inputs .now) (s .term .now) (buffers (entry v))
-    (v .check-within .result) (c .smaller3 .result))
+    (v .check-within .result) (c .lesser3 .result))
 accepted c =
     let e : tie.Else1 = search in
     record {
       checked-is = checked c .check-within .ensures;
       not-refused = e .if1 .left;
-      capacity-is = c .smaller3 .ensures ∙ ap (λ (x : ℕ). min x 8192)
-          (c .before .smaller2 .ensures ∙ ap (min _) (c .before .before .smaller .ensures));
+      capacity-is = c .lesser3 .ensures ∙ ap (λ (x : ℕ). min x 8192)
+          (c .before .lesser2 .ensures ∙ ap (min _) (c .before .before .lesser .ensures));
     }
 
 too-long : tie.Need-returns-2

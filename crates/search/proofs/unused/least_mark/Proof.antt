@@ -1,12 +1,12 @@
 -- The least of the marks looked at so far.
-use Prim.Native.Nat.{ℕ, _+_, _-_, _≤_, _<_}
+use Prim.Native.Nat.{ℕ, _+_, _-_, _≤_, _<_, min}
 use native.Mathlib.Omega.{arith}
 use native.Mathlib.Decide.{ℕ-discrete}
 use mathlib.Core.Path.{_≡_, sym, subst}
 use mathlib.Core.List.{List}
 use lib.ListN.{getD}
 use borrow.Author.Needs.{needs}
-use Rattle.search.specs.Unused.{Least, LeastMark}
+use Rattle.search.specs.Unused.{LeastMark}
 use Rattle.search.proofs.unused.least_mark.Statement.{statement}
 use Rattle.search.proofs.unused.least_mark.Tie as tie
 
@@ -33,22 +33,22 @@ module _ {used : List ℕ} {start end first : ℕ} where
     };
   }
 
-  next : {least d r : ℕ} → Sofar used start end first least d → d < end → Least least (getD used d 0) r
+  next : {least d r : ℕ} → Sofar used start end first least d → d < end → r ≡ min least (getD used d 0)
       → Sofar used start end first r (d + 1)
   next {least} {d} {r} s lt n = record {
     from = omega (arith, s .from);
     inside = omega (arith, lt);
     so-far = record {
-      first-least = omega (arith, n .left, s .so-far .first-least);
+      first-least = omega (arith, n, s .so-far .first-least);
       least = λ e l m. go e l m (ℕ-discrete e d);
       greatest = λ x l h.
-          n .greatest x (s .so-far .greatest x l λ e b m. h e b (omega (arith, m))) (h d (s .from) (omega arith));
+          omega (arith, n, s .so-far .greatest x l λ e b m. h e b (omega (arith, m)), h d (s .from) (omega arith));
     };
   }
     where
       go : (e : ℕ) → start ≤ e → e < d + 1 → Dec (e ≡ d) → r ≤ getD used e 0
-      go e l m (yes q) = subst (λ (i : ℕ). r ≤ getD used i 0) (sym q) (n .right)
-      go e l m (no q) = omega (arith, n .left, s .so-far .least e l (omega (arith, m, q)))
+      go e l m (yes q) = subst (λ (i : ℕ). r ≤ getD used i 0) (sym q) (omega (arith, n))
+      go e l m (no q) = omega (arith, n, s .so-far .least e l (omega (arith, m, q)))
 
   ended : {least d : ℕ} → Sofar used start end first least d → end ≤ d → LeastMark used start end first least
   ended {least} {d} s le =

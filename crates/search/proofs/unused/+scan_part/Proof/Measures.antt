@@ -5,11 +5,11 @@ use borrow.Fn.Kinds.{In}
 use borrow.Fn.PlainCycle.{Measures, is, falls, and}
 use Rattle.words.proofs.fields.kind.Reads as kind-reads
 use Rattle.words.proofs.fields.number.Reads as number-reads
+use Rattle.words.proofs.lesser.lesser.Reads as lesser-reads
 use Rattle.words.proofs.shape.outer_count.Reads as outer-count-reads
 use Rattle.words.proofs.shape.part_count.Reads as part-count-reads
 use Rattle.search.proofs.marks.mark.Reads as mark-reads
 use Rattle.search.proofs.unused.least_mark.Reads as least-mark-reads
-use Rattle.search.proofs.unused.lesser.Reads as lesser-reads
 use Rattle.search.proofs.unused.open_mark.Reads as open-mark-reads
 use Rattle.search.proofs.unused.scan_part.Reads as scan-part-reads
 use Rattle.search.proofs.unused.scan_part.Kinds as scan-part-kinds
