@@ -112,7 +112,7 @@ module _ {calls body value old : List ℕ} {depth at : ℕ} {p new : List ℕ} {
   pub substitute-end : owed ≡ 0 → Substitutes calls body value old new at depth
   substitute-end z = record { told = λ t rest h v. trace-end substitution (valued calls value) g z t rest h v .1 }
 
--- the depths before a part of the buffer that is lent stay
+-- the depths before a part of the buffer that is handed on stay
 kept-before-part : (p ys : List ℕ) (a k j : ℕ) → a ≤ length p → j < a → getD (putMid a k p ys) j 0 ≡ getD p j 0
 kept-before-part p ys a k j le l =
     let h : j < length (take a p) = omega (arith, l, length-take-le a p le) in

@@ -6,7 +6,7 @@ use lib.ListN.{replicate}
 use Rattle.typing.specs.Refusals.{normalizeLimit}
 use Rattle.typing.specs.TableChecks.{lengthsFit}
 use Rattle.outcomes.specs.Normalize.{capacityOf}
-use Rattle.cases.specs.Table.{Lent, lent, holding}
+use Rattle.cases.specs.Table.{BufferLengths, lengths, holding}
 
 -- lengths of the four tables: at their limits, then one more of each, then no term word
 pub record Sizes : Type 0 where
@@ -37,9 +37,9 @@ fit s = lengthsFit normalizeLimit (record {
 }) (replicate (s .words) 0)
 
 -- buffers of 8,192 words, longer ones, and one a word shorter
-unfoldable pub rooms : List Lent
-rooms = lent 8192 8192 8192 ∷ lent 8193 8194 8195 ∷ lent 8193 8191 8192 ∷ []
+unfoldable pub rooms : List BufferLengths
+rooms = lengths 8192 8192 8192 ∷ lengths 8193 8194 8195 ∷ lengths 8193 8191 8192 ∷ []
 
 -- the capacity that they give
-unfoldable pub capacity : Lent → ℕ
+unfoldable pub capacity : BufferLengths → ℕ
 capacity b = capacityOf (holding b)

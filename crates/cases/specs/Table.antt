@@ -9,25 +9,25 @@ use Rattle.syntax.specs.Encoding.{encode}
 use Rattle.reduction.specs.Reduction.{Counts, zeroCounts}
 use Rattle.outcomes.specs.Normalize.{Buffers, Outcome, normalizeOutcome}
 
--- the lengths of the three lent buffers; paper 01's room is the shortest
-pub record Lent : Type 0 where
+-- the lengths of the three buffers; paper 01's room is the shortest
+pub record BufferLengths : Type 0 where
   pub output : ℕ
   pub scratch₁ : ℕ
   pub scratch₂ : ℕ
 
-abbrev pub lent : ℕ → ℕ → ℕ → Lent
-lent o s₁ s₂ = record { output = o; scratch₁ = s₁; scratch₂ = s₂ }
+abbrev pub lengths : ℕ → ℕ → ℕ → BufferLengths
+lengths o s₁ s₂ = record { output = o; scratch₁ = s₁; scratch₂ = s₂ }
 
 -- longer than any term of the table
-abbrev pub roomy : Lent
-roomy = lent 18 17 16
+abbrev pub roomy : BufferLengths
+roomy = lengths 18 17 16
 
 -- a case: tables, term words, budget and buffers, and the expected refusal, type, counts and words
 pub record Case : Type 0 where
   pub tables : Tables
   pub words : List ℕ
   pub budget : ℕ
-  pub buffers : Lent
+  pub buffers : BufferLengths
   pub refusal : ℕ
   pub type : ℕ
   pub counts : Counts
@@ -71,7 +71,7 @@ accepts inputs t u counts =
       result = encode u;
     }
 
-abbrev pub limited : ℕ → Lent → Term → ℕ → Counts → List ℕ → Case
+abbrev pub limited : ℕ → BufferLengths → Term → ℕ → Counts → List ℕ → Case
 limited budget buffers t refusal counts result =
     record {
       tables = tablesWith [];
@@ -103,7 +103,7 @@ abbrev pub A′ : Term
 A′ = bind c (d v0)
 
 -- buffers of 9s
-abbrev pub holding : Lent → Buffers
+abbrev pub holding : BufferLengths → Buffers
 holding b = record { output = nines (b .output); scratch₁ = nines (b .scratch₁); scratch₂ = nines (b .scratch₂) }
 
 -- what the definitions make of a case: the outcome of the call
@@ -136,11 +136,11 @@ table =
     ∷ limited 1 roomy A 10 (1 ∷ 0 ∷ 0 ∷ 0 ∷ 0 ∷ 0 ∷ 0 ∷ 0 ∷ 0 ∷ 0 ∷ []) []
     ∷ limited 2 roomy A 0 (1 ∷ 0 ∷ 0 ∷ 1 ∷ 0 ∷ 0 ∷ 0 ∷ 0 ∷ 0 ∷ 0 ∷ []) (encode A′)
     -- I: capacity 6 by each of the buffers, and 7; J: capacity 6 and budget 0
-    ∷ limited 1000000 (lent 6 7 8) A 11 zeroCounts []
-    ∷ limited 1000000 (lent 8 6 7) A 11 zeroCounts []
-    ∷ limited 1000000 (lent 7 8 6) A 11 zeroCounts []
-    ∷ limited 1000000 (lent 8 7 9) A 0 (1 ∷ 0 ∷ 0 ∷ 1 ∷ 0 ∷ 0 ∷ 0 ∷ 0 ∷ 0 ∷ 0 ∷ []) (encode A′)
-    ∷ limited 0 (lent 6 6 6) A 10 zeroCounts []
+    ∷ limited 1000000 (lengths 6 7 8) A 11 zeroCounts []
+    ∷ limited 1000000 (lengths 8 6 7) A 11 zeroCounts []
+    ∷ limited 1000000 (lengths 7 8 6) A 11 zeroCounts []
+    ∷ limited 1000000 (lengths 8 7 9) A 0 (1 ∷ 0 ∷ 0 ∷ 1 ∷ 0 ∷ 0 ∷ 0 ∷ 0 ∷ 0 ∷ 0 ∷ []) (encode A′)
+    ∷ limited 0 (lengths 6 6 6) A 10 zeroCounts []
     -- K: two words v0, v0; L: a function type that is its own part
     ∷ refuses (tablesWith (0 ∷ [])) (encode v0 ++ encode v0) 7
     ∷ refuses (record { types = pack 1 0 0 ∷ []; calls = []; inputs = 0 ∷ [] }) (encode v0) 2

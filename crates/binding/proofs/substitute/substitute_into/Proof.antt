@@ -2,7 +2,7 @@
 -- that of the variable that goes, the value is written, its variables raised by the binders passed; the word of another variable is
 -- lowered if it is past it; any other word is copied, and then the depths of its parts are pending. What is to be written fits into the
 -- buffer, so while a term is owed there is a word to read (`inside`), room for a word (`room`) and for the value where it goes
--- (`value-fits`), and space for the depths of the node's parts (`space`) and behind them for those of the value (`lent`).
+-- (`value-fits`), and space for the depths of the node's parts (`space`) and behind them for those of the value (`value-space`).
 use borrow.Author.Needs.{needs}
 use borrow.Rule.Slice.PartMut.{same-len-mid}
 use Prim.Native.Nat.{ℕ, _+_, _-_, _^_, _≤_, _<_}
@@ -93,8 +93,8 @@ space c =
     trace-opens substitution (valued (a .calls .now) (a .value .now)) (c .before .loop .inv .0) (c .loop-test .taken) (omega arith)
     (entry c .pre .1 .0)
 
-lent : (c : Head) → c .before .loop .owed + (length (entry c .args .value .now) + 2) ≤ length (c .before .loop .pending)
-lent c = let i = c .before .loop .inv .0 in omega (arith, march-within _ _ (i .going), i .spare)
+value-space : (c : Head) → c .before .loop .owed + (length (entry c .args .value .now) + 2) ≤ length (c .before .loop .pending)
+value-space c = let i = c .before .loop .inv .0 in omega (arith, march-within _ _ (i .going), i .spare)
 
 -- where the word is the variable's
 is-it : (c : Found) → w (head (c .before)) ≡ pack 0 (under (head (c .before))) 0
@@ -130,7 +130,7 @@ value-asked c κs =
     let f : Found = search in
     let h = head (f .before) in
     let pre = entry h .pre in
-    ((pre .0 .whole, value-fits f, pre .1 .1, space h .2), omega (arith, lent h))
+    ((pre .0 .whole, value-fits f, pre .1 .1, space h .2), omega (arith, value-space h))
 
 -- a turn
 past-value : tie.Need-loop-again Inv-loop μ-loop
@@ -179,8 +179,8 @@ substitute-into-spec =
     (λ c. omega (arith, space (search)))
     (λ c. omega (arith, room (search)))
     (λ c. omega (arith, inside (search)))
-    (λ c. omega (arith, lent (search)))
-    (λ c. omega (arith, lent (search)))
+    (λ c. omega (arith, value-space (search)))
+    (λ c. omega (arith, value-space (search)))
     (λ c. search needs)
     value-asked
     (λ c. omega (arith, value-put (search)))
