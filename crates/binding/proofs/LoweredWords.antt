@@ -26,7 +26,7 @@ abbrev pub lowers : Unit {0} → ℕ → ℕ
 lowers u n = n - 1
 
 -- the word of a variable, lowered
-lower-word : (w d n : ℕ) → w ≡ pack 0 n 0 → numberOf w ≡ n → pack 0 (lowerAt d n) 0 ≡ loweredWord d w
+pub lower-word : (w d n : ℕ) → w ≡ pack 0 n 0 → numberOf w ≡ n → pack 0 (lowerAt d n) 0 ≡ loweredWord d w
 lower-word w d n e m = go (ltb d n) refl
   where
     chosen : (b : Bool) → ltb d n ≡ b → loweredWord d w ≡ cond b (w - 2 ^ 30) w

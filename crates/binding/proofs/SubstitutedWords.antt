@@ -3,13 +3,10 @@ use Prim.Native.Nat.{ℕ, _+_, _-_, _^_, _≤_, _<_}
 use native.Mathlib.Omega.{arith}
 use mathlib.Core.Path.{_≡_, refl, sym, _∙_, ap, subst, fun-ext}
 use mathlib.Core.Logic.{_≢_}
-use mathlib.Core.Bool.{Bool, true, false, cond}
 use mathlib.Core.List.{List, [], _∷_, _++_, append-nil}
-use lib.Dec.{ltb}
 use lib.ListN.{length, getD, set, take, drop, take-append-drop, List·getD-append}
 use lib.Seq.{sets, paste, take-all, length-take-le}
 use borrow.Rule.Slice.PartMut.{midOf, postOf, putMid, same-len-mid}
-use borrow.Author.Tests.{ltb-true, ltb-false}
 use Rattle.syntax.specs.Words.{kindOf, numberOf, pack}
 use Rattle.syntax.specs.Term.{Term, var, node}
 use Rattle.syntax.specs.Encoding.{wordOf, encode, size}
@@ -20,13 +17,14 @@ use Rattle.syntax.specs.Substitution.{traverse, rename, substitution, only}
 use Rattle.syntax.specs.Under.{underBy, raiseAt, onlyAt}
 use Rattle.syntax.proofs.Algebra.{rename-id}
 use Rattle.syntax.proofs.Sizes.{size-rename}
-use Rattle.syntax.proofs.Under.{onlyAt-below, onlyAt-at, onlyAt-above}
+use Rattle.syntax.proofs.Under.{onlyAt-at, onlyAt-other}
 use Rattle.words.specs.Depths.{OpensParts}
 use Rattle.words.specs.Fronts.{Holds, Whole}
 use Rattle.binding.specs.Writes.{Room, Renames, RoomFor, Substitutes, loweredWord, Raises}
 use Rattle.words.proofs.PastedWords.{pasted-sets}
 use Rattle.words.proofs.Rows.{march-within}
 use Rattle.syntax.proofs.ByKind.{by-kind}
+use Rattle.binding.proofs.LoweredWords.{lower-word}
 use Rattle.binding.proofs.TermWritten.{put, Trace, trace-begin, trace-end, put-room, trace-leaf, trace-variable, trace-node}
 
 -- a value is put for a variable
@@ -66,21 +64,10 @@ module _ {calls value old new : List ℕ} {at by : ℕ} where
   }
 
 -- the word of a variable other than the one that goes, lowered
-lower-variable : (w d n : ℕ) (v : Term) → w ≡ pack 0 n 0 → numberOf w ≡ n → w ≢ pack 0 d 0 → encode (onlyAt d v n) ≡ loweredWord d w ∷ []
+lower-other : (w d n : ℕ) (v : Term) → w ≡ pack 0 n 0 → numberOf w ≡ n → w ≢ pack 0 d 0 → encode (onlyAt d v n) ≡ loweredWord d w ∷ []
 unfolding encode node
-lower-variable w d n v e m h = go (ltb d n) refl
-  where
-    chosen : (b : Bool) → ltb d n ≡ b → loweredWord d w ≡ cond b (w - 2 ^ 30) w
-    chosen b f = ap (λ (x : Bool). cond x (w - 2 ^ 30) w) (ap (ltb d) m ∙ f)
-
-    below : n ≤ d → n < d
-    below le = let q : n ≢ d = λ x. h (omega (arith, e, x)) in omega (arith, le, q)
-
-    go : (b : Bool) → ltb d n ≡ b → encode (onlyAt d v n) ≡ loweredWord d w ∷ []
-    go true f = ap encode (onlyAt-above d v n (ltb-true d n f))
-        ∙ ap {B = List ℕ} (λ (i : ℕ). i ∷ []) (omega (arith, e, ltb-true d n f) ∙ sym (chosen true f))
-    go false f = ap encode (onlyAt-below d v n (below (ltb-false d n f)))
-        ∙ ap {B = List ℕ} (λ (i : ℕ). i ∷ []) (sym e ∙ sym (chosen false f))
+lower-other w d n v e m h = ap encode (onlyAt-other d v n (λ x. h (omega (arith, e, x))))
+    ∙ ap {B = List ℕ} (λ (i : ℕ). i ∷ []) (lower-word w d n e m)
 
 -- the loop's invariant
 abbrev pub Substituting : (calls body value old : List ℕ) (depth at : ℕ) (p new : List ℕ) (owed i o : ℕ) → Type 0
@@ -101,7 +88,7 @@ module _ {calls body value old : List ℕ} {depth at : ℕ} {p new : List ℕ} {
   unfolding traverse
   substitute-variable lt z h x e =
       trace-variable substitution (valued calls value) g lt (getD body i 0) (getD p (owed - 1) 0) refl refl z x (at + o) refl λ n f c v.
-      lower-variable _ _ n (v .term) f c h ∙ ap {B = List ℕ} (λ (w : ℕ). w ∷ []) (sym e)
+      lower-other _ _ n (v .term) f c h ∙ ap {B = List ℕ} (λ (w : ℕ). w ∷ []) (sym e)
 
   pub substitute-node : 1 ≤ owed → (kindOf (getD body i 0) ≡ 0 → ⊥) → (q : List ℕ) (r : ℕ) → length q ≡ length p
       → OpensParts calls (getD body i 0) (getD p (owed - 1) 0) p q (owed - 1) r

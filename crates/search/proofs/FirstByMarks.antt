@@ -9,7 +9,6 @@ use mathlib.Core.List.{List, [], append-nil}
 use mathlib.Core.Option.{Option, some, none}
 use lib.Dec.{eqb}
 use lib.ListN.{length, getD, drop, getElem?}
-use lib.Seq.{drop-drop}
 use borrow.Author.Tests.{eqb-true, eqb-false}
 use Rattle.syntax.specs.Maybe.{given}
 use Rattle.syntax.specs.Words.{kindOf}
@@ -36,14 +35,10 @@ use Rattle.words.specs.Fronts.{Holds, from}
 use Rattle.words.specs.Reach.{inner}
 use Rattle.words.proofs.Sized.{same-term}
 use Rattle.words.proofs.PartsAt.{first-from}
-use Rattle.words.proofs.Traversal.{front-of}
+use Rattle.words.proofs.Traversal.{front-of, from-from}
 use Rattle.search.specs.Unused.{openMark, finalMark, NoUnusedBefore, Scans, FindsUnused}
 use Rattle.search.specs.declared.unused.PartScan.{PartScan}
 use Rattle.search.proofs.OpenMarks.{other-mark}
-
--- the words from an index on, of the words from an index on
-from-from : (words : List ℕ) (n i : ℕ) → from (from words n) i ≡ from words (n + i)
-from-from words n i = tail-part (from words n) i ∙ ap (drop i) (tail-part words n) ∙ drop-drop i n words ∙ sym (tail-part words (n + i))
 
 placed : (base n i : ℕ) → base + n + i ≡ base + (n + i)
 placed base n i = omega arith

@@ -11,7 +11,7 @@ use Rattle.syntax.specs.Encoding.{encode, size}
 use Rattle.syntax.specs.Positions.{Position}
 use Rattle.syntax.proofs.Sizes.{size-rename}
 use Rattle.words.specs.Fronts.{Holds, Starts, from}
-use Rattle.words.proofs.Traversal.{fits}
+use Rattle.words.proofs.Traversal.{fits, from-from}
 use Rattle.binding.specs.Writes.{Lowers}
 use Rattle.reduction.specs.Rules.{lower}
 use Rattle.reduction.specs.declared.Rule.{Rule}
@@ -23,7 +23,7 @@ use Rattle.contraction.specs.declared.plan.Action.the-variants.{Rewrite, Lower}
 use Rattle.step.specs.Rewrites.{RedexAt, Rewritable, too-long, there, RewritesRedex}
 use Rattle.step.specs.declared.rewrite.Rewritten.the-variants.{Full, Next}
 use Rattle.step.proofs.RewrittenRedex.{holds-behind, redex-inside, plugged-length, rewritten, written-front}
-use Rattle.step.proofs.LoweredBody.{from-from, put-pasted, lowerAt-lower}
+use Rattle.step.proofs.LoweredBody.{put-pasted, lowerAt-lower}
 
 module _ {rule : Rule} {calls words : List ℕ} where
   -- what is done with the redex

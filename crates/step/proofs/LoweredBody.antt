@@ -1,10 +1,10 @@
 -- A body that is lowered where it stands: the part of the buffer that is handed on, and what lowering is by the rule.
 use Prim.Native.Nat.{ℕ, zero, suc, _+_, _-_, _≤_}
 use native.Mathlib.Omega.{arith}
-use mathlib.Core.Path.{_≡_, refl, sym, _∙_, ap, ap₂, fun-ext}
-use mathlib.Core.List.{List, [], _∷_, _++_, append-assoc, append-nil}
+use mathlib.Core.Path.{_≡_, sym, _∙_, ap, ap₂, fun-ext}
+use mathlib.Core.List.{List, _++_, append-assoc, append-nil}
 use lib.ListN.{length, take, drop}
-use lib.Seq.{paste, sets, sets-eq, drop-drop, take-all}
+use lib.Seq.{paste, sets, sets-eq, drop-drop, drop-length, take-all}
 use borrow.Rule.Slice.PartMut.{putMid, post-is}
 use Rattle.syntax.specs.Term.{Term}
 use Rattle.syntax.specs.Substitution.{rename}
@@ -21,15 +21,6 @@ lowerAt-lower b = ap (rename b) (fun-ext same)
     same zero = omega arith
     same (suc n) = omega arith
 
--- a slice of a slice
-pub from-from : (words : List ℕ) (i n : ℕ) → from (from words i) n ≡ from words (i + n)
-from-from words i n = tail-part (from words i) n ∙ ap (drop n) (tail-part words i) ∙ drop-drop n i words ∙ sym (tail-part words (i + n))
-
--- nothing is behind the last part
-drop-end : (l : List ℕ) → drop (length l) l ≡ []
-drop-end [] = refl
-drop-end (x ∷ l) = drop-end l
-
 -- words written to the front of the last part of a list
 pub put-pasted : (words ys vs : List ℕ) (next : ℕ) → next ≤ length words → length vs ≤ length (from words next)
     → ys ≡ sets (from words next) 0 vs → putMid next (length words - next) words ys ≡ paste words next vs (length vs)
@@ -41,6 +32,6 @@ put-pasted words ys vs next h fit e =
     let written : ys ≡ take (length vs) vs ++ drop (next + length vs) words =
     e ∙ sets-eq vs part 0 (omega (arith, fit))
     ∙ ap₂ {C = List ℕ} (λ (x z : List ℕ). x ++ z) (sym (take-all (length vs) vs (omega arith))) behind in
-    ap (λ (l : List ℕ). take next words ++ (ys ++ l)) (post-is next (length words) words h ∙ drop-end words)
+    ap (λ (l : List ℕ). take next words ++ (ys ++ l)) (post-is next (length words) words h ∙ drop-length words)
     ∙ ap (λ (l : List ℕ). take next words ++ l) (append-nil ys ∙ written)
     ∙ sym (append-assoc (take next words) (take (length vs) vs) (drop (next + length vs) words))

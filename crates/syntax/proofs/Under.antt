@@ -1,6 +1,10 @@
 -- What a renaming or substitution under so many binders puts for a variable, by where the variable stands: below the binders' number it
 -- stays, because `under` puts variable 0 for itself and weakens what it put before.
 use mathlib.Core.Path.{_≡_, refl, sym, _∙_, ap, fun-ext}
+use mathlib.Core.Logic.{_≢_}
+use mathlib.Core.Bool.{Bool, true, false}
+use lib.Dec.{ltb}
+use borrow.Author.Tests.{ltb-true, ltb-false}
 use Prim.Native.Nat.{ℕ, zero, suc, _+_, _-_, _≤_, _<_}
 use native.Mathlib.Omega.{arith}
 use Rattle.syntax.specs.Term.{Term, var}
@@ -49,7 +53,7 @@ unfolding underBy
 weakenBody-raiseAt b = ap (λ (f : ℕ → ℕ). rename b (under renaming f)) (fun-ext λ n. omega arith)
 
 -- substitution
-pub onlyAt-below : (d : ℕ) (v : Term) (n : ℕ) → n < d → onlyAt d v n ≡ var n
+onlyAt-below : (d : ℕ) (v : Term) (n : ℕ) → n < d → onlyAt d v n ≡ var n
 unfolding underBy traverse
 onlyAt-below zero v n h = absurd (omega (arith, h))
 onlyAt-below (suc d) v zero h = refl
@@ -66,6 +70,16 @@ onlyAt-past zero v n h = refl
 onlyAt-past (suc d) v zero h = absurd (omega (arith, h))
 onlyAt-past (suc d) v (suc n) h = ap weaken (onlyAt-past d v n (omega (arith, h)))
 
-pub onlyAt-above : (d : ℕ) (v : Term) (n : ℕ) → d < n → onlyAt d v n ≡ var (n - 1)
+onlyAt-above : (d : ℕ) (v : Term) (n : ℕ) → d < n → onlyAt d v n ≡ var (n - 1)
 onlyAt-above d v zero h = absurd (omega (arith, h))
 onlyAt-above d v (suc n) h = onlyAt-past d v n (omega (arith, h)) ∙ ap var (omega arith)
+
+-- any other variable is lowered
+pub onlyAt-other : (d : ℕ) (v : Term) (n : ℕ) → n ≢ d → onlyAt d v n ≡ var (lowerAt d n)
+onlyAt-other d v n h = go (ltb d n) refl
+  where
+    go : (b : Bool) → ltb d n ≡ b → onlyAt d v n ≡ var (lowerAt d n)
+    go true f = let l = ltb-true d n f in onlyAt-above d v n l ∙ ap var (sym (lowerAt-above d n l))
+    go false f =
+        let l : n < d = omega (arith, ltb-false d n f, h) in
+        onlyAt-below d v n l ∙ ap var (sym (lowerAt-low d n (omega (arith, l))))

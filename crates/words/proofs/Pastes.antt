@@ -7,7 +7,7 @@ use mathlib.Core.Path.{_≡_, refl, sym, _∙_, ap}
 use mathlib.Core.List.{List, [], _∷_, _++_, append-assoc, append-nil}
 use lib.ListN.{length, getD, drop, take, set, replicate, length-drop, length-replicate, take-append-drop}
 use lib.Seq.{paste, paste-suc, drop-paste, getD-drop, getD-take, drop-cons, take-suc, set-at}
-use lib.Seq.{length-take-le, drop-drop, drop-at, take-append-le, take-take}
+use lib.Seq.{length-take-le, drop-drop, drop-length, drop-at, take-append-le, take-take}
 
 -- past what is pasted the words are the list's
 pub getD-paste-past : (l : List ℕ) (at : ℕ) (s : List ℕ) (n i : ℕ) → at + n ≤ length l → n ≤ length s → at + n ≤ i
@@ -73,12 +73,8 @@ zeros-next l₀ l i h e =
 pub zeros-all : (l₀ l : List ℕ) (i : ℕ) → length l₀ ≤ i → i ≤ length l₀ → l ≡ replicate i 0 ++ drop i l₀ → l ≡ replicate (length l₀) 0
 zeros-all l₀ l i ge le e =
     let q : i ≡ length l₀ = omega (arith, ge, le) in
-    e ∙ ap (λ (k : ℕ). replicate k 0 ++ drop k l₀) q ∙ ap (λ (x : List ℕ). replicate (length l₀) 0 ++ x) (all-dropped l₀)
+    e ∙ ap (λ (k : ℕ). replicate k 0 ++ drop k l₀) q ∙ ap (λ (x : List ℕ). replicate (length l₀) 0 ++ x) (drop-length l₀)
     ∙ append-nil (replicate (length l₀) 0)
-  where
-    all-dropped : (l : List ℕ) → drop (length l) l ≡ []
-    all-dropped [] = refl
-    all-dropped (x ∷ xs) = all-dropped xs
 
 -- the words before what is pasted, and those from it on
 pub take-before : (l : List ℕ) (at : ℕ) (s : List ℕ) (n i : ℕ) → at ≤ length l → i ≤ at → take i (paste l at s n) ≡ take i l

@@ -4,7 +4,7 @@ use native.Mathlib.Omega.{arith}
 use mathlib.Core.Path.{_≡_, refl, sym, _∙_, ap, subst}
 use mathlib.Core.List.{List, _++_}
 use lib.ListN.{length, getD, drop, take, length-append, length-drop}
-use lib.Seq.{take-at}
+use lib.Seq.{take-at, drop-drop}
 use Rattle.syntax.specs.Term.{Term, Terms, done, arg, node}
 use Rattle.syntax.specs.Encoding.{wordOf, encode, encodeAll, size}
 use Rattle.syntax.specs.Parts.{partCount}
@@ -41,6 +41,10 @@ not-empty s = omega (arith, fits (s .holds), words-of (s .term))
 -- the length of a slice's words from an index on
 pub from-length : (words : List ℕ) (i : ℕ) → length (from words i) ≡ length words - i
 from-length words i = ap (λ (l : List ℕ). length l) (tail-part words i) ∙ length-drop i words
+
+-- a slice of a slice
+pub from-from : (words : List ℕ) (i n : ℕ) → from (from words i) n ≡ from words (i + n)
+from-from words i n = tail-part (from words i) n ∙ ap (drop n) (tail-part words i) ∙ drop-drop n i words ∙ sym (tail-part words (i + n))
 
 module _ (calls words : List ℕ) where
   -- of the n parts of t, j are passed; the words from `at` on are those of the parts ts, and then rest

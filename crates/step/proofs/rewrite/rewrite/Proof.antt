@@ -1,6 +1,7 @@
--- The redex is measured, written to the second buffer, and copied in; or the next term is too long.
+-- The redex is measured, written to the second buffer, and copied in; or the next term is too long; or a let is dropped.
 --
--- Why it is right: the redex that stands behind the gap says what to measure (`starts`), and it ends inside the buffer (`behind-in`). If
+-- Why it is right: behind the words that a drop takes away stands the body (`uncovers`), and lowered there it is what the redex becomes. Of
+-- any other rule, the redex that stands behind the gap says what to measure (`starts`), and it ends inside the buffer (`behind-in`). If
 -- what it becomes is no longer than the redex and the gap together, the second buffer has room for it (`plan-room`), and so has the stretch
 -- that ends where the redex does.
 use native.Mathlib.Omega.{arith}
@@ -12,8 +13,8 @@ use Rattle.words.proofs.Traversal.{from-length}
 use Rattle.contraction.specs.Plans.{StartsRedex, Measures, Uncovers}
 use Rattle.contraction.specs.Writers.{SizedPlanRoom}
 use Rattle.contraction.specs.declared.plan.Measured.{Measured}
-use Rattle.step.proofs.InPlace.{redex-starts, acts-rewrite, acts-lower, read-inside, wrote-small, plan-fits, rewrites-full, rewrites-next}
-use Rattle.step.proofs.InPlace.{body-inside, body-starts, rewrites-lowered}
+use Rattle.step.proofs.InPlace.{redex-starts, read-inside, wrote-small, plan-fits, rewrites-full, rewrites-next}
+use Rattle.step.proofs.InPlace.{acts-rewrite, acts-lower, body-inside, body-starts, rewrites-lowered}
 use borrow.Author.Needs.{needs}
 use Rattle.step.proofs.rewrite.rewrite.Statement.{statement}
 use Rattle.step.proofs.rewrite.rewrite.Tie as tie
