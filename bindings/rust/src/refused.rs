@@ -19,7 +19,7 @@ impl Refused {
         match self.number {
             1 => "a table or the term is too long, or the term is empty",
             2 => "a type word is malformed",
-            3 => "a type word stands twice",
+            3 => "a type word is duplicated",
             4 => "a call word is malformed",
             5 => "an input's type is unknown",
             6 => "a term word is malformed",

@@ -52,7 +52,7 @@ v3 = var 3
 
 unfoldable pub further : List Case
 further =
-    -- 2: a kind over 3, also after a word that stands twice; a base type's unused field set. 3: a word that stands twice
+    -- 2: a kind over 3, also after a duplicated word; a base type's unused field set. 3: a duplicated word
     refuses (typing (pack 0 0 0 ∷ pack 4 0 0 ∷ [])) (encode v0) 2
     ∷ refuses (typing (pack 0 0 0 ∷ pack 0 0 0 ∷ pack 4 0 0 ∷ [])) (encode v0) 2
     ∷ refuses (typing (pack 0 0 1 ∷ [])) (encode v0) 2

@@ -41,7 +41,7 @@ noted-set : {marks ws : List ℕ} (i : ℕ) → length marks ≡ 16381 → Noted
 noted-set i l noted-none = noted-none
 noted-set {marks} i l (noted-more {w = w} m n) = noted-more (marked-set marks i (residueOf w) m (residue-below marks w l)) (noted-set i l n)
 
--- a word that stands twice from i on stands twice in the whole
+-- a word that is duplicated from i on is duplicated in the whole
 distinct-drop : (i : ℕ) (ws : List ℕ) → distinct (drop i ws) ≡ false → distinct ws ≡ false
 unfolding distinct
 distinct-drop zero ws e = e

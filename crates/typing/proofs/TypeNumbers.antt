@@ -1,5 +1,5 @@
 -- On a table that passes checks 2 and 3 a type is its number: entries of the same tree have the same kind and name, and by induction the
--- same parts, since parts are earlier; so they are the same word, and no word stands twice.
+-- same parts, since parts are earlier; so they are the same word, and no word is duplicated.
 use mathlib.Core.Path.{_≡_, refl, sym, _∙_, ap, subst}
 use mathlib.Core.Bool.{not}
 use mathlib.Core.List.{List, [], _∷_}
@@ -48,7 +48,7 @@ same-parts (suc (suc (suc k))) n n′ l l′ r r′ h e = absurd (omega arith)
 same-word : (w x : ℕ) → kindOf w ≡ kindOf x → leftOf w ≡ leftOf x → rightOf w ≡ rightOf x → w ≡ x
 same-word w x k l r = sym (pack-fields w) ∙ (λ i. pack (k i) (l i) (r i)) ∙ pack-fields x
 
--- where no word stands twice, a word's place is determined
+-- where no word is duplicated, a word's place is determined
 other : (w x : ℕ) (ws : List ℕ) (i : ℕ) → T (every (λ y. not (eqb w y)) ws) → getElem? ws i ≡ some x → T (not (eqb w x))
 other w x [] i h e = absurd (Option·none-ne-some x e)
 other w x (y ∷ ws) zero h e = subst (λ (z : ℕ). T (not (eqb w z))) (Option·some-injective y x e)

@@ -62,7 +62,7 @@ pub const DAMAGES: &[Damage] = &[
         let kind = random.between(4, 15) as u64;
         sample.types.push(pack_type(kind, 0, 0));
     }),
-    damage(3, "a type word stands twice", |random, sample| {
+    damage(3, "a type word is duplicated", |random, sample| {
         let original = random.below(sample.types.len());
         let copy = random.between(original + 1, sample.types.len());
         sample.types.insert(copy, sample.types[original]);
