@@ -2,15 +2,17 @@
 -- For no refusal has the number 0.
 use mathlib.Core.Path.{_≡_, refl, sym, ap}
 use mathlib.Core.List.{List, []}
-use Prim.Native.Nat.{ℕ}
+use lib.ListN.{length}
+use Prim.Native.Nat.{ℕ, _≤_}
 use native.Mathlib.Omega.{arith}
 use Rattle.syntax.specs.Tables.{Tables}
-use Rattle.words.specs.Fronts.{Holds}
+use Rattle.words.specs.Fronts.{Holds, Starts}
 use Rattle.typing.specs.Refusals.{Verdict, refused, accepted, TypedTerm, elaborate}
 use Rattle.typing.proofs.Accepted.{Verdicts, refusal, passed, Passed, elaborated}
 use Rattle.outcomes.specs.Check.{checkedOf}
 use Rattle.outcomes.specs.declared.Checked.{Checked}
 use Rattle.checker.proofs.DecodedTerm.{holds-decoded}
+use Rattle.checker.proofs.TermPlaces.{lengths-of}
 
 -- a verdict accepts what passed, of a type
 pub record Accepts (P : TypedTerm → Type 0) (v : Verdict TypedTerm) (A : ℕ) : Type 0 where
@@ -40,3 +42,14 @@ module _ (limit : ℕ) (tables : Tables) (words : List ℕ) (r : Checked) (e : r
 pub accepted-holds : (limit : ℕ) (tables : Tables) (words : List ℕ) (x : TypedTerm) → Passed limit tables words x
     → Holds (tables .calls) words (x .term) []
 accepted-holds limit tables words x p = holds-decoded tables words (p .words′) (x .term) (p .term)
+
+-- what a call may ask of words that the checks accepted: they begin with a term, and there are no more than the limit
+module _ (limit : ℕ) (tables : Tables) (words : List ℕ) (r : Checked) (e : r ≡ checkedOf (elaborate limit tables words))
+    (z : r .refusal ≡ 0) where
+  pub accepted-starts : Starts (tables .calls) words
+  accepted-starts =
+      let a = accepted-of limit tables words r e z in
+      record { term = a .typed .term; rest = []; holds = accepted-holds limit tables words (a .typed) (a .passed) }
+
+  pub accepted-short : length words ≤ limit
+  accepted-short = lengths-of limit tables words (accepted-of limit tables words r e z .passed .lengths) .words′

@@ -24,7 +24,7 @@ pub const NORMALIZE_LIMIT: usize = 4096;
 pub const OTHER_LIMIT: usize = 8192;
 
 // the space for a short term, with two words more
-const SHORT: usize = 512;
+pub const SHORT: usize = 512;
 
 // places 8 and 9 of the term that the words begin with, and its type
 fn typed_in(

@@ -2,14 +2,10 @@
 use Prim.Native.Nat.{ℕ, _≤_}
 use native.Mathlib.Omega.{arith}
 use mathlib.Core.Path.{_≡_, sym, _∙_, ap}
-use mathlib.Core.Bool.{Bool, false, _&&_}
+use mathlib.Core.Bool.{Bool, false}
 use mathlib.Core.List.{List, []}
-use lib.Dec.{T, leb}
 use lib.ListN.{length, replicate, length-replicate}
-use borrow.Author.Tests.{leb-true}
 use Rattle.syntax.specs.Tables.{Tables}
-use Rattle.syntax.proofs.Options.{is-true, and-left, and-right}
-use Rattle.typing.specs.TableChecks.{lengthsFit}
 use Rattle.typing.specs.Refusals.{elaborate, otherLimit}
 use Rattle.typing.proofs.Accepted.{Passed}
 use Rattle.reduction.specs.MayDrop.{mayDrop}
@@ -18,7 +14,6 @@ use Rattle.outcomes.specs.IsNormal.{testedOf, isNormalOutcome}
 use Rattle.outcomes.specs.declared.Checked.{Checked}
 use Rattle.outcomes.specs.declared.Tested.{Tested}
 use Rattle.theory.proofs.GrammarNormal.{grammar-is-normal}
-use Rattle.words.specs.Fronts.{Starts}
 use Rattle.checker.proofs.Verdicts.{Accepts, accepted-of, refused-of, accepted-holds}
 use Rattle.search.specs.Marks.{Space}
 use Rattle.normal_form.specs.NormalTest.{isNormalForm, TestsNormal, Decides}
@@ -36,14 +31,6 @@ pub decides : {calls words : List ℕ} {depth : ℕ} {old new : List ℕ} {r : P
     → Decides calls words (r .ok)
 decides a = record { told = λ t rest h. a .told t rest h .ok-is }
 
--- what passed has no more words than the limit
-short : (limit : ℕ) (tables : Tables) (words : List ℕ) → T (lengthsFit limit tables words) → length words ≤ limit
-unfolding lengthsFit
-short limit tables words h =
-    let fits = leb (length (tables .types)) 1024 && leb (length (tables .calls)) 1024 && leb (length (tables .inputs)) 256 in
-    let within = and-left (fits && leb (length words) limit) (leb 1 (length words)) h in
-    leb-true (length words) limit (is-true _ (and-right fits (leb (length words) limit) within))
-
 module _ (tables : Tables) (words : List ℕ) (r : Checked) (e : r ≡ checkedOf (elaborate otherLimit tables words)) where
   -- refused by a check
   pub refused-tested : (r .refusal ≡ 0 → ⊥) → _≡_ {A = Tested} (record { refusal = r .refusal; normal = false })
@@ -55,16 +42,6 @@ module _ (tables : Tables) (words : List ℕ) (r : Checked) (e : r ≡ checkedOf
   module _ (z : r .refusal ≡ 0) where
     accepts : Accepts (Passed otherLimit tables words) (elaborate otherLimit tables words) (r .ty)
     accepts = accepted-of otherLimit tables words r e z
-
-    pub accepted-starts : Starts (tables .calls) words
-    accepted-starts = record {
-      term = accepts .typed .term;
-      rest = [];
-      holds = accepted-holds otherLimit tables words (accepts .typed) (accepts .passed);
-    }
-
-    pub accepted-short : length words ≤ 8192
-    accepted-short = short otherLimit tables words (accepts .passed .lengths)
 
     pub accepted-tested : (b : Bool) → Decides (tables .calls) words b
         → _≡_ {A = Tested} (record { refusal = 0; normal = b }) (isNormalOutcome tables words)

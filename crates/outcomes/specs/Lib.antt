@@ -2,6 +2,8 @@ pub mod Buffers
 pub mod Text
 pub mod Check
 pub mod IsNormal
+pub mod Marks
+pub mod FreeInputs
 pub mod Normalize
 pub mod Contract
 pub mod ReadBundle

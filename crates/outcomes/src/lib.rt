@@ -12,6 +12,15 @@ pub struct Tested {
     pub normal: bool,
 }
 
+// the inputs that a term reads: refusal 0, a mark for each (input 0 is the highest bit of the first word) and how many are marked, or the
+// refusal and zeros; laid out as C does
+#[repr(C)]
+pub struct FreeInputs {
+    pub refusal: u32,
+    pub marks: [u64; 4],
+    pub count: u32,
+}
+
 // normalization: refusal number, type number, length of the normal form, and ten counts in the order of the rules; laid out as C does
 #[repr(C)]
 pub struct Answer {
