@@ -14,6 +14,7 @@ use lib.Count.{ones, ones-cat}
 use lib.Pow.{pow-pos, pow-lt, pow-add, high}
 use lib.Bits.{bitOr, or-block, or-zero-r, block-odd}
 use Rattle.syntax.specs.Values.{counts}
+use Rattle.syntax.proofs.Options.{counts-one}
 use Rattle.outcomes.specs.Marks.{mask, masks, howMany, markAt}
 
 -- marks that agree make the same mask
@@ -63,11 +64,7 @@ howMany-same (suc n) f g e =
 pub howMany-most : (n : ℕ) (f : ℕ → Bool) → howMany n f ≤ n
 unfolding howMany
 howMany-most zero f = omega arith
-howMany-most (suc n) f = omega (arith, howMany-most n (λ i. f (suc i)), digit (f 0))
-  where
-    digit : (b : Bool) → counts b ≤ 1
-    digit true = omega arith
-    digit false = omega arith
+howMany-most (suc n) f = omega (arith, howMany-most n (λ i. f (suc i)), counts-one (f 0))
 
 -- the numbers marked among n + m are those among the first n and those among the m behind them
 pub howMany-split : (n m : ℕ) (f : ℕ → Bool) → howMany (n + m) f ≡ howMany n f + howMany m (λ i. f (n + i))
@@ -154,10 +151,12 @@ masks-marked (suc k) j f g l m =
     by-word true e rest = in-first k j f g m (ltb-true j 64 e)
     by-word false e rest = in-later k j f g m (ltb-false j 64 e) (rest (ltb-false j 64 e))
 
--- the ones of the four words together are the numbers marked
-pub ones-masks : (f : ℕ → Bool)
-    → ones (mask 64 f) + ones (mask 64 (λ i. f (64 + i))) + ones (mask 64 (λ i. f (64 + (64 + i)))) + ones (mask 64 (λ i. f (64 + (64 + (64 + i)))))
-    ≡ howMany 256 f
+-- the ones of four words together: of four masks, the numbers marked
+abbrev pub onesOf : List ℕ → ℕ
+onesOf ws = ones (getD ws 0 0) + ones (getD ws 1 0) + ones (getD ws 2 0) + ones (getD ws 3 0)
+
+pub ones-masks : (f : ℕ → Bool) → onesOf (masks 4 f) ≡ howMany 256 f
+unfolding masks
 ones-masks f =
     let g : ℕ → Bool = λ i. f (64 + i) in
     let h : ℕ → Bool = λ i. g (64 + i) in

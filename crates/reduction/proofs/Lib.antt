@@ -8,6 +8,7 @@ pub mod Fits
 pub mod Search
 pub mod DropSubstitutes
 pub mod StepUses
+pub mod AlongSequence
 pub mod NextSize
 pub mod Clear
 pub mod EachSite

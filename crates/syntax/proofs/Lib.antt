@@ -13,6 +13,7 @@ pub mod Under
 pub mod Sizes
 pub mod PartsUnder
 pub mod UsesTraverse
+pub mod UsesPositions
 pub mod Uses
 pub mod OperandsRenamed
 pub mod Agreement

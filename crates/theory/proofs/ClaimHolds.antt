@@ -40,7 +40,7 @@ use Rattle.theory.proofs.Subformulas.{Listed, listed, all-at, subformul
 use Rattle.theory.proofs.Fields.{Fitting, fitting, shaped}
 use Rattle.theory.proofs.SameRuns.{same-runs}
 use Rattle.theory.proofs.TypesKept.{steps-typed}
-use Rattle.typing.proofs.Accepted.{Verdicts, passed, Passed, elaborated}
+use Rattle.typing.proofs.Accepted.{accepted-passed}
 
 -- the last step of a phase
 last-step : (pure : Term → Bool) (phase : Phase) {t u : Term} {ss : List Stepped} → Steps pure phase t ss u → step pure phase u ≡ none
@@ -123,17 +123,13 @@ claim-of-sequence tables words A t u wf fit w d e l q =
     }
 
 -- what a reduction that came through says of the term it reached
-record Came (pure : Term → Bool) (capacity : ℕ) (t u : Term) : Type 0 where
-  sequence : Sequence pure t u
-  fits : size u ≤ capacity
+pub record Came (pure : Term → Bool) (capacity : ℕ) (t u : Term) : Type 0 where
+  pub sequence : Sequence pure t u
+  pub fits : size u ≤ capacity
 
-came : {pure : Term → Bool} {capacity budget : ℕ} {t : Term} {left : ℕ} {u : Term} {c : Counts}
+pub came : {pure : Term → Bool} {capacity budget : ℕ} {t : Term} {left : ℕ} {u : Term} {c : Counts}
     → Exact pure capacity budget t (reached left u c) → Came pure capacity t u
 came {pure} {capacity} (normal q h l d) = record { sequence = q; fits = reached-fits pure capacity (normal q h l d) }
-
-passed-at : (limit : ℕ) (tables : Tables) (words : List ℕ) {x : TypedTerm} → Verdicts (Passed limit tables words) (accepted x)
-    → Passed limit tables words x
-passed-at limit tables words (passed p) = p
 
 -- the claim holds of every accepted outcome
 pub claim : (tables : Tables) (words : List ℕ) (capacity : ℕ) (settings : Settings) (x : TypedTerm) (left : ℕ) (u : Term) (counts : Counts)
@@ -142,8 +138,7 @@ pub claim : (tables : Tables) (words : List ℕ) (capacity : ℕ) (settings : Se
     → reduce (mayDrop (tables .calls)) capacity settings (x .term) ≡ reached left u counts
     → Claim tables words (x .type) (encode u)
 claim tables words capacity settings x left u counts h e r =
-    let p = passed-at normalizeLimit tables words
-    (subst (Verdicts (Passed normalizeLimit tables words)) e (elaborated normalizeLimit tables words)) in
+    let p = accepted-passed normalizeLimit tables words x e in
     let pure = mayDrop (tables .calls) in
     let g = came (subst (Exact pure capacity (settings .budget) (x .term)) r (reduce-exact pure capacity settings (x .term))) in
     claim-of-sequence tables words (x .type) (x .term) u (earlier tables (p .types))

@@ -10,7 +10,7 @@ use Rattle.syntax.specs.Tables.{Tables}
 use Rattle.syntax.specs.Encoding.{encode, size}
 use Rattle.typing.specs.Refusals.{Verdict, refused, accepted, TypedTerm, elaborate, normalizeLimit}
 use Rattle.reduction.specs.MayDrop.{mayDrop}
-use Rattle.reduction.specs.Reduction.{Settings, Progress, stopped, reached, reduce}
+use Rattle.reduction.specs.Reduction.{Counts, Settings, Progress, stopped, reached, reduce}
 use Rattle.reduction.proofs.Exact.{Exact, reduce-exact, refusal-number}
 use Rattle.semantics.specs.Claim.{Claim}
 use Rattle.outcomes.specs.Normalize.{Normalized, reducedTo, checkedTo, normalizeWithin, maxCapacity, Buffers, capacityOf, Outcome}
@@ -25,45 +25,52 @@ pub take-front : (xs ys : List ℕ) → take (length xs) (xs ++ ys) ≡ xs
 take-front [] ys = refl
 take-front (x ∷ xs) ys = ap {B = List ℕ} (λ zs. x ∷ zs) (take-front xs ys)
 
-capacity-bounded : (b : Buffers) → capacityOf b ≤ maxCapacity
+pub capacity-bounded : (b : Buffers) → capacityOf b ≤ maxCapacity
 unfolding capacityOf
 capacity-bounded b = omega arith
 
 module _ (settings : Settings) (tables : Tables) (words : List ℕ) (before : Buffers) where
-  -- the claim of a result, where its refusal is 0
-  abbrev Claims : Normalized → Type 0
-  Claims r = r .answer .refusal ≡ 0 → Claim tables words (r .answer .ty) (take (r .answer .length) (overwrite (r .words) (before .output)))
-
   abbrev pure : Term → Bool
   pure = mayDrop (tables .calls)
 
-  reduced-claims : (x : TypedTerm) → elaborate normalizeLimit tables words ≡ accepted x → (p : Progress)
-      → Exact pure (capacityOf before) (settings .budget) (x .term) p
-      → reduce pure (capacityOf before) settings (x .term) ≡ p → Claims (reducedTo (x .type) p)
-  unfolding reducedTo overwrite size
-  reduced-claims x e (stopped n c) f r z = absurd (omega (arith, z, refusal-number pure (capacityOf before) f .0))
-  reduced-claims x e (reached left u c) f r z =
-      subst (λ (ws : List ℕ). Claim tables words (x .type) ws) (sym (take-front (encode u) (drop (length (encode u)) (before .output))))
-      (claim tables words (capacityOf before) settings x left u c (capacity-bounded before) e r)
+  abbrev capacity : ℕ
+  capacity = capacityOf before
 
-  checked-claims : (v : Verdict TypedTerm) → Verdicts (Passed normalizeLimit tables words) v → elaborate normalizeLimit tables words ≡ v
-      → Claims (checkedTo pure (capacityOf before) settings v)
-  unfolding checkedTo
-  checked-claims (refused n) (refusal m) e z = absurd (omega (arith, z))
-  checked-claims (accepted x) p e z = reduced-claims x e (reduce pure (capacityOf before) settings (x .term))
-      (reduce-exact pure (capacityOf before) settings (x .term)) refl z
+  -- what holds of every reduction that came through holds of the type and the words that an accepted outcome hands back
+  module _ (P : ℕ → List ℕ → Type 0)
+      (came : (x : TypedTerm) (left : ℕ) (u : Term) (counts : Counts) → elaborate normalizeLimit tables words ≡ accepted x
+      → reduce pure capacity settings (x .term) ≡ reached left u counts → P (x .type) (encode u)) where
+    -- of a result, where its refusal is 0
+    abbrev Handed : Normalized → Type 0
+    Handed r = r .answer .refusal ≡ 0 → P (r .answer .ty) (take (r .answer .length) (overwrite (r .words) (before .output)))
 
-  normalized-claims : Claims (normalizeWithin (capacityOf before) settings tables words)
-  unfolding normalizeWithin
-  normalized-claims = checked-claims (elaborate normalizeLimit tables words) (elaborated normalizeLimit tables words) refl
+    reduced : (x : TypedTerm) → elaborate normalizeLimit tables words ≡ accepted x → (p : Progress)
+        → Exact pure capacity (settings .budget) (x .term) p → reduce pure capacity settings (x .term) ≡ p
+        → Handed (reducedTo (x .type) p)
+    unfolding reducedTo overwrite size
+    reduced x e (stopped n c) f r z = absurd (omega (arith, z, refusal-number pure capacity f .0))
+    reduced x e (reached left u c) f r z =
+        subst (P (x .type)) (sym (take-front (encode u) (drop (length (encode u)) (before .output)))) (came x left u c e r)
+
+    checked : (v : Verdict TypedTerm) → Verdicts (Passed normalizeLimit tables words) v → elaborate normalizeLimit tables words ≡ v
+        → Handed (checkedTo pure capacity settings v)
+    unfolding checkedTo
+    checked (refused n) (refusal m) e z = absurd (omega (arith, z))
+    checked (accepted x) p e z = reduced x e (reduce pure capacity settings (x .term)) (reduce-exact pure capacity settings (x .term)) refl z
+
+    pub handed-back : let o = normalizeOutcome settings tables words before in
+        o .answer .refusal ≡ 0 → P (o .answer .ty) (take (o .answer .length) (o .buffers .output))
+    unfolding normalizeOutcome normalizeWithin
+    handed-back = checked (elaborate normalizeLimit tables words) (elaborated normalizeLimit tables words) refl
 
   -- the contract, from its equation
   pub normalizes : (answer : Answer) (after : Buffers)
       → record { answer = answer; buffers = after } ≡ normalizeOutcome settings tables words before
       → Normalizes settings tables words before answer after
-  unfolding normalizeOutcome
   normalizes answer after e = record {
     outcome = e;
     claim = subst (λ (o : Outcome). o .answer .refusal ≡ 0
-        → Claim tables words (o .answer .ty) (take (o .answer .length) (o .buffers .output))) (sym e) normalized-claims;
+        → Claim tables words (o .answer .ty) (take (o .answer .length) (o .buffers .output))) (sym e)
+        (handed-back (Claim tables words) λ x left u c a r.
+        claim tables words capacity settings x left u c (capacity-bounded before) a r);
   }

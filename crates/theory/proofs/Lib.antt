@@ -13,6 +13,10 @@ pub mod Grammar
 pub mod GrammarNormal
 pub mod GrammarTest
 pub mod KnownTypes
+pub mod TypedWords
+pub mod AcceptedAgain
+pub mod ReadInputs
+pub mod UnreadInputs
 pub mod NextInsertion
 pub mod NextReduction
 pub mod Operands

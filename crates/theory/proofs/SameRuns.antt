@@ -29,6 +29,7 @@ use Rattle.theory.proofs.SoundInsert.{sound₁}
 use Rattle.theory.proofs.SoundStep.{sound₃, sounds}
 use Rattle.reduction.proofs.Fits.{Root}
 use Rattle.reduction.proofs.Search.{one-step}
+use Rattle.reduction.proofs.AlongSequence.{in-either}
 use Rattle.theory.proofs.TypesKept.{step-typed, steps-typed}
 use Rattle.syntax.proofs.Sublists.{sublist-refl, sublist-join, sublist-skip, sublist-trans}
 use Rattle.theory.proofs.FunctionFree.{free-equal, has-rel, all-equal, all-have}
@@ -175,16 +176,6 @@ module _ (tables : Tables) (wf : Earlier tables) (pure : Term → Bool) (A : ℕ
       let a = drop-one t s e x r in
       let b = drops q (step-typed tables Ok pure Dropping t s e x) (a .ends) in
       record { d = b .d; ends = b .ends; sublist = sublist-trans (a .sublist) (b .sublist) }
-
-  in-either : (w : Term) (ss rs : List Stepped) {P : Term → Type 0} → ((z : Term) → z ∈ map (λ s. s .next) ss → P z)
-      → ((z : Term) → z ∈ map (λ s. s .next) rs → P z) → w ∈ map (λ s. s .next) (ss ++ rs) → P w
-  in-either w [] rs f g i = g w i
-  in-either w (s ∷ ss) rs {P} f g i = go i f (λ z j. in-either z ss rs (λ y k. f y (there k)) g j)
-    where
-      go : {y : Term} → y ∈ map (λ s. s .next) (s ∷ (ss ++ rs)) → ((z : Term) → z ∈ map (λ s. s .next) (s ∷ ss) → P z)
-          → ((z : Term) → z ∈ map (λ s. s .next) (ss ++ rs) → P z) → P y
-      go {y = y} here f r = f y here
-      go {y = y} (there j) f r = r y j
 
   pub same-runs : {u : Term} (q : Sequence pure t₀ u) → Has t₀ → SameRuns answer ρ t₀ u (beforeDropping pure q)
   same-runs {u} q x =

@@ -1,5 +1,5 @@
 -- What the checks accept has passed each of them; and a refusal is never 0.
-use mathlib.Core.Path.{_≡_, refl}
+use mathlib.Core.Path.{_≡_, refl, subst}
 use mathlib.Core.Bool.{Bool, true, false}
 use mathlib.Core.List.{List}
 use mathlib.Core.Option.{Option, some, none}
@@ -7,6 +7,7 @@ use lib.Dec.{T}
 use Prim.Native.Nat.{ℕ, suc}
 use Rattle.syntax.specs.Tables.{Tables}
 use Rattle.syntax.specs.Decoding.{decode}
+use Rattle.syntax.proofs.Options.{is-true}
 use Rattle.typing.specs.Infer.{infer}
 use Rattle.typing.specs.TableChecks.{lengthsFit, wellFormedTypes, distinct, wellFormedCalls, wellFormedInputs}
 use Rattle.typing.specs.TermChecks.{wellFormedWords, scoped}
@@ -82,3 +83,20 @@ elaborated limit tables words =
       in-scope = h;
       type = i;
     })
+
+pub accepted-passed : (limit : ℕ) (tables : Tables) (words : List ℕ) (x : TypedTerm) → elaborate limit tables words ≡ accepted x
+    → Passed limit tables words x
+accepted-passed limit tables words x e = at (subst (Verdicts (Passed limit tables words)) e (elaborated limit tables words))
+  where
+    at : Verdicts (Passed limit tables words) (accepted x) → Passed limit tables words x
+    at (passed p) = p
+
+-- and what has passed each of them is accepted
+pub passed-accepted : (limit : ℕ) (tables : Tables) (words : List ℕ) (x : TypedTerm) → Passed limit tables words x
+    → elaborate limit tables words ≡ accepted x
+unfolding elaborate wellFormedWords
+passed-accepted limit tables words x p =
+    rw (is-true (lengthsFit limit tables words) (p .lengths), is-true (wellFormedTypes 0 (tables .types)) (p .types),
+      is-true (distinct (tables .types)) (p .no-twice), is-true (wellFormedCalls tables) (p .calls),
+      is-true (wellFormedInputs tables) (p .inputs), is-true (wellFormedWords tables words) (p .words′), p .term,
+      is-true (scoped tables (x .term)) (p .in-scope), p .type)

@@ -13,7 +13,7 @@ use Rattle.syntax.proofs.Options.{and-last}
 use Rattle.typing.specs.TableChecks.{every}
 use Rattle.typing.specs.TermChecks.{below, scopedAt}
 
-every-append : {X : Type 0} (f : X → Bool) (xs ys : List X) → every f (xs ++ ys) ≡ (every f xs && every f ys)
+pub every-append : {X : Type 0} (f : X → Bool) (xs ys : List X) → every f (xs ++ ys) ≡ (every f xs && every f ys)
 every-append f [] ys = refl
 every-append f (x ∷ xs) ys = ap (λ (b : Bool). f x && b) (every-append f xs ys)
     ∙ sym (and-assoc (f x) (every f xs) (every f ys))

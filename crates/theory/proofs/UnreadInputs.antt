@@ -1,0 +1,83 @@
+-- Request P1's law: an input that a term does not read is read by no term of its reduction sequence, and stays unmarked for the words that
+-- `normalize` hands back. For a step uses no new variable.
+use mathlib.Core.Path.{_≡_, refl, sym, _∙_, ap, subst}
+use mathlib.Core.Bool.{Bool, true, false}
+use mathlib.Core.List.{List}
+use lib.Dec.{ltb}
+use lib.ListN.{take}
+use borrow.Author.Tests.{ltb-false}
+use Prim.Native.Nat.{ℕ, _≤_, _<_}
+use native.Mathlib.Omega.{arith}
+use Rattle.syntax.specs.Lists.{_∈_}
+use Rattle.syntax.specs.Tables.{Tables}
+use Rattle.syntax.specs.Term.{Term}
+use Rattle.syntax.specs.Encoding.{encode, size}
+use Rattle.syntax.specs.Values.{counts, uses}
+use Rattle.typing.specs.Refusals.{accepted, TypedTerm, elaborate, normalizeLimit, otherLimit}
+use Rattle.reduction.specs.MayDrop.{mayDrop}
+use Rattle.reduction.specs.Sequence.{Sequence, terms}
+use Rattle.reduction.specs.Reduction.{Counts, Settings, reached, reduce}
+use Rattle.reduction.proofs.Exact.{Exact, reduce-exact}
+use Rattle.reduction.proofs.StepUses.{step-uses}
+use Rattle.reduction.proofs.AlongSequence.{every-term}
+use Rattle.outcomes.specs.Marks.{markAt}
+use Rattle.outcomes.specs.FreeInputs.{reads, freeInputsOutcome}
+use Rattle.outcomes.specs.Normalize.{Buffers, capacityOf, normalizeOutcome}
+use Rattle.outcomes.specs.declared.FreeInputs.{FreeInputs}
+use Rattle.typing.proofs.Accepted.{accepted-passed}
+use Rattle.theory.proofs.ReadInputs.{accepted-marks, mark-reads}
+use Rattle.theory.proofs.AcceptedAgain.{accepted-longer, accepted-again}
+use Rattle.theory.proofs.ClaimHolds.{last, came}
+use Rattle.theory.proofs.ContractHolds.{capacity-bounded, handed-back}
+
+-- a term reads an input exactly if it uses its variable
+unread-unused : (t : Term) (i : ℕ) → reads t i ≡ false → uses t i ≡ 0
+unfolding reads
+unread-unused t i e = omega (arith, ltb-false 0 (uses t i) e)
+
+unused-unread : (t : Term) (i : ℕ) → uses t i ≡ 0 → reads t i ≡ false
+unfolding reads
+unused-unread t i e = ap (ltb 0) e
+
+-- every term of the sequence, and its last
+pub unread-between : (pure : Term → Bool) {t u : Term} (q : Sequence pure t u) (i : ℕ) → reads t i ≡ false
+    → ((w : Term) → w ∈ terms pure q → reads w i ≡ false) × (reads u i ≡ false)
+unread-between pure {t} {u} q i e =
+    let k = every-term pure (λ w. uses w i ≡ 0) (λ phase t s d z. step-uses pure phase t s d i z) q (unread-unused t i e) in
+    (λ w m. unused-unread w i (k .0 w m), unused-unread u i (k .1))
+
+-- what the marks of a term say of those of its normal form: the checks accept it too, and what is unmarked stays unmarked
+pub record StaysUnread (tables : Tables) (words result : List ℕ) : Type 0 where
+  pub accepted′ : freeInputsOutcome tables result .refusal ≡ 0
+  pub unread : (i : ℕ) → i < 256 → markAt (freeInputsOutcome tables words .marks) i ≡ 0
+      → markAt (freeInputsOutcome tables result .marks) i ≡ 0
+
+counts-false : (b : Bool) → counts b ≡ 0 → b ≡ false
+counts-false true e = absurd (omega (arith, e))
+counts-false false e = refl
+
+-- of a reduction that came through
+unread-came : (settings : Settings) (tables : Tables) (words : List ℕ) (before : Buffers) (x : TypedTerm) (left : ℕ) (u : Term)
+    (c : Counts) → elaborate normalizeLimit tables words ≡ accepted x
+    → reduce (mayDrop (tables .calls)) (capacityOf before) settings (x .term) ≡ reached left u c → StaysUnread tables words (encode u)
+unread-came settings tables words before x left u c e r =
+    let pure = mayDrop (tables .calls) in
+    let p = accepted-passed normalizeLimit tables words x e in
+    let g = came (subst (Exact pure (capacityOf before) (settings .budget) (x .term)) r (reduce-exact pure (capacityOf before) settings (x .term))) in
+    let z = last tables pure (x .type) (x .term) u (p .type) (g .sequence) in
+    let source = accepted-longer normalizeLimit otherLimit tables words x p (omega arith) in
+    let fits : size u ≤ otherLimit = omega (arith, g .fits, capacity-bounded before) in
+    let normal = accepted-again normalizeLimit otherLimit tables words x u p (z .type) fits (omega arith) in
+    record {
+      accepted′ = ap (λ (o : FreeInputs). o .refusal) (accepted-marks tables (encode u) _ normal);
+      unread = λ i l m.
+          let unread = counts-false (reads (x .term) i) (sym (mark-reads tables words x source i l) ∙ m) in
+          mark-reads tables (encode u) _ normal i l ∙ ap counts (unread-between pure (g .sequence) i unread .1);
+    }
+
+-- for every accepted outcome of `normalize`: an input unmarked for the source's words is unmarked for the normal form's words
+pub unread-stays : (settings : Settings) (tables : Tables) (words : List ℕ) (before : Buffers)
+    → let o = normalizeOutcome settings tables words before in
+    o .answer .refusal ≡ 0 → StaysUnread tables words (take (o .answer .length) (o .buffers .output))
+unread-stays settings tables words before =
+    handed-back settings tables words before (λ A result. StaysUnread tables words result) (unread-came settings tables words before)
