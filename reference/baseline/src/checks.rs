@@ -3,15 +3,21 @@
 use crate::depths::{part_count, Depths};
 use crate::nodes::{kind, number};
 use crate::typing::type_of;
-use oracle::checks::{Refusal, LONGEST_TO_NORMALIZE, MOST_CALLS, MOST_INPUTS, MOST_TYPES};
+use oracle::checks::{Refusal, MOST_CALLS, MOST_INPUTS, MOST_TYPES};
 use oracle::words::*;
 
-/// The term's type, or the refusal of the first place with a fault.
-pub fn examine(types: &[u64], calls: &[u64], inputs: &[u64], term: &[u64]) -> Result<u32, Refusal> {
+/// The type of a term of at most `longest` words, or the refusal of the first place with a fault.
+pub fn examine(
+    types: &[u64],
+    calls: &[u64],
+    inputs: &[u64],
+    term: &[u64],
+    longest: usize,
+) -> Result<u32, Refusal> {
     let lengths_fit = types.len() <= MOST_TYPES
         && calls.len() <= MOST_CALLS
         && inputs.len() <= MOST_INPUTS
-        && (1..=LONGEST_TO_NORMALIZE).contains(&term.len());
+        && (1..=longest).contains(&term.len());
     require(lengths_fit, Refusal::Lengths)?;
     let mut numbered_types = types.iter().enumerate();
     let types_fit = numbered_types.all(|(index, &word)| type_fits(word, index));

@@ -3,6 +3,7 @@
 
 mod checks;
 mod depths;
+mod free_inputs;
 mod measure;
 mod nodes;
 mod normalize;
@@ -14,5 +15,6 @@ mod typing;
 mod usage;
 mod walk;
 
+pub use free_inputs::free_inputs;
 pub use normalize::{normalize, normalize_and_measure};
 pub use respond::respond;

@@ -4,7 +4,7 @@ use crate::checks::examine;
 use crate::rewrite::Buffers;
 use crate::walk::{walk, Record};
 use oracle::api::{Answer, LARGEST_CAPACITY};
-use oracle::checks::Refusal;
+use oracle::checks::{Refusal, LONGEST_TO_NORMALIZE};
 
 /// Normalizes. The normal form fills the front of `output`, which is left unchanged on a refusal;
 /// the scratch buffers are zero afterwards.
@@ -43,7 +43,8 @@ pub fn normalize_and_measure(
         length: term.len(),
         stretch: second_scratch,
     };
-    let result = examine(types, calls, inputs, term).and_then(|type_number| {
+    let checked = examine(types, calls, inputs, term, LONGEST_TO_NORMALIZE);
+    let result = checked.and_then(|type_number| {
         if term.len() > capacity {
             return Err(Refusal::Capacity);
         }

@@ -1,11 +1,12 @@
 //! A second implementation of the three-phase normalizer (the papers' recipe flattener), on trees.
-//! It is the oracle of the tests: plain rather than fast, and written from papers 00 and 01 alone.
+//! It is the oracle of the tests: plain rather than fast, and written from the papers alone.
 
 pub mod api;
 pub mod bundle;
 pub mod checks;
 pub mod coding;
 pub mod deep_stack;
+pub mod free_inputs;
 pub mod listing;
 pub mod normal_form;
 pub mod reduction;

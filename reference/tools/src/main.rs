@@ -16,6 +16,7 @@ use tools::definitions::repository::write_repository;
 use tools::examples::files;
 use tools::lines::bundles::bundle_line;
 use tools::lines::cases::case_line;
+use tools::lines::inputs::inputs_line;
 use tools::lines::runs::run_line;
 use tools::random::Random;
 use tools::show::legend::Legend;
@@ -30,10 +31,11 @@ const USAGE: &str = "usage: reference SUBCOMMAND
   cases SEED COUNT    lines of small cases with their answers
   bundles SEED COUNT  lines of small bundles with their listings
   runs SEED COUNT     lines of small terms with a run of each
+  inputs SEED COUNT   lines of short terms over up to 256 inputs, with those they read
   definitions REPOSITORY DIR SEED COUNT
                       the definitions of REPOSITORY/crates checked against such lines by rt, in a
                       repository written into DIR: COUNT cases, a fifth as many bundles, a quarter
-                      as many runs
+                      as many runs, a fifth as many of inputs
   examples REPOSITORY the examples written into REPOSITORY/examples and REPOSITORY/docs/pictures
   corpus STDIN STDOUT the records of a test program, and what it writes
   bench [--plot FILE] times on the named shapes as a table, and as an SVG plot (release build)
@@ -70,6 +72,7 @@ fn dispatch(arguments: &[String]) -> io::Result<bool> {
         ["cases", seed, count] => print_lines(seed, count, case_line),
         ["bundles", seed, count] => print_lines(seed, count, bundle_line),
         ["runs", seed, count] => print_lines(seed, count, run_line),
+        ["inputs", seed, count] => print_lines(seed, count, inputs_line),
         ["examples", repository] => write_examples(Path::new(repository)),
         ["corpus", input, output] => write_corpus(Path::new(input), Path::new(output)),
         ["bench"] => bench(None),

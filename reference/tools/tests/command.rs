@@ -73,13 +73,25 @@ fn cases_cover_all_refusals() {
     let mut refusals = HashSet::new();
     for line in &lines {
         let fields: Vec<&str> = line.split(';').collect();
-        assert_eq!(fields.len(), 17);
+        assert_eq!(fields.len(), 20);
         let length: usize = fields[10].parse().expect("a length");
         assert_eq!(fields[11].split_whitespace().count(), 10);
         assert_eq!(fields[12].split_whitespace().count(), length);
         refusals.insert(fields[8].parse::<u32>().expect("a refusal number"));
+        assert_eq!(fields[17], fields[13]);
+        assert_eq!(fields[18].parse(), Ok(marks_set(fields[19])));
     }
     assert_eq!(refusals, (0..12).collect());
+}
+
+/// How many bits are set in four words.
+fn marks_set(marks: &str) -> u32 {
+    let words: Vec<u64> = marks
+        .split_whitespace()
+        .map(|word| word.parse().expect("a word"))
+        .collect();
+    assert_eq!(words.len(), 4);
+    words.iter().map(|word| word.count_ones()).sum()
 }
 
 #[test]
@@ -103,6 +115,28 @@ fn runs_have_seven_fields() {
     let with_calls = lines.iter().filter(|line| line.contains(':')).count();
     assert!(with_calls > 200);
     assert!(lines.iter().all(|line| !line.contains('f')));
+}
+
+#[test]
+fn inputs_are_few_and_many() {
+    let lines = lines(&["inputs", "1", "1000"]);
+    assert_eq!(lines.len(), 1000);
+    let (mut refusals, mut lengths) = (HashSet::new(), HashSet::new());
+    let mut marks = 0;
+    for line in &lines {
+        let fields: Vec<&str> = line.split(';').collect();
+        assert_eq!(fields.len(), 7);
+        lengths.insert(fields[2].split_whitespace().count());
+        assert!(fields[3].split_whitespace().count() <= 40);
+        refusals.insert(fields[4].parse::<u32>().expect("a refusal number"));
+        assert_eq!(fields[5].parse(), Ok(marks_set(fields[6])));
+        marks += marks_set(fields[6]);
+    }
+    assert_eq!(refusals, (0..10).collect());
+    assert!([0, 1, 63, 64, 65, 128, 255, 256]
+        .iter()
+        .all(|length| lengths.contains(length)));
+    assert!(marks > 1000, "{marks} marks");
 }
 
 #[test]

@@ -1,7 +1,7 @@
 //! The corpus: what it covers, that both implementations answer it alike, and that the committed
 //! files are the generated ones.
 
-use tools::corpus::answers::{answer, normalize_line};
+use tools::corpus::answers::{answer, free_inputs_line, normalize_line};
 use tools::corpus::contents::records;
 use tools::corpus::corpus;
 use tools::corpus::records::Record;
@@ -45,12 +45,14 @@ fn every_refusal_of_every_call_is_covered() {
             ["normal", "0", "1"] => seen.insert(("normal form", 0)),
             ["normal", refusal, _] => seen.insert(("normal", number(refusal))),
             ["normalize", refusal, ..] => seen.insert(("normalize", number(refusal))),
+            ["inputs", refusal, ..] => seen.insert(("free_inputs", number(refusal))),
             _ => false,
         };
     }
     let mut expected = BTreeSet::from([("normal form", 0)]);
     expected.extend((0..10).flat_map(|refusal| [("check", refusal), ("normal", refusal)]));
     expected.extend((0..12).map(|refusal| ("normalize", refusal)));
+    expected.extend((0..10).map(|refusal| ("free_inputs", refusal)));
     // The program's budget is too large to be spent in a short test.
     let of_program = (0..13).filter(|&refusal| refusal != 10);
     expected.extend(of_program.map(|refusal| ("respond", refusal)));
@@ -68,6 +70,9 @@ fn words_answer_alike() {
             Record::Respond(bundle) => baseline::respond(bundle),
             Record::Normalize(sample, limits) => {
                 normalize_line(baseline::normalize, sample, *limits).into_bytes()
+            }
+            Record::FreeInputs(sample) => {
+                free_inputs_line(baseline::free_inputs, sample).into_bytes()
             }
             _ => continue,
         };

@@ -4,6 +4,7 @@ use std::path::{Path, PathBuf};
 use std::{env, fs, process};
 use tools::definitions::bundles;
 use tools::definitions::cases;
+use tools::definitions::inputs;
 use tools::definitions::opened::unfoldable_names;
 use tools::definitions::repository::write_repository;
 use tools::definitions::runs;
@@ -29,12 +30,13 @@ fn a_repository_is_written_into_an_empty_folder_outside() {
     assert!(figures.starts_with("cases: 60 rows; "));
     assert!(figures.contains("bundles: 12 rows; "));
     assert!(figures.contains("runs: 15 rows; "));
+    assert!(figures.contains("inputs: 12 rows; "));
 
     let crosscheck = folder.join("crates/crosscheck");
     let text = |name: &str| fs::read_to_string(crosscheck.join(name)).expect("a module");
     assert_eq!(
         text("proofs/Lib.antt"),
-        "pub mod Cases1\npub mod Cases2\npub mod Bundles1\npub mod Runs1\n"
+        "pub mod Cases1\npub mod Cases2\npub mod Bundles1\npub mod Runs1\npub mod Inputs1\n"
     );
     assert_eq!(text("proofs/Cases1.antt").matches("record {").count(), 50);
     assert_eq!(text("proofs/Cases2.antt").matches("record {").count(), 10);
@@ -67,7 +69,9 @@ unfoldable pub seventh : A
 
 #[test]
 fn a_row_has_what_the_line_says() {
-    let row = cases::row("0 1073741824;;1;0;7;8;9;10;0;1;2;1 2;11 12;0;1;0;1");
+    let row = cases::row(
+        "0 1073741824;;1;0;7;8;9;10;0;1;2;1 2;11 12;0;1;0;1;0;1;9223372036854775808 0 0 0",
+    );
     for field in [
         "types = 0 ∷ 1073741824 ∷ [];",
         "calls = [];",
@@ -77,6 +81,8 @@ fn a_row_has_what_the_line_says() {
         "normalForm = 11 ∷ 12 ∷ [];",
         "unchanged = 6;",
         "checkRefusal = 0; checkType = 1; normalRefusal = 0; yes = true;",
+        "inputsRefusal = 0; inputsCount = 1;",
+        "inputsMarks = 9223372036854775808 ∷ 0 ∷ 0 ∷ 0 ∷ [];",
         "nodeTypes′ = some (1 ∷ []);",
         "insertions = 1;",
     ] {
@@ -84,6 +90,14 @@ fn a_row_has_what_the_line_says() {
     }
     let row = bundles::row("00ff;6e0a");
     assert!(row.contains("bundle = 0 ∷ 255 ∷ [];") && row.contains("written = 110 ∷ 10 ∷ [];"));
+    let row = inputs::row("0;;0;0;3;2;4 5 6 7");
+    for field in [
+        "inputs = 0 ∷ [];",
+        "inputsRefusal = 3; inputsCount = 2;",
+        "inputsMarks = 4 ∷ 5 ∷ 6 ∷ 7 ∷ [];",
+    ] {
+        assert!(row.contains(field), "{field}");
+    }
     let row = runs::row("0;0;0;0;n 1 p l n 2 r n 3;n 4;1:|0:n 5,n 6");
     for field in [
         "values = (also (num 1) (also (tuple (left (num 2)) (right (num 3))) empty));",

@@ -1,12 +1,14 @@
 //! What the test program writes for a record.
 //!
 //! Call 0: the listing. Call 1: `check REFUSAL TYPE`. Call 2: `normal REFUSAL YES`, where YES is 0
-//! or 1. Call 3: `normalize REFUSAL TYPE LENGTH`, ten counts and a digest of the buffers.
+//! or 1. Call 3: `normalize REFUSAL TYPE LENGTH`, ten counts and a digest of the buffers. Call 4:
+//! `inputs REFUSAL COUNT` and the four words of marks, sixteen hexadecimal digits each.
 
 use super::records::Record;
 use crate::generate::limits::Limits;
 use crate::generate::Sample;
 use oracle::api::{normalize, Normalize};
+use oracle::free_inputs::{free_inputs, FindFreeInputs};
 use oracle::listing::respond;
 
 /// The bytes written for a record.
@@ -24,6 +26,7 @@ pub fn answer(record: &Record) -> Vec<u8> {
         Record::Normalize(sample, limits) => {
             normalize_line(normalize, sample, *limits).into_bytes()
         }
+        Record::FreeInputs(sample) => free_inputs_line(free_inputs, sample).into_bytes(),
     }
 }
 
@@ -43,6 +46,16 @@ pub fn normalize_line(normalize: Normalize, sample: &Sample, limits: Limits) -> 
         answer.type_number,
         answer.length,
         digest(buffers.iter().flatten())
+    )
+}
+
+/// The line for call 4, by any implementation of it.
+pub fn free_inputs_line(free_inputs: FindFreeInputs, sample: &Sample) -> String {
+    let answer = sample.free_inputs(free_inputs);
+    let [first, second, third, fourth] = answer.marks;
+    format!(
+        "inputs {} {} {first:016x} {second:016x} {third:016x} {fourth:016x}\n",
+        answer.refusal, answer.count
     )
 }
 

@@ -18,6 +18,8 @@ pub enum Record {
     IsNormal(Sample),
     /// Call 3.
     Normalize(Sample, Limits),
+    /// Call 4.
+    FreeInputs(Sample),
 }
 
 const NO_LIMITS: Limits = Limits {
@@ -37,6 +39,7 @@ impl Record {
             Record::Check(sample) => write_tables(bytes, 1, NO_LIMITS, sample),
             Record::IsNormal(sample) => write_tables(bytes, 2, NO_LIMITS, sample),
             Record::Normalize(sample, limits) => write_tables(bytes, 3, *limits, sample),
+            Record::FreeInputs(sample) => write_tables(bytes, 4, NO_LIMITS, sample),
         }
     }
 }

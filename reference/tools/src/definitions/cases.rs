@@ -1,5 +1,5 @@
-//! Rows of the lines of `cases`: the answers of normalize, check and is_normal, with the buffers,
-//! and the types of all nodes.
+//! Rows of the lines of `cases`: the answers of normalize, check, is_normal and free_inputs, with the
+//! buffers, and the types of all nodes.
 
 use super::notation::{list, words};
 use super::tables::Table;
@@ -8,7 +8,7 @@ use oracle::typing::node_types;
 
 /// What the definitions make of a row, and what the line says.
 const MEANING: &str = "\
--- A line of `cases`: tables and term, what normalize is lent, and the answers of normalize, check and is_normal.
+-- A line of `cases`: tables and term, what normalize is lent, and the answers of normalize, check, is_normal and free_inputs.
 use Prim.Native.Nat.{ℕ, zero, suc}
 use mathlib.Core.Bool.{Bool, false}
 use mathlib.Core.List.{List, _++_}
@@ -22,9 +22,11 @@ use Rattle.reduction.specs.MayDrop.{mayDrop}
 use Rattle.reduction.specs.Grammar.{inGrammar}
 use Rattle.outcomes.specs.declared.Checked.{Checked}
 use Rattle.outcomes.specs.declared.Tested.{Tested}
+use Rattle.outcomes.specs.declared.FreeInputs.{FreeInputs}
 use Rattle.outcomes.specs.Normalize.{Outcome, normalizeOutcome}
 use Rattle.outcomes.specs.Check.{checkOutcome}
 use Rattle.outcomes.specs.IsNormal.{isNormalOutcome}
+use Rattle.outcomes.specs.FreeInputs.{freeInputsOutcome}
 
 pub record Row : Type 0 where
   pub types : List ℕ
@@ -43,11 +45,14 @@ pub record Row : Type 0 where
   pub counts : List ℕ
   pub normalForm : List ℕ
   pub unchanged : ℕ
-  -- the answers of check and is_normal
+  -- the answers of check, is_normal and free_inputs
   pub checkRefusal : ℕ
   pub checkType : ℕ
   pub normalRefusal : ℕ
   pub yes : Bool
+  pub inputsRefusal : ℕ
+  pub inputsCount : ℕ
+  pub inputsMarks : List ℕ
   -- the types of all nodes of a term that passes the checks, and the steps of phase 1 of one that is normalized (else 0)
   pub nodeTypes′ : Option (List ℕ)
   pub insertions : ℕ
@@ -57,6 +62,7 @@ pub record Result : Type 0 where
   pub outcome : Outcome
   pub checked : Checked
   pub tested : Tested
+  pub freeInputs : FreeInputs
   pub grammar : Bool
   pub nodeTypes′ : Option (List ℕ)
   pub insertions : ℕ
@@ -101,6 +107,7 @@ computed x = record {
   outcome = outcomeOf x;
   checked = checkOutcome (tablesOf x) (x .term);
   tested = isNormalOutcome (tablesOf x) (x .term);
+  freeInputs = freeInputsOutcome (tablesOf x) (x .term);
   grammar = grammarOf (x .calls) (elaborated x);
   nodeTypes′ = nodeTypesOf (tablesOf x) (elaborated x);
   insertions = unless (outcomeOf x .answer .refusal) (pendingOf (elaborated x));
@@ -118,6 +125,7 @@ expected x = record {
   };
   checked = record { refusal = x .checkRefusal; ty = x .checkType };
   tested = record { refusal = x .normalRefusal; normal = x .yes };
+  freeInputs = record { refusal = x .inputsRefusal; marks = x .inputsMarks; count = x .inputsCount };
   grammar = x .yes;
   nodeTypes′ = x .nodeTypes′;
   insertions = x .insertions;
@@ -138,10 +146,10 @@ pub fn table(lines: &[String]) -> Table {
 /// The row of a line.
 pub fn row(line: &str) -> String {
     let fields: Vec<&str> = line.split(';').collect();
-    let [types, calls, inputs, term, budget, output, first_scratch, second_scratch, refusal, type_number, length, counts, normal_form, check_refusal, check_type, normal_refusal, normal_yes] =
+    let [types, calls, inputs, term, budget, output, first_scratch, second_scratch, refusal, type_number, length, counts, normal_form, check_refusal, check_type, normal_refusal, normal_yes, inputs_refusal, inputs_count, inputs_marks] =
         fields[..]
     else {
-        panic!("a line of cases has seventeen fields");
+        panic!("a line of cases has twenty fields");
     };
     let unchanged = number(output) - number(length);
     let yes = normal_yes == "1";
@@ -158,6 +166,7 @@ pub fn row(line: &str) -> String {
     };
     let (types, calls, inputs, term) = (words(types), words(calls), words(inputs), words(term));
     let (counts, normal_form) = (words(counts), words(normal_form));
+    let inputs_marks = words(inputs_marks);
     format!(
         "record {{
       types = {types};
@@ -170,6 +179,8 @@ pub fn row(line: &str) -> String {
       normalForm = {normal_form};
       unchanged = {unchanged};
       checkRefusal = {check_refusal}; checkType = {check_type}; normalRefusal = {normal_refusal}; yes = {yes};
+      inputsRefusal = {inputs_refusal}; inputsCount = {inputs_count};
+      inputsMarks = {inputs_marks};
       nodeTypes′ = {node_types};
       insertions = {insertions};
     }}"

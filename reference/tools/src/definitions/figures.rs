@@ -56,6 +56,33 @@ pub fn run_figures(lines: &[String]) -> String {
     )
 }
 
+/// Of lines of `inputs`: refusals, and the marks of the accepted ones.
+pub fn inputs_figures(lines: &[String]) -> String {
+    let fields: Vec<Vec<&str>> = lines.iter().map(|line| line.split(';').collect()).collect();
+    let refusals = tally(fields.iter().map(|fields| fields[4]));
+    let accepted = || fields.iter().filter(|fields| fields[4] == "0");
+    let counts = || accepted().map(|fields| fields[5].parse::<usize>().expect("a count"));
+    let greatest = accepted().filter_map(|fields| last_marked(fields[6])).max();
+    format!(
+        "inputs: {} rows; {refusals}\nof the accepted {} have no mark; {} marks are set; the greatest \
+         input marked is {}\n",
+        lines.len(),
+        counts().filter(|&count| count == 0).count(),
+        counts().sum::<usize>(),
+        greatest.map_or(String::from("-"), |input| input.to_string())
+    )
+}
+
+/// The greatest input that the four words mark.
+fn last_marked(marks: &str) -> Option<u32> {
+    let words = marks
+        .split_whitespace()
+        .map(|word| word.parse::<u64>().expect("a word"));
+    let marked = (0..).zip(words).filter(|&(_, word)| word != 0);
+    let last = marked.map(|(index, word)| 64 * index + 63 - word.trailing_zeros());
+    last.last()
+}
+
 /// How often each refusal number occurs.
 fn tally<'a>(refusals: impl Iterator<Item = &'a str>) -> String {
     let mut counts = [0; 13];

@@ -2,11 +2,12 @@
 
 use super::copy::{copy_folder, make_empty_folder_outside};
 use super::crosscheck::write_crosscheck;
-use super::figures::{bundle_figures, case_figures, run_figures};
+use super::figures::{bundle_figures, case_figures, inputs_figures, run_figures};
 use super::opened::opened_definitions;
-use super::{bundles, cases, runs};
+use super::{bundles, cases, inputs, runs};
 use crate::lines::bundles::bundle_line;
 use crate::lines::cases::case_line;
+use crate::lines::inputs::inputs_line;
 use crate::lines::runs::run_line;
 use crate::random::Random;
 use std::fs;
@@ -26,6 +27,7 @@ pub fn write_repository(
     let cases = lines_of(case_line, seed, count);
     let bundles = lines_of(bundle_line, seed, count.div_ceil(5));
     let runs = lines_of(run_line, seed, count.div_ceil(4));
+    let inputs = lines_of(inputs_line, seed, count.div_ceil(5));
 
     make_empty_folder_outside(folder, repository)?;
     let crates = folder.join("crates");
@@ -41,6 +43,7 @@ pub fn write_repository(
         cases::table(&cases),
         bundles::table(&bundles),
         runs::table(&runs),
+        inputs::table(&inputs),
     ];
     write_crosscheck(&crates.join("crosscheck"), &opened, seed, &tables)?;
 
@@ -48,6 +51,7 @@ pub fn write_repository(
         case_figures(&cases),
         bundle_figures(&bundles),
         run_figures(&runs),
+        inputs_figures(&inputs),
     ]
     .concat())
 }

@@ -2,6 +2,7 @@
 
 use super::Sample;
 use oracle::api::{self, Answer, CheckAnswer, NormalAnswer, Normalize};
+use oracle::free_inputs::{FindFreeInputs, FreeInputs};
 
 impl Sample {
     pub fn check(&self) -> CheckAnswer {
@@ -10,6 +11,11 @@ impl Sample {
 
     pub fn is_normal(&self) -> NormalAnswer {
         api::is_normal(&self.types, &self.calls, &self.inputs, &self.term)
+    }
+
+    /// Any implementation of free_inputs.
+    pub fn free_inputs(&self, free_inputs: FindFreeInputs) -> FreeInputs {
+        free_inputs(&self.types, &self.calls, &self.inputs, &self.term)
     }
 
     /// Any implementation of normalize, over the output and the two scratch buffers.

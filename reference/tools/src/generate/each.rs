@@ -1,5 +1,6 @@
 //! A test on many random samples.
 
+use super::inputs::{sample_of_inputs, INPUT_COUNTS};
 use super::terms::random_sample;
 use super::{Profile, Sample};
 use crate::random::Random;
@@ -17,6 +18,23 @@ pub fn each_random_sample(
         for _ in 0..count {
             let fuel = random.between(1, most_fuel);
             let sample = random_sample(&mut random, &Profile::of_size(fuel));
+            test(&mut random, sample);
+        }
+    });
+}
+
+/// The same with 0 to 256 inputs, by turns.
+pub fn each_sample_of_inputs(
+    seed: u64,
+    count: usize,
+    most_fuel: usize,
+    mut test: impl FnMut(&mut Random, Sample) + Send,
+) {
+    with_deep_stack(|| {
+        let mut random = Random::new(seed);
+        for inputs in INPUT_COUNTS.into_iter().cycle().take(count) {
+            let profile = Profile::of_size(random.between(1, most_fuel));
+            let sample = sample_of_inputs(&mut random, &profile, inputs);
             test(&mut random, sample);
         }
     });

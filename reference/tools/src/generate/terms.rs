@@ -1,6 +1,6 @@
 //! Well-typed random terms, built from a goal type downwards.
 
-use super::tables::{random_call, random_tables, usable_types};
+use super::tables::{random_call, random_tables, usable_types, TableWords};
 use super::{Profile, Sample};
 use crate::random::Random;
 use oracle::coding::encode;
@@ -9,7 +9,12 @@ use oracle::term::Term;
 
 /// A random well-typed sample.
 pub fn random_sample(random: &mut Random, profile: &Profile) -> Sample {
-    let mut words = random_tables(random, profile);
+    let words = random_tables(random, profile);
+    random_sample_over(random, profile, words)
+}
+
+/// A random well-typed sample over these tables, in which every type is inhabited.
+pub fn random_sample_over(random: &mut Random, profile: &Profile, mut words: TableWords) -> Sample {
     let goals = usable_types(&words.types, profile.first_order);
     let tables = Tables::from_words(&words.types, &words.calls, &words.inputs)
         .expect("generated tables decode");

@@ -1,14 +1,17 @@
-//! Lines of `cases SEED COUNT`: small samples with the answers of normalize, check and is_normal.
+//! Lines of `cases SEED COUNT`: small samples with the answers of normalize, check, is_normal and
+//! free_inputs.
 //!
 //! One case a line, fields separated by `;`, lists of decimal words separated by spaces:
 //!
 //! `types;calls;inputs;term;budget;output_length;first_scratch_length;second_scratch_length;
-//! refusal;type;length;counts;normal_form;check_refusal;check_type;normal_refusal;normal_yes`
+//! refusal;type;length;counts;normal_form;check_refusal;check_type;normal_refusal;normal_yes;
+//! inputs_refusal;inputs_count;inputs_marks`
 //!
 //! (in one line). The four tables come first; then what normalize is lent; then its answer, with
-//! ten counts and the normal form's words (empty unless accepted); then the answers of check and
-//! of is_normal (0 or 1) on the same tables and term. The output and the scratch buffers are as
-//! long as the line says; on acceptance the normal form fills the output's front.
+//! ten counts and the normal form's words (empty unless accepted); then the answers of check, of
+//! is_normal (0 or 1) and of free_inputs (the marks are four words) on the same tables and term.
+//! The output and the scratch buffers are as long as the line says; on acceptance the normal form
+//! fills the output's front.
 
 use super::{spaced, LONGEST_TERM};
 use crate::generate::damage::{apply_damages, Damage, DAMAGES};
@@ -16,6 +19,7 @@ use crate::generate::terms::random_sample;
 use crate::generate::{Profile, Sample};
 use crate::random::Random;
 use oracle::api::normalize;
+use oracle::free_inputs::free_inputs;
 use oracle::reduction::sequence;
 use oracle::term::Term;
 
@@ -164,6 +168,7 @@ fn line(sample: &Sample, limits: &Limits) -> String {
     let answer = sample.normalize(normalize, limits.budget as u32, &mut buffers);
     let checked = sample.check();
     let normal = sample.is_normal();
+    let read = sample.free_inputs(free_inputs);
     [
         spaced(types),
         spaced(calls),
@@ -182,6 +187,9 @@ fn line(sample: &Sample, limits: &Limits) -> String {
         checked.type_number.to_string(),
         normal.refusal.to_string(),
         u8::from(normal.normal).to_string(),
+        read.refusal.to_string(),
+        read.count.to_string(),
+        spaced(read.marks),
     ]
     .join(";")
 }

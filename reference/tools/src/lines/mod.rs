@@ -2,6 +2,7 @@
 
 pub mod bundles;
 pub mod cases;
+pub mod inputs;
 pub mod runs;
 
 use std::fmt::Display;

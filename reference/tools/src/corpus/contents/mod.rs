@@ -2,6 +2,7 @@
 
 mod accepted;
 mod boundaries;
+mod free_inputs;
 mod limits;
 mod refused;
 
@@ -28,6 +29,9 @@ pub fn records() -> Vec<Record> {
         contents.limits_at_their_edge();
         contents.refused();
         contents.boundaries();
+        // What comes later draws numbers of its own, and the records above stay as they are.
+        contents.random = Random::new(2027);
+        contents.free_inputs();
         contents.records
     })
 }
@@ -38,7 +42,7 @@ struct Contents {
 }
 
 impl Contents {
-    /// A record for each of the four calls.
+    /// A record for each of the calls 0 to 3.
     fn all_calls(&mut self, sample: &Sample, limits: Limits) {
         self.respond(sample.bundle());
         self.check(sample);
@@ -56,6 +60,10 @@ impl Contents {
 
     fn is_normal(&mut self, sample: &Sample) {
         self.records.push(Record::IsNormal(sample.clone()));
+    }
+
+    fn free_inputs_of(&mut self, sample: &Sample) {
+        self.records.push(Record::FreeInputs(sample.clone()));
     }
 
     fn normalize(&mut self, sample: &Sample, limits: Limits) {

@@ -1,0 +1,56 @@
+//! Lines of `inputs SEED COUNT`: short terms over up to 256 inputs, with the answer of free_inputs.
+//!
+//! One term a line: `types;calls;inputs;term;refusal;count;marks`. The tables and the four words of
+//! marks are decimal words separated by spaces. Terms are well typed, with few or many inputs, or
+//! have a fault (1 to 9).
+
+use super::cases::damaged_sample;
+use super::spaced;
+use crate::generate::inputs::{random_reading, sample_of_inputs, INPUT_COUNTS};
+use crate::generate::{Profile, Sample};
+use crate::random::Random;
+use oracle::free_inputs::free_inputs;
+
+/// The longest term in a line, in words.
+const LONGEST_TERM: usize = 40;
+
+/// The line of one random term.
+pub fn inputs_line(random: &mut Random) -> String {
+    let sample = short(random);
+    let answer = sample.free_inputs(free_inputs);
+    [
+        spaced(&sample.types),
+        spaced(&sample.calls),
+        spaced(&sample.inputs),
+        spaced(&sample.term),
+        answer.refusal.to_string(),
+        answer.count.to_string(),
+        spaced(answer.marks),
+    ]
+    .join(";")
+}
+
+/// A sample with a term of at most 40 words.
+fn short(random: &mut Random) -> Sample {
+    loop {
+        let sample = match random.below(8) {
+            0..3 => {
+                let count = *random.pick(&INPUT_COUNTS);
+                sample_of_inputs(random, &Profile::SMALL, count)
+            }
+            3..6 => random_reading(random, 4, 5).sample,
+            6 => damaged_sample(random),
+            _ => with_a_wrong_variable(random),
+        };
+        if sample.term.len() <= LONGEST_TERM {
+            return sample;
+        }
+    }
+}
+
+/// A sample with many inputs, one of which is taken away: a variable may name none then.
+fn with_a_wrong_variable(random: &mut Random) -> Sample {
+    let mut sample = random_reading(random, 4, 5).sample;
+    sample.inputs.pop();
+    sample
+}
