@@ -1,7 +1,7 @@
 /*
  * The verified normalizer for small typed functional terms, for C and C++ on x86-64 Linux.
  * Link target/staticlib/libexports.a, which `rt staticlib exports` proves and writes.
- * docs/CONTRACTS.md says in full what the two calls promise.
+ * docs/CONTRACTS.md says in full what the three calls promise.
  *
  * What a caller owes, for each pointer and the length that follows it (in elements, not bytes):
  * - The pointer is aligned for its type and valid for that many elements, for the whole call.
@@ -12,7 +12,7 @@
  * Nothing tests this. Nothing else is owed: a slice may have any length and hold anything, and
  * bad input is refused by number.
  *
- * What holds for both calls: they return, and read and write no memory but the slices and the
+ * What holds for all calls: they return, and read and write no memory but the slices and the
  * stack. They keep nothing between calls, so threads may make them at the same time.
  * They use the stack of their thread, the more the deeper a term nests. The least that was enough
  * for the deepest term: 1,028 KiB for flatten_respond, 772 KiB for flatten_normalize
@@ -34,6 +34,9 @@ extern "C" {
 
 /* The number of rules, and so of counts in an answer. */
 #define FLATTEN_RULES 10
+
+/* The number of words that hold the marks of 256 inputs. */
+#define FLATTEN_MARK_WORDS 4
 
 /*
  * The answer of flatten_normalize.
@@ -59,6 +62,20 @@ struct flatten_answer {
     uint64_t type;
     size_t length;
     uint32_t counts[FLATTEN_RULES];
+};
+
+/*
+ * The answer of flatten_free_inputs.
+ *
+ * refusal  0 where the term is accepted, else 1 to 9 as above; but 1 is for over 8,192 term words
+ * marks    a mark for each input: that of input i is bit 63 - i % 64 of marks[i / 64], so that
+ *          input 0 has the highest bit of the first word; all zero where the term is refused
+ * count    how many marks are set
+ */
+struct flatten_inputs {
+    uint32_t refusal;
+    uint64_t marks[FLATTEN_MARK_WORDS];
+    uint32_t count;
 };
 
 /*
@@ -88,6 +105,18 @@ struct flatten_answer flatten_normalize(
     uint64_t *output, size_t output_length,
     uint64_t *first, size_t first_length,
     uint64_t *second, size_t second_length);
+
+/*
+ * Marks the inputs that occur free in a term: an input is marked exactly if some variable of the
+ * term names it, be it in a let that is not used, in a function that is never applied, or in a
+ * branch that is never taken. An input that is not marked for a term is not marked for its normal
+ * form. Nothing is written but the answer.
+ */
+struct flatten_inputs flatten_free_inputs(
+    const uint64_t *types, size_t types_length,
+    const uint64_t *calls, size_t calls_length,
+    const uint64_t *inputs, size_t inputs_length,
+    const uint64_t *term, size_t term_length);
 
 #ifdef __cplusplus
 }

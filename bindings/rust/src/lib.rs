@@ -16,14 +16,31 @@
 //! # Ok::<(), flatten::Refused>(())
 //! ```
 //!
+//! `free_inputs` says which inputs a term reads:
+//!
+//! ```
+//! use flatten::{free_inputs, Tables};
+//!
+//! // let v1, v2: the let is not used.
+//! let tables = Tables { types: &[0], calls: &[], inputs: &[0, 0, 0] };
+//! let free = free_inputs(tables, &[4 << 60, 1 << 30, 3 << 30])?;
+//!
+//! assert_eq!(free.marks, [0x6000_0000_0000_0000, 0, 0, 0]);
+//! assert_eq!(free.count, 2);
+//! # Ok::<(), flatten::Refused>(())
+//! ```
+//!
 //! The calls use the stack of their thread, the more the deeper a term nests. The least that was
 //! enough for the deepest term: 1,028 KiB for `respond`, 772 KiB for `normalize` (tests/depth.rs).
 //! A thread's default of 2 MiB is enough. A stack that is too small ends the process.
 
+mod free_inputs;
+mod inputs;
 mod normalize;
 mod refused;
 mod respond;
 
+pub use inputs::{free_inputs, FreeInputs};
 pub use normalize::{normalize, Buffers, Counts, Normal, Tables};
 pub use refused::Refused;
 pub use respond::{respond, MOST_WRITTEN};

@@ -1,4 +1,4 @@
-//! What `normalize` answers where it refuses.
+//! What `normalize` and `free_inputs` answer where they refuse.
 
 use crate::Counts;
 use std::error::Error;
@@ -7,7 +7,7 @@ use std::fmt;
 /// A refusal.
 #[derive(Clone, Copy, Debug, PartialEq, Eq)]
 pub struct Refused {
-    /// 1 to 9 for a check, 10 for the budget, 11 for the capacity.
+    /// 1 to 9 for a check; by `normalize` also 10 for the budget, 11 for the capacity.
     pub number: u32,
     /// The steps taken until then: all zero for a check.
     pub counts: Counts,

@@ -2,7 +2,7 @@
 //! FLATTEN_STACK_KIB says. `respond` needs 256 KiB more than `normalize`: it has the buffers on the
 //! stack too.
 
-use flatten::{normalize, respond, Buffers, Tables};
+use flatten::{free_inputs, normalize, respond, Buffers, Tables};
 use std::{env, thread};
 
 const STACK_KIB: usize = 2048;
@@ -105,4 +105,25 @@ fn nested_arguments() {
     let normal = on_small_stack(|| normalize(tables, &term, 1000, buffers));
     assert_eq!(normal.expect("a normal form").words.len(), 8175);
     assert_eq!(status(tables, &term), "ok 1 8175 1 0 0 2 0 0 0 0 2 0");
+}
+
+/// `d (d (… v0))` and `(λ. (λ. … d v0) v0) v0`: 8,192 words are the most that `free_inputs` takes.
+#[test]
+fn nested_reads() {
+    let levels = 2730;
+    let mut calls = vec![word(1, 1, 0); 8191];
+    calls.push(word(0, 0, 0));
+    let mut functions = [word(3, 0, 0), word(2, 0, 1)].repeat(levels);
+    functions.extend([word(1, 1, 0), word(0, levels as u64, 0)]);
+    functions.extend((0..levels as u64).rev().map(|binders| word(0, binders, 0)));
+    let tables = Tables {
+        types: &[0, word(1, 0, 0)],
+        calls: &[0, word(1, 0, 0)],
+        inputs: &[0],
+    };
+    for term in [calls, functions] {
+        assert_eq!(term.len(), 8192);
+        let free = on_small_stack(|| free_inputs(tables, &term));
+        assert_eq!(free.expect("a well-typed term").marks, [1 << 63, 0, 0, 0]);
+    }
 }

@@ -7,6 +7,7 @@ use std::fs;
 use std::io::{self, BufWriter, Error, Read, Write};
 use std::path::Path;
 use std::process::ExitCode;
+use tools::bench::free_inputs::{find, finders};
 use tools::bench::plot::plot;
 use tools::bench::{implementations, measure, report};
 use tools::corpus::contents::records;
@@ -14,6 +15,7 @@ use tools::corpus::corpus;
 use tools::definitions::check::run_check;
 use tools::definitions::repository::write_repository;
 use tools::examples::files;
+use tools::generate::long_readings::longest_readings;
 use tools::lines::bundles::bundle_line;
 use tools::lines::cases::case_line;
 use tools::lines::inputs::inputs_line;
@@ -39,6 +41,7 @@ const USAGE: &str = "usage: reference SUBCOMMAND
   examples REPOSITORY the examples written into REPOSITORY/examples and REPOSITORY/docs/pictures
   corpus STDIN STDOUT the records of a test program, and what it writes
   bench [--plot FILE] times on the named shapes as a table, and as an SVG plot (release build)
+  bench --inputs      times of free_inputs on terms of 8,192 words (release build)
 ";
 
 /// A bundle is refused from this length on, so that no more is read.
@@ -77,6 +80,7 @@ fn dispatch(arguments: &[String]) -> io::Result<bool> {
         ["corpus", input, output] => write_corpus(Path::new(input), Path::new(output)),
         ["bench"] => bench(None),
         ["bench", "--plot", file] => bench(Some(Path::new(file))),
+        ["bench", "--inputs"] => bench_free_inputs(),
         ["definitions", repository, folder, seed, count] => {
             check_definitions(Path::new(repository), Path::new(folder), seed, count)
         }
@@ -159,6 +163,16 @@ fn bench(plot_file: Option<&Path>) -> io::Result<bool> {
     });
     if let Some(file) = plot_file {
         fs::write(file, plot(&implementations, &measurements))?;
+    }
+    Ok(true)
+}
+
+fn bench_free_inputs() -> io::Result<bool> {
+    let finders = finders();
+    println!("{}", report::legend_of_free_inputs(&finders));
+    println!("{}", report::head_of_free_inputs(&finders));
+    for shape in longest_readings() {
+        println!("{}", report::line_of_free_inputs(&find(shape, &finders)));
     }
     Ok(true)
 }

@@ -1,4 +1,6 @@
-//! The verified library's program, if it was linked: see build.rs.
+//! The verified library's calls, if it was linked: see build.rs.
+
+use oracle::free_inputs::FindFreeInputs;
 
 /// The program's output for these bytes of standard input.
 pub type Respond = fn(&[u8]) -> Vec<u8>;
@@ -8,9 +10,26 @@ pub type Respond = fn(&[u8]) -> Vec<u8>;
 pub const RESPOND: Option<Respond> = None;
 
 #[cfg(verified)]
-pub const RESPOND: Option<Respond> = Some(linked::respond);
+pub const RESPOND: Option<Respond> = Some(linked_respond::respond);
 
-/// The declaration of the linked call, the same file as in the library for Rust.
+/// The verified library's free_inputs; `None` if it was not linked.
+#[cfg(not(verified))]
+pub const FREE_INPUTS: Option<FindFreeInputs> = None;
+
+#[cfg(verified)]
+pub const FREE_INPUTS: Option<FindFreeInputs> = Some(|types, calls, inputs, term| {
+    let answer = linked_free_inputs::free_inputs(types, calls, inputs, term);
+    oracle::free_inputs::FreeInputs {
+        refusal: answer.refusal,
+        marks: answer.marks,
+        count: answer.count,
+    }
+});
+
+// The declarations of the linked calls, the same files as in the library for Rust.
+#[cfg(verified)]
+#[path = "../../../bindings/rust/src/free_inputs.rs"]
+mod linked_free_inputs;
 #[cfg(verified)]
 #[path = "../../../bindings/rust/src/respond.rs"]
-mod linked;
+mod linked_respond;

@@ -1,11 +1,13 @@
 //! The benchmark's table and plot, on made-up times.
 
 use std::time::Duration;
+use tools::bench::free_inputs::{find, finders, Found};
 use tools::bench::plot::plot;
 use tools::bench::timing::{time_all, Timing};
 use tools::bench::workloads::{self, Workload};
 use tools::bench::{implementations, report, Measurement};
-use tools::generate::shapes::doubling;
+use tools::generate::long_readings::lets_of_inputs;
+use tools::generate::shapes::{doubling, shape};
 
 fn workload(steps: u64, longest: usize) -> Workload {
     Workload {
@@ -66,4 +68,22 @@ fn times_of_a_small_workload() {
         assert!(timing.least() <= timing.median() && timing.median() <= timing.greatest());
         assert!(timing.times.len() >= 3);
     }
+}
+
+#[test]
+fn free_inputs_have_a_table_of_their_own() {
+    let finders = finders();
+    let mut found = find(shape("lets", lets_of_inputs(20)), &finders);
+    assert_eq!((found.marks, found.timings.len()), (21, finders.len()));
+    let columns = |line: &str| line.split(" | ").count();
+    let head = report::head_of_free_inputs(&finders);
+    let line = report::line_of_free_inputs(&found);
+    assert!(head.lines().all(|head| columns(head) == columns(&line)));
+    assert!(head.starts_with("| shape | words | marks | on words | a word | on trees |"));
+
+    let made_up = [Some(timing(62)), Some(timing(31))];
+    found.timings = made_up.into_iter().collect();
+    let line = report::line_of_free_inputs(&Found { marks: 5, ..found });
+    assert!(line.starts_with("| lets | 62 | 5 | 62.00 µs (50 to 200 %, 3) | 1.00 µs |"));
+    assert!(line.ends_with("| 31.00 µs (50 to 200 %, 3) | 500 ns | 0.50 |"));
 }

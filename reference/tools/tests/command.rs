@@ -150,6 +150,7 @@ fn anything_else_prints_the_usage() {
         &["examples"],
         &["corpus", "file"],
         &["bench", "--plot"],
+        &["bench", "--inputs", "file"],
         &["definitions", "repository", "folder", "x", "1"],
     ] {
         let output = run_command(arguments, &[]);

@@ -1,12 +1,13 @@
 //! The verified library against both implementations, if it was linked (see build.rs).
 
 use oracle::deep_stack::with_deep_stack;
-use tools::corpus::answers::answer;
+use tools::corpus::answers::{answer, free_inputs_line};
 use tools::corpus::contents::records;
 use tools::corpus::records::Record;
+use tools::generate::long_readings::longest_readings;
 use tools::generate::shapes::{largest_shapes, typical};
 
-use tools::verified::RESPOND;
+use tools::verified::{FREE_INPUTS, RESPOND};
 
 #[test]
 fn it_answers_the_bundles_of_the_corpus() {
@@ -28,6 +29,35 @@ fn it_answers_typical_terms_and_shapes() {
         for sample in typical(31, 1000).into_iter().chain(shapes) {
             let bundle = sample.bundle();
             assert_eq!(respond(&bundle), baseline::respond(&bundle));
+        }
+    });
+}
+
+#[test]
+fn it_finds_the_free_inputs_of_the_corpus() {
+    let Some(free_inputs) = FREE_INPUTS else {
+        return;
+    };
+    with_deep_stack(|| {
+        for record in records() {
+            if let Record::FreeInputs(sample) = &record {
+                let line = free_inputs_line(free_inputs, sample);
+                assert_eq!(line.into_bytes(), answer(&record));
+            }
+        }
+    });
+}
+
+#[test]
+fn it_finds_the_free_inputs_of_long_terms() {
+    let Some(free_inputs) = FREE_INPUTS else {
+        return;
+    };
+    with_deep_stack(|| {
+        for shape in longest_readings().into_iter().chain(largest_shapes()) {
+            let expected = shape.sample.free_inputs(baseline::free_inputs);
+            let found = shape.sample.free_inputs(free_inputs);
+            assert_eq!(found, expected, "{}", shape.name);
         }
     });
 }

@@ -1,6 +1,8 @@
-//! Times of the program on the named shapes: on trees, on words, and the verified library's.
+//! Times of the program on the named shapes, and of free_inputs: on trees, on words, and the verified
+//! library's.
 
 mod clock;
+pub mod free_inputs;
 pub mod plot;
 pub mod report;
 pub mod timing;

@@ -8,7 +8,7 @@ use oracle::api::normalize;
 use std::hint::black_box;
 use std::time::Duration;
 
-/// A repetition answers the bundles as often as takes this long, at least once.
+/// A repetition does the work as often as takes this long, at least once.
 const SHORTEST_REPETITION: Duration = Duration::from_millis(5);
 /// Repetitions end after this time for each implementation, or after so many; there are at least
 /// seven, so that one during which the machine was slow does not decide, or one if one takes that long.
@@ -56,7 +56,7 @@ impl Timing {
 /// Times the workload with each implementation; all answers are compared first.
 pub fn time_all(workload: &Workload, implementations: &[Implementation]) -> Vec<Option<Timing>> {
     let expected = answers(workload, baseline::respond);
-    let mut samplers: Vec<Option<Sampler>> = implementations
+    let samplers = implementations
         .iter()
         .map(|implementation| {
             if implementation.name == "trees" && tree_estimate(workload) > TOO_LONG {
@@ -70,12 +70,23 @@ pub fn time_all(workload: &Workload, implementations: &[Implementation]) -> Vec<
                 "{} answers otherwise",
                 implementation.name
             );
-            Some(Sampler::new(implementation.respond, once))
+            let respond = implementation.respond;
+            let answer_all = move || {
+                for bundle in &workload.bundles {
+                    black_box(respond(black_box(bundle)));
+                }
+            };
+            Some(Sampler::new(answer_all, once))
         })
         .collect();
+    alternate(samplers)
+}
+
+/// Makes the repetitions by turns.
+pub fn alternate(mut samplers: Vec<Option<Sampler>>) -> Vec<Option<Timing>> {
     for _ in 0..MOST_REPETITIONS {
         for sampler in samplers.iter_mut().flatten() {
-            sampler.repeat(workload);
+            sampler.repeat();
         }
     }
     let timings = samplers.into_iter();
@@ -103,20 +114,22 @@ fn tree_estimate(workload: &Workload) -> Duration {
 }
 
 /// The repetitions of one implementation so far.
-struct Sampler {
-    respond: fn(&[u8]) -> Vec<u8>,
-    /// How often a repetition answers the bundles.
+pub struct Sampler<'a> {
+    /// What is timed.
+    work: Box<dyn Fn() + 'a>,
+    /// How often a repetition does the work.
     rounds: u32,
     is_long: bool,
     spent: Duration,
     times: Vec<Duration>,
 }
 
-impl Sampler {
-    fn new(respond: fn(&[u8]) -> Vec<u8>, once: Duration) -> Sampler {
+impl<'a> Sampler<'a> {
+    /// No repetition of this work yet, which took so long once.
+    pub fn new(work: impl Fn() + 'a, once: Duration) -> Sampler<'a> {
         let rounds = SHORTEST_REPETITION.as_secs_f64() / once.as_secs_f64().max(1e-9);
         Sampler {
-            respond,
+            work: Box::new(work),
             rounds: rounds.ceil() as u32,
             is_long: once > LONG,
             spent: Duration::ZERO,
@@ -125,16 +138,14 @@ impl Sampler {
     }
 
     /// One repetition more, if more are wanted.
-    fn repeat(&mut self, workload: &Workload) {
+    fn repeat(&mut self) {
         let fewest = if self.is_long { 1 } else { FEWEST_REPETITIONS };
         if self.times.len() >= fewest && self.spent > ENOUGH {
             return;
         }
         let started = processor_time();
         for _ in 0..self.rounds {
-            for bundle in &workload.bundles {
-                black_box((self.respond)(black_box(bundle)));
-            }
+            (self.work)();
         }
         let elapsed = processor_time() - started;
         self.spent += elapsed;

@@ -127,7 +127,7 @@ fn each_under_its_number(inputs: impl Iterator<Item = u64>) -> Phrase {
 /// Up to so many variables, each at the end of up to so many random places: most name an input,
 /// some a binder.
 pub fn random_reading(random: &mut Random, most_reads: usize, most_places: usize) -> Reading {
-    let count = *random.pick(&INPUT_COUNTS);
+    let count = random_count(random);
     let mut term = call(C, &[]);
     let mut inputs = BTreeSet::new();
     for _ in 0..random.between(0, most_reads) {
@@ -144,6 +144,14 @@ pub fn random_reading(random: &mut Random, most_reads: usize, most_places: usize
         term = call(E, &[&variable_at(&places, number), &term]);
     }
     reading(sample_with_inputs(count, term), inputs)
+}
+
+/// A number of inputs, most often 256.
+pub fn random_count(random: &mut Random) -> usize {
+    if random.chance(50) {
+        return MOST_INPUTS;
+    }
+    *random.pick(&INPUT_COUNTS)
 }
 
 pub fn random_places(random: &mut Random, most: usize) -> Vec<&'static Place> {

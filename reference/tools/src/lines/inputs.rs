@@ -6,7 +6,7 @@
 
 use super::cases::damaged_sample;
 use super::spaced;
-use crate::generate::inputs::{random_reading, sample_of_inputs, INPUT_COUNTS};
+use crate::generate::inputs::{random_count, random_reading, sample_of_inputs};
 use crate::generate::{Profile, Sample};
 use crate::random::Random;
 use oracle::free_inputs::free_inputs;
@@ -35,7 +35,7 @@ fn short(random: &mut Random) -> Sample {
     loop {
         let sample = match random.below(8) {
             0..3 => {
-                let count = *random.pick(&INPUT_COUNTS);
+                let count = random_count(random);
                 sample_of_inputs(random, &Profile::SMALL, count)
             }
             3..6 => random_reading(random, 4, 5).sample,

@@ -37,7 +37,7 @@ impl Contents {
         let mut readings = border_readings();
         readings.extend(place_readings());
         readings.extend(whole_readings());
-        readings.extend((0..50).map(|_| random_reading(&mut self.random, 6, 5)));
+        readings.extend((0..40).map(|_| random_reading(&mut self.random, 6, 5)));
         for reading in readings {
             self.free_inputs_of(&reading.sample);
         }
