@@ -3,3 +3,4 @@ pub mod Sample
 pub mod Limits
 pub mod Further
 pub mod Runs
+pub mod Reading

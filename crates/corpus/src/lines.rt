@@ -5,6 +5,7 @@ use crate::codec::MOST_BUFFER;
 use crate::codec::digest;
 use crate::codec::fill;
 use checker::check::check;
+use free_inputs::free_inputs::free_inputs;
 use libc::STDOUT_FILENO;
 use normal_form::is_normal::is_normal;
 use normalizer::normalize::normalize;
@@ -48,6 +49,25 @@ pub fn normal_line(types: &[u64], calls: &[u64], inputs: &[u64], term: &[u64]) {
     io::write_all(STDOUT_FILENO, b"normal ");
     write_field(wide(r.refusal));
     write_number(number_of(r.normal));
+    end_line();
+}
+
+fn write_mark_word(w: u64) {
+    io::write_all(STDOUT_FILENO, b" ");
+    io::print_hex(STDOUT_FILENO, w, 16);
+}
+
+// call 4
+pub fn inputs_line(types: &[u64], calls: &[u64], inputs: &[u64], term: &[u64]) {
+    let r = free_inputs(types, calls, inputs, term);
+    io::write_all(STDOUT_FILENO, b"inputs ");
+    write_field(wide(r.refusal));
+    write_number(wide(r.count));
+    let marks = r.marks;
+    write_mark_word(marks[0]);
+    write_mark_word(marks[1]);
+    write_mark_word(marks[2]);
+    write_mark_word(marks[3]);
     end_line();
 }
 

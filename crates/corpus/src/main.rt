@@ -15,6 +15,7 @@ use crate::codec::header_word;
 use crate::codec::length_word;
 use crate::lines::bundle_listing;
 use crate::lines::check_line;
+use crate::lines::inputs_line;
 use crate::lines::normal_line;
 use crate::lines::normalize_line;
 
@@ -39,7 +40,7 @@ fn bundle(head: &[u8; HEADER_BYTES]) -> bool {
     true
 }
 
-// calls 1 to 3 on the tables that stand one after the other
+// calls 1 to 4 on the tables that stand one after the other
 fn call_on(head: &[u8; HEADER_BYTES], words: &[u64], a: usize, b: usize, c: usize, d: usize)
     requires { ⌜ (a ≤ b) × (b ≤ c) × (c ≤ d) × (d ≤ length (now words)) ⌝ }
 {
@@ -55,6 +56,10 @@ fn call_on(head: &[u8; HEADER_BYTES], words: &[u64], a: usize, b: usize, c: usiz
     }
     if call == 2 {
         normal_line(types, calls, inputs, term);
+        return;
+    }
+    if call == 4 {
+        inputs_line(types, calls, inputs, term);
         return;
     }
     let budget = header_word(head, 1);
@@ -76,7 +81,7 @@ fn call_on(head: &[u8; HEADER_BYTES], words: &[u64], a: usize, b: usize, c: usiz
     );
 }
 
-// calls 1 to 3: the tables' words
+// calls 1 to 4: the tables' words
 fn tables(head: &[u8; HEADER_BYTES]) -> bool {
     let a = length_word(head, 5);
     let b = a + length_word(head, 6);

@@ -1,10 +1,13 @@
-// The public calls `respond` and `normalize` for programs in C and Rust.
+// The public calls `respond`, `normalize` and `free_inputs` for programs in C and Rust.
 ghost use mathlib.Core.Path.{_≡_};
 ghost use Rattle.syntax.specs.Tables.{over};
 ghost use Rattle.outcomes.specs.Contract.{Normalizes};
+ghost use Rattle.outcomes.specs.FreeInputs.{freeInputsOutcome};
 ghost use Rattle.outcomes.specs.Respond.{respondOutcome};
+use free_inputs::free_inputs::free_inputs;
 use normalizer::normalize::normalize;
 use outcomes::Answer;
+use outcomes::FreeInputs;
 use responder::respond;
 
 // `responder::respond`
@@ -34,4 +37,17 @@ pub extern "C" fn flatten_normalize(
         ⌝ }
 {
     normalize(types, calls, inputs, term, budget, output, first, second)
+}
+
+// `free_inputs::free_inputs`
+#[no_mangle]
+pub extern "C" fn flatten_free_inputs(
+    types: &[u64],
+    calls: &[u64],
+    inputs: &[u64],
+    term: &[u64],
+) -> FreeInputs
+    ensures { λ r. ⌜ r ≡ freeInputsOutcome (over (now (types .entry)) (now (calls .entry)) (now (inputs .entry))) (now (term .entry)) ⌝ }
+{
+    free_inputs(types, calls, inputs, term)
 }

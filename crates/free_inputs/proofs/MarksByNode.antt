@@ -130,7 +130,7 @@ module _ {calls words p marks : List ℕ} {owed at : ℕ} (g : Scan calls words 
               let os = outer (v .term) in
               let is = inner (v .term) in
               let a : ahead (usesOf i) q (joined os (joined is (v .later)))
-                  ≡ usesAll os (under + i) + (usesAll is (suc under + i) + ahead (usesOf i) p (v .later)) =
+              ≡ usesAll os (under + i) + (usesAll is (suc under + i) + ahead (usesOf i) p (v .later)) =
               ahead-opened (usesOf i) (w .opened) os is (v .later) c (v .outers) (v .parts) in
               let own : counts (names word (under + i)) ≡ counts (eqb (node (v .term) .kind) 0 && eqb (node (v .term) .number) (under + i)) =
               ap₂ (λ (k n : ℕ). counts (eqb k 0 && eqb n (under + i))) (v .kind) (v .number) in

@@ -21,7 +21,10 @@ pub fn free_inputs(types: &[u64], calls: &[u64], inputs: &[u64], term: &[u64]) -
         };
     }
     let marks = input_marks(calls, term);
-    let count = u64::count_ones(marks[0]) + u64::count_ones(marks[1]) + u64::count_ones(marks[2]) + u64::count_ones(marks[3]);
+    let count = u64::count_ones(marks[0])
+        + u64::count_ones(marks[1])
+        + u64::count_ones(marks[2])
+        + u64::count_ones(marks[3]);
     FreeInputs {
         refusal: 0,
         marks: marks,

@@ -109,7 +109,7 @@ mask-marked (suc n) (suc j) f g l m =
     ∙ ap (λ (c : ℕ). c * 2 ^ suc n + bitOr x (2 ^ (n - j))) (sym (or-zero-r (counts (f 0))))
     ∙ sym (or-block (suc n) (counts (f 0)) 0 x (2 ^ (n - j)) (mask-below (suc n) (λ i. f (suc i))) bit)
     ∙ ap (λ (y : ℕ). bitOr (counts (f 0) * 2 ^ suc n + x) y)
-      (ap (λ (y : ℕ). y + 2 ^ (n - j)) (zero-mul (2 ^ suc n)) ∙ zero-add (2 ^ (n - j)) ∙ ap (λ (k : ℕ). 2 ^ k) (sym (suc-sub-suc n j)))
+    (ap (λ (y : ℕ). y + 2 ^ (n - j)) (zero-mul (2 ^ suc n)) ∙ zero-add (2 ^ (n - j)) ∙ ap (λ (k : ℕ). 2 ^ k) (sym (suc-sub-suc n j)))
 
 -- over words of 64: the word of number j, and the bit in it
 abbrev WordMarked : ℕ → ℕ → (ℕ → Bool) → (ℕ → Bool) → Type 0

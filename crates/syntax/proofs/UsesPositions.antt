@@ -42,8 +42,14 @@ holding-within C n (p ∷ ps) = ap (λ (k : ℕ). counts (holds n p) + k) (holdi
 two : (n : ℕ) (C : Term → Term) (a : Term) (D : Term → Term) (b : Term) → uses a n ≡ holding n (positions a) → uses b n ≡ holding n (positions b)
     → uses a n + uses b n ≡ 0 + holding n (map (within C) (positions a) ++ map (within D) (positions b))
 two n C a D b e d =
-    omega (arith, e, d, holding-within C n (positions a), holding-within D n (positions b),
-      holding-append n (map (within C) (positions a)) (map (within D) (positions b)))
+    omega (
+      arith,
+      e,
+      d,
+      holding-within C n (positions a),
+      holding-within D n (positions b),
+      holding-append n (map (within C) (positions a)) (map (within D) (positions b)),
+    )
 
 -- under a binder the variable's number is one more
 holding-bound : {X Y : Type 0} (C : X → Y) (n : ℕ) (ps : List (Position X)) → holding n (map (bound C) ps) ≡ holding (suc n) ps
@@ -62,27 +68,44 @@ mutual
   uses-holding (lam A b) n = omega (arith, uses-holding b (suc n), holding-bound (lam A) n (positions b))
   uses-holding (app f a) n = two n (λ x. app x a) f (λ x. app f x) a (uses-holding f n) (uses-holding a n)
   uses-holding (bind e b) n =
-      omega (arith, uses-holding e n, uses-holding b (suc n), holding-within (λ x. bind x b) n (positions e),
+      omega (
+        arith,
+        uses-holding e n,
+        uses-holding b (suc n),
+        holding-within (λ x. bind x b) n (positions e),
         holding-bound (λ x. bind e x) n (positions b),
-        holding-append n (map (within (λ x. bind x b)) (positions e)) (map (bound (λ x. bind e x)) (positions b)))
+        holding-append n (map (within (λ x. bind x b)) (positions e)) (map (bound (λ x. bind e x)) (positions b)),
+      )
   uses-holding (pair A a b) n = two n (λ x. pair A x b) a (λ x. pair A a x) b (uses-holding a n) (uses-holding b n)
   uses-holding (fst a) n = omega (arith, uses-holding a n, holding-within fst n (positions a))
   uses-holding (snd a) n = omega (arith, uses-holding a n, holding-within snd n (positions a))
   uses-holding (inl A a) n = omega (arith, uses-holding a n, holding-within (inl A) n (positions a))
   uses-holding (inr A a) n = omega (arith, uses-holding a n, holding-within (inr A) n (positions a))
   uses-holding (case s l r) n =
-      omega (arith, uses-holding s n, uses-holding l (suc n), uses-holding r (suc n), holding-within (λ x. case x l r) n (positions s),
-        holding-bound (λ x. case s x r) n (positions l), holding-bound (λ x. case s l x) n (positions r),
+      omega (
+        arith,
+        uses-holding s n,
+        uses-holding l (suc n),
+        uses-holding r (suc n),
+        holding-within (λ x. case x l r) n (positions s),
+        holding-bound (λ x. case s x r) n (positions l),
+        holding-bound (λ x. case s l x) n (positions r),
         holding-append n (map (within (λ x. case x l r)) (positions s))
-          (map (bound (λ x. case s x r)) (positions l) ++ map (bound (λ x. case s l x)) (positions r)),
-        holding-append n (map (bound (λ x. case s x r)) (positions l)) (map (bound (λ x. case s l x)) (positions r)))
+            (map (bound (λ x. case s x r)) (positions l) ++ map (bound (λ x. case s l x)) (positions r)),
+        holding-append n (map (bound (λ x. case s x r)) (positions l)) (map (bound (λ x. case s l x)) (positions r)),
+      )
 
   uses-holding-all : (ts : Terms) (n : ℕ) → usesAll ts n ≡ holding n (positionsAll ts)
   uses-holding-all done n = refl
   uses-holding-all (arg t ts) n =
-      omega (arith, uses-holding t n, uses-holding-all ts n, holding-within (λ x. arg x ts) n (positions t),
+      omega (
+        arith,
+        uses-holding t n,
+        uses-holding-all ts n,
+        holding-within (λ x. arg x ts) n (positions t),
         holding-within (λ x. arg t x) n (positionsAll ts),
-        holding-append n (map (within (λ x. arg x ts)) (positions t)) (map (within (λ x. arg t x)) (positionsAll ts)))
+        holding-append n (map (within (λ x. arg x ts)) (positions t)) (map (within (λ x. arg t x)) (positionsAll ts)),
+      )
 
 is-number : (o : Option ℕ) (n : ℕ) → T (isNumber o n) → o ≡ some n
 is-number none n h = absurd h

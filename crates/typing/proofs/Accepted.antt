@@ -96,7 +96,14 @@ pub passed-accepted : (limit : ℕ) (tables : Tables) (words : List ℕ) (x : Ty
     → elaborate limit tables words ≡ accepted x
 unfolding elaborate wellFormedWords
 passed-accepted limit tables words x p =
-    rw (is-true (lengthsFit limit tables words) (p .lengths), is-true (wellFormedTypes 0 (tables .types)) (p .types),
-      is-true (distinct (tables .types)) (p .no-twice), is-true (wellFormedCalls tables) (p .calls),
-      is-true (wellFormedInputs tables) (p .inputs), is-true (wellFormedWords tables words) (p .words′), p .term,
-      is-true (scoped tables (x .term)) (p .in-scope), p .type)
+    rw (
+      is-true (lengthsFit limit tables words) (p .lengths),
+      is-true (wellFormedTypes 0 (tables .types)) (p .types),
+      is-true (distinct (tables .types)) (p .no-twice),
+      is-true (wellFormedCalls tables) (p .calls),
+      is-true (wellFormedInputs tables) (p .inputs),
+      is-true (wellFormedWords tables words) (p .words′),
+      p .term,
+      is-true (scoped tables (x .term)) (p .in-scope),
+      p .type,
+    )

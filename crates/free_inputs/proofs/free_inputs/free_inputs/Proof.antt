@@ -54,11 +54,11 @@ free-inputs-spec =
     (starts a, accepted-short otherLimit (tables k) _ _ (k .check-within .ensures) (a .if1 .left)))
     (λ c. search needs)
     (λ c. search needs)
-    (λ c. omega (arith, few (search)))
+    (λ c. let n = few (search) in search (needs, n))
     (λ c. search needs)
-    (λ c. omega (arith, few (search)))
+    (λ c. let n = few (search) in search (needs, n))
     (λ c. search needs)
-    (λ c. omega (arith, few (search)))
+    (λ c. let n = few (search) in search (needs, n))
     (λ c.
     let m : Marked = search in
     let k = checked (accepted m) in

@@ -1,11 +1,11 @@
 -- The word is no variable's, or the variable is bound inside the term, or it is past the last number that has a mark: no input is named.
 -- Else the bit of the input is set.
-use Prim.Native.Nat.{ℕ, _+_, _-_, _/_, _≤_, _<_}
+use Prim.Native.Nat.{ℕ, _-_}
 use native.Mathlib.Omega.{arith}
 use mathlib.Core.Path.{_≡_, sym, _∙_}
 use borrow.Author.Needs.{needs}
 use lib.ListN.{length}
-use Rattle.syntax.specs.Words.{kindOf, numberOf}
+use Rattle.syntax.specs.Words.{kindOf}
 use Rattle.free_inputs.proofs.OneMark.{no-variable, no-input, input}
 use Rattle.free_inputs.proofs.marks.mark_input.Statement.{statement}
 use Rattle.free_inputs.proofs.marks.mark_input.Tie as tie
@@ -32,15 +32,16 @@ numbered c = c .before
 abbrev free : Marking → Free
 free c = c .before
 
--- the input's number, and its word
+-- the input's number
 abbrev which : Free → ℕ
 which c = numbered c .number .result - entry (numbered c) .args .under
 
 is-kind-0 : (c : Numbered) → kindOf (entry c .args .w) ≡ 0
 is-kind-0 c = sym (c .before .before .kind .ensures) ∙ c .before .if1 .left
 
-word : (c : Marking) → which (free c) / 64 < length (entry (numbered (free c)) .args .marks .now)
-word c = omega (arith, c .if3 .taken, entry (numbered (free c)) .pre)
+-- there are four words
+four : (c : Marking) → length (entry (numbered (free c)) .args .marks .now) ≡ 4
+four c = entry (numbered (free c)) .pre
 
 pub mark-input-spec : {M : Type 1} → statement M
 mark-input-spec =
@@ -51,14 +52,14 @@ mark-input-spec =
     (λ c κs. search needs)
     (λ c. no-input _ _ _ λ i l z. omega (arith, c .if2 .taken, c .before .number .ensures, z))
     (λ c. search needs)
-    (λ c. word (search))
+    (λ c. let m : Marking = search in omega (arith, m .if3 .taken, four m))
     (λ c. omega arith)
     (λ c. search needs)
-    (λ c. word (search))
+    (λ c. let m : Marking = search in omega (arith, m .if3 .taken, four m))
     (λ c. search needs)
     (λ c.
     let m : Marking = search in
     let f = free m in
     let n = numbered f in
-    input _ _ _ (which f) (is-kind-0 n) (omega (arith, n .number .ensures, f .if2 .left)) (m .if3 .taken))
+    input _ _ _ (which f) (is-kind-0 n) (omega (arith, n .number .ensures, f .if2 .left)) (omega (arith, m .if3 .taken)))
     (λ c. no-input _ _ _ λ i l z. let n : Numbered = search in omega (arith, n .number .ensures, c .if3 .left, l, z)))
