@@ -14,6 +14,8 @@ CHECK_2, CHECK_3 = "  _ ← require 2 (wellFormedTypes 0 (tables .types))\n", " 
 CHECK_8, CHECK_9 = "  _ ← scopePlace tables t\n", "  A ← typePlace tables t\n"
 PARTS, CLAIM, VALUE_TYPES = "semantics/specs/TypeParts", "semantics/specs/Claim", "semantics/specs/ValueTypes"
 PART, OF_RESULT = "    itself : PartOf D D\n", "    of-result : PartOf tables D result → Subformula result u D\n"
+FREE, ANSWER = "outcomes/specs/FreeInputs", "-- the answer: refusal 0"
+TOTAL = "abbrev total : ℕ → (ℕ → ℕ) → ℕ\ntotal zero f = 0\ntotal (suc n) f = f 0 + total n (λ i. f (suc i))\n\n"
 CAPACITY = "min (min (length (b .output)) (min (length (b .scratch₁)) (length (b .scratch₂)))) maxCapacity"
 
 # Name, the crate that refuses, edits (files, old, new). Laws of `reduction` state the rules twice more, as families; the first six mutants
@@ -60,6 +62,12 @@ MUTANTS = [
     ("upper-case hexadecimal", "cases", [("outcomes/specs/Listing", "(87 + d)", "(55 + d)")]),
     ("scratch left as it was", "cases", [(NORMALIZE, "scratch₂ = cleared (b .scratch₂)", "scratch₂ = b .scratch₂")]),
     ("capacity of the output alone", "cases", [(NORMALIZE, CAPACITY, "min (length (b .output)) maxCapacity")]),
+    ("the last input has the highest mark", "theory", [
+        (FREE, "{ℕ}", "{ℕ, _-_}"), (FREE, "masks 4 (reads (x .term))", "masks 4 (λ i. reads (x .term) (255 - i))")]),
+    ("an input that is used twice is not read", "theory", [(FREE, "{ltb}", "{eqb}"), (FREE, "ltb 0 (uses t i)", "eqb 1 (uses t i)")]),
+    ("uses counted for inputs", "cases", [
+        (FREE, "{ℕ}", "{ℕ, zero, suc, _+_}"), (FREE, "howMany 256 (reads (x .term))", "total 256 (uses (x .term))"), (FREE, ANSWER, TOTAL + ANSWER)]),
+    ("a refusal that answers marks", "cases", [(FREE, "replicate 4 0", "replicate 4 1")]),
 ]
 
 def refusal(edits):
