@@ -30,9 +30,10 @@
 //! # Ok::<(), flatten::Refused>(())
 //! ```
 //!
-//! The calls use the stack of their thread, the more the deeper a term nests. The least that was
-//! enough for the deepest term: 1,028 KiB for `respond`, 772 KiB for `normalize` (tests/depth.rs).
-//! A thread's default of 2 MiB is enough. A stack that is too small ends the process.
+//! The calls use the stack of their thread, the first two the more the deeper a term nests. The
+//! least that was enough for the deepest term: 1,028 KiB for `respond`, 772 KiB for `normalize`,
+//! 200 KiB for `free_inputs` (tests/depth.rs). A thread's default of 2 MiB is enough. A stack that
+//! is too small ends the process.
 
 mod free_inputs;
 mod inputs;
