@@ -1,5 +1,5 @@
 -- Which inputs a term reads: cases of the public call `free_inputs`.
-use Prim.Native.Nat.{ℕ, zero, suc, _+_, _-_, _*_, _^_}
+use Prim.Native.Nat.{ℕ, zero, suc, _+_, _-_, _^_}
 use mathlib.Core.List.{List, [], _∷_}
 use lib.ListN.{replicate}
 use Rattle.syntax.specs.Tables.{Tables}

@@ -1,10 +1,10 @@
 -- The places of the term: words that pass place 6 and are one part stand for a term; the answers for scope and type are those of 8 and 9.
 use mathlib.Core.Path.{_≡_, refl, sym, _∙_, ap, subst}
-use mathlib.Core.Bool.{Bool, true, false, _&&_, not}
+use mathlib.Core.Bool.{Bool, true, false, not}
 use mathlib.Core.List.{List, [], append-nil}
 use mathlib.Core.Option.{Option, some, none}
-use Prim.Native.Nat.{ℕ, _≤_}
-use lib.Dec.{T, leb, leb→le}
+use Prim.Native.Nat.{ℕ}
+use lib.Dec.{T}
 use lib.ListN.{length}
 use borrow.Author.Tests.{eqb-true, eq-eqb}
 use Rattle.syntax.specs.Tables.{Tables}
@@ -12,12 +12,10 @@ use Rattle.syntax.specs.Term.{Term}
 use Rattle.syntax.specs.Encoding.{encode, size}
 use Rattle.syntax.specs.Decoding.{decode}
 use Rattle.syntax.specs.Parts.{partEnd}
-use Rattle.syntax.proofs.Options.{and-left, and-right}
 use Rattle.syntax.proofs.Parts.{part-end}
 use Rattle.syntax.proofs.Forests.{even-term}
 use Rattle.words.specs.Fronts.{Holds, Starts}
 use Rattle.typing.specs.Infer.{infer}
-use Rattle.typing.specs.TableChecks.{lengthsFit}
 use Rattle.typing.specs.TermChecks.{wellFormedWords, scoped}
 use Rattle.checker.specs.Places.{Types}
 use Rattle.checker.specs.Answers.{wholeOf, Scopes, Infers}
@@ -26,31 +24,6 @@ use Rattle.checker.specs.declared.node_type.Inferred.the-variants.{Typed
 use Rattle.checker.proofs.DecodedTerm.{kinds-of, holds-decoded}
 use Rattle.checker.proofs.Every.{told-true, told-false}
 use Rattle.checker.proofs.InferredTypes.{untyped-if, typed-if}
-
--- the lengths that later places lean on
-pub record Lengths (limit : ℕ) (tables : Tables) (words : List ℕ) : Type 0 where
-  pub inputs : length (tables .inputs) ≤ 256
-  pub words′ : length words ≤ limit
-
-module _ (limit : ℕ) (tables : Tables) (words : List ℕ) where
-  abbrev tables-fit : Bool
-  tables-fit = leb (length (tables .types)) 1024 && leb (length (tables .calls)) 1024
-
-  abbrev inputs-fit : Bool
-  inputs-fit = leb (length (tables .inputs)) 256
-
-  abbrev words-fit : Bool
-  words-fit = leb (length words) limit
-
-  pub lengths-of : T (lengthsFit limit tables words) → Lengths limit tables words
-  unfolding lengthsFit
-  lengths-of h =
-      let x = and-left (tables-fit && inputs-fit && words-fit) (leb 1 (length words)) h in
-      let y = and-left (tables-fit && inputs-fit) words-fit x in
-      record {
-        inputs = leb→le (length (tables .inputs)) 256 (and-right tables-fit inputs-fit y);
-        words′ = leb→le (length words) limit (and-right (tables-fit && inputs-fit) words-fit x);
-      }
 
 -- place 7 passed: the term that the words stand for
 pub record Decoded (tables : Tables) (words : List ℕ) : Type 0 where

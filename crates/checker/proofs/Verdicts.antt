@@ -8,11 +8,11 @@ use native.Mathlib.Omega.{arith}
 use Rattle.syntax.specs.Tables.{Tables}
 use Rattle.words.specs.Fronts.{Holds, Starts}
 use Rattle.typing.specs.Refusals.{Verdict, refused, accepted, TypedTerm, elaborate}
+use Rattle.typing.proofs.LengthsFit.{lengths-of}
 use Rattle.typing.proofs.Accepted.{Verdicts, refusal, passed, Passed, elaborated}
 use Rattle.outcomes.specs.Check.{checkedOf}
 use Rattle.outcomes.specs.declared.Checked.{Checked}
 use Rattle.checker.proofs.DecodedTerm.{holds-decoded}
-use Rattle.checker.proofs.TermPlaces.{lengths-of}
 
 -- a verdict accepts what passed, of a type
 pub record Accepts (P : TypedTerm → Type 0) (v : Verdict TypedTerm) (A : ℕ) : Type 0 where

@@ -10,8 +10,7 @@ use mathlib.Core.List.{List}
 use lib.Dec.{eqb, ltb}
 use lib.ListN.{length, getD, set, replicate, length-set}
 use lib.Seq.{getD-set-same}
-use borrow.Author.Tests.{lt-ltb, eq-eqb, ne-eqb}
-use Rattle.syntax.specs.Words.{kindOf, numberOf}
+use borrow.Author.Tests.{lt-ltb, ne-eqb}
 use Rattle.syntax.specs.Term.{Term, Terms, done, arg, node}
 use Rattle.syntax.specs.Parts.{partCount}
 use Rattle.syntax.specs.Shaped.{count}
@@ -98,7 +97,9 @@ module _ {calls words p marks : List ℕ} {owed at : ℕ} (g : Scan calls words 
   scan-end z = record {
     told = λ t rest h.
         let e = march-end calls words (g .going) z (arg t done) rest (one-holds h) in
-        g .marked ∙ masks-same 4 (λ i. ltb 0 (g .seen i)) (reads t) λ i l. let u : g .seen i ≡ uses t i = omega (arith, e .1 i) in ap (ltb 0) u;
+        g .marked ∙ masks-same 4 (λ i. ltb 0 (g .seen i)) (reads t) λ i l.
+        let u : g .seen i ≡ uses t i = omega (arith, e .1 i) in
+        ap (ltb 0) u;
   }
 
   module _ (lt : 1 ≤ owed) (far : length words ≤ 65536) where
@@ -132,7 +133,8 @@ module _ {calls words p marks : List ℕ} {owed at : ℕ} (g : Scan calls words 
               let a : ahead (usesOf i) q (joined os (joined is (v .later)))
               ≡ usesAll os (under + i) + (usesAll is (suc under + i) + ahead (usesOf i) p (v .later)) =
               ahead-opened (usesOf i) (w .opened) os is (v .later) c (v .outers) (v .parts) in
-              let own : counts (names word (under + i)) ≡ counts (eqb (node (v .term) .kind) 0 && eqb (node (v .term) .number) (under + i)) =
+              let at = node (v .term) in
+              let own : counts (names word (under + i)) ≡ counts (eqb (at .kind) 0 && eqb (at .number) (under + i)) =
               ap₂ (λ (k n : ℕ). counts (eqb k 0 && eqb n (under + i))) (v .kind) (v .number) in
               omega (
                 arith,

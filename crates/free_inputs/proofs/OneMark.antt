@@ -12,7 +12,7 @@ use lib.Pow.{pow-add, shl-shr}
 use borrow.Author.Tests.{eq-eqb, ne-eqb}
 use Rattle.syntax.specs.Words.{kindOf, numberOf}
 use Rattle.outcomes.specs.Marks.{masks}
-use Rattle.outcomes.proofs.Marks.{Marked, masks-same, masks-marked}
+use Rattle.outcomes.proofs.Marks.{masks-same, masks-marked}
 use Rattle.free_inputs.specs.InputMarks.{names, MarksInput}
 
 -- the highest bit, shifted down

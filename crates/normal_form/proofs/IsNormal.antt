@@ -4,7 +4,7 @@ use native.Mathlib.Omega.{arith}
 use mathlib.Core.Path.{_≡_, sym, _∙_, ap}
 use mathlib.Core.Bool.{Bool, false}
 use mathlib.Core.List.{List, []}
-use lib.ListN.{length, replicate, length-replicate}
+use lib.ListN.{replicate, length-replicate}
 use Rattle.syntax.specs.Tables.{Tables}
 use Rattle.typing.specs.Refusals.{elaborate, otherLimit}
 use Rattle.typing.proofs.Accepted.{Passed}

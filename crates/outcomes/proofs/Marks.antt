@@ -1,7 +1,7 @@
 -- Laws of marks as binary digits, each over the width: what a mask holds, its ones, and one mark set.
 use mathlib.Core.Path.{_≡_, refl, sym, _∙_, ap, ap₂}
-use mathlib.Core.Bool.{Bool, true, false, _||_}
-use mathlib.Core.List.{List, [], _∷_}
+use mathlib.Core.Bool.{Bool, true, false}
+use mathlib.Core.List.{List, _∷_}
 use Prim.Native.Nat.{ℕ, zero, suc, _+_, _-_, _*_, _/_, _%_, _^_, _≤_, _<_}
 use native.Mathlib.Omega.{arith}
 use native.Mathlib.Nat.{add-zero, zero-add, suc-add, add-assoc, add-comm, sub-zero, suc-sub-suc, zero-mul, one-mul, mul-assoc, pow-suc}
@@ -22,7 +22,8 @@ pub mask-same : (n : ℕ) (f g : ℕ → Bool) → ((i : ℕ) → i < n → f i 
 unfolding mask
 mask-same zero f g e = refl
 mask-same (suc n) f g e =
-    ap₂ (λ (b : Bool) (x : ℕ). counts b * 2 ^ n + x) (e 0 (omega arith)) (mask-same n (λ i. f (suc i)) (λ i. g (suc i)) λ i l. e (suc i) (omega (arith, l)))
+    ap₂ (λ (b : Bool) (x : ℕ). counts b * 2 ^ n + x) (e 0 (omega arith))
+    (mask-same n (λ i. f (suc i)) (λ i. g (suc i)) λ i l. e (suc i) (omega (arith, l)))
 
 pub masks-same : (k : ℕ) (f g : ℕ → Bool) → ((i : ℕ) → i < 64 * k → f i ≡ g i) → masks k f ≡ masks k g
 unfolding masks
@@ -76,7 +77,8 @@ howMany-split (suc n) m f =
     let g : ℕ → Bool = λ i. f (suc i) in
     ap (λ (k : ℕ). howMany k f) (suc-add n m)
     ∙ ap (λ (x : ℕ). counts (f 0) + x) (howMany-split n m g)
-    ∙ ap (λ (x : ℕ). counts (f 0) + (howMany n g + x)) (howMany-same m (λ i. g (n + i)) (λ i. f (suc n + i)) λ i l. ap f (sym (suc-add n i)))
+    ∙ ap (λ (x : ℕ). counts (f 0) + (howMany n g + x))
+    (howMany-same m (λ i. g (n + i)) (λ i. f (suc n + i)) λ i l. ap f (sym (suc-add n i)))
     ∙ sym (add-assoc (counts (f 0)) (howMany n g) (howMany m (λ i. f (suc n + i))))
 
 -- g is f with number j marked

@@ -11,7 +11,7 @@ use Rattle.typing.specs.Refusals.{Verdict, refused, accepted, TypedTerm, elabor
 use Rattle.outcomes.specs.Marks.{masks, howMany}
 use Rattle.outcomes.specs.declared.FreeInputs.{FreeInputs}
 
--- whether a term reads input i: some variable names it. Under no binder that is variable i, under d binders variable d + i, as `uses` counts.
+-- whether a term reads input i: some variable names it. Under d binders that is variable d + i, as `uses` counts.
 unfoldable pub reads : Term → ℕ → Bool
 reads t i = ltb 0 (uses t i)
 

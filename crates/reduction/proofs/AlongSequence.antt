@@ -48,7 +48,8 @@ module _ (pure : Term → Bool) (P : Term → Type 0)
       let c = along Dropping (q .phase₃) (b .last) in
       (λ w i. go a b c i, c .last)
     where
-      go : Along (q .inserted) (q .insertion) → Along (q .reduced) (q .reduction) → Along u (q .dropping) → {w : Term} → w ∈ terms pure q → P w
+      go : Along (q .inserted) (q .insertion) → Along (q .reduced) (q .reduction) → Along u (q .dropping) → {w : Term}
+          → w ∈ terms pure q → P w
       go a b c here = x
       go a b c {w = w} (there i) =
           in-either w (q .insertion) (q .reduction ++ q .dropping) (a .each)

@@ -9,9 +9,8 @@ use native.Mathlib.Nat.{zero-add}
 use lib.Dec.{T, eqb, eqb→eq}
 use borrow.Author.Tests.{eq-eqb}
 use Rattle.syntax.specs.Lists.{_∈_, here, there}
-use Rattle.syntax.specs.Maybe.{given}
 use Rattle.syntax.specs.Term.{Term, Terms, var, call, lam, app, bind, pair, fst, snd, inl, inr, case, done, arg, node, asVar}
-use Rattle.syntax.specs.Positions.{Position, root, within, bound, positions, positionsAll}
+use Rattle.syntax.specs.Positions.{Position, within, bound, positions, positionsAll}
 use Rattle.syntax.specs.Values.{counts, uses, usesAll}
 
 -- whether a number is given, and is n
@@ -39,7 +38,8 @@ holding-within C n [] = refl
 holding-within C n (p ∷ ps) = ap (λ (k : ℕ). counts (holds n p) + k) (holding-within C n ps)
 
 -- two parts, under no binder
-two : (n : ℕ) (C : Term → Term) (a : Term) (D : Term → Term) (b : Term) → uses a n ≡ holding n (positions a) → uses b n ≡ holding n (positions b)
+two : (n : ℕ) (C : Term → Term) (a : Term) (D : Term → Term) (b : Term) → uses a n ≡ holding n (positions a)
+    → uses b n ≡ holding n (positions b)
     → uses a n + uses b n ≡ 0 + holding n (map (within C) (positions a) ++ map (within D) (positions b))
 two n C a D b e d =
     omega (

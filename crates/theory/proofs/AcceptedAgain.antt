@@ -1,9 +1,8 @@
 -- What the checks accept they accept under a larger limit, and with it every term of the same type whose words are within the limit.
 use mathlib.Core.Path.{_≡_, sym, subst}
-use mathlib.Core.Bool.{Bool, _&&_}
 use mathlib.Core.List.{List}
 use mathlib.Core.Option.{some}
-use lib.Dec.{T, leb, le→leb, leb→le}
+use lib.Dec.{T}
 use lib.ListN.{length}
 use Prim.Native.Nat.{ℕ, _+_, _^_, _≤_}
 use native.Mathlib.Omega.{arith}
@@ -12,10 +11,9 @@ use Rattle.syntax.specs.Term.{Term}
 use Rattle.syntax.specs.Encoding.{encode, size}
 use Rattle.syntax.proofs.Decoding.{decode-words}
 use Rattle.syntax.proofs.Nodes.{words-of}
-use Rattle.syntax.proofs.Options.{and-left, and-right, both-true}
 use Rattle.typing.specs.Infer.{infer}
-use Rattle.typing.specs.TableChecks.{lengthsFit}
 use Rattle.typing.specs.Refusals.{accepted, TypedTerm, elaborate}
+use Rattle.typing.proofs.LengthsFit.{Lengths, lengths-of, lengths-fit}
 use Rattle.typing.proofs.Accepted.{Passed, passed-accepted}
 use Rattle.typing.proofs.InferTyped.{typing-of}
 use Rattle.typing.proofs.TypedScoped.{type-scoped}
@@ -23,30 +21,17 @@ use Rattle.theory.proofs.Fields.{fitting, shaped}
 use Rattle.theory.proofs.TypedWords.{words-formed}
 
 -- the lengths of the tables, with other words
-lengths-again : (limit limit′ : ℕ) (tables : Tables) (words words′ : List ℕ) → T (lengthsFit limit tables words) → length words′ ≤ limit′
-    → 1 ≤ length words′ → T (lengthsFit limit′ tables words′)
-unfolding lengthsFit
-lengths-again limit limit′ tables words words′ h l m =
-    let t = leb (length (tables .types)) 1024 && leb (length (tables .calls)) 1024 && leb (length (tables .inputs)) 256 in
-    let fit = and-left t (leb (length words) limit) (and-left (t && leb (length words) limit) (leb 1 (length words)) h) in
-    both-true (t && leb (length words′) limit′) (leb 1 (length words′)) (both-true t (leb (length words′) limit′) fit (le→leb _ limit′ l))
-    (le→leb 1 _ m)
-
-words-within : (limit : ℕ) (tables : Tables) (words : List ℕ) → T (lengthsFit limit tables words) → (length words ≤ limit) × (1 ≤ length words)
-unfolding lengthsFit
-words-within limit tables words h =
-    let t = leb (length (tables .types)) 1024 && leb (length (tables .calls)) 1024 && leb (length (tables .inputs)) 256 in
-    let some-word = leb 1 (length words) in
-    let within = and-left (t && leb (length words) limit) some-word h in
-    (leb→le _ limit (and-right t (leb (length words) limit) within), leb→le 1 _ (and-right (t && leb (length words) limit) some-word h))
+lengths-again : {limit limit′ : ℕ} {tables : Tables} {words words′ : List ℕ} → Lengths limit tables words → length words′ ≤ limit′
+    → 1 ≤ length words′ → Lengths limit′ tables words′
+lengths-again l h k = record { types = l .types; calls = l .calls; inputs = l .inputs; words′ = h; some-word = k }
 
 -- the same words, under a larger limit
 pub accepted-longer : (limit limit′ : ℕ) (tables : Tables) (words : List ℕ) (x : TypedTerm) → Passed limit tables words x → limit ≤ limit′
     → elaborate limit′ tables words ≡ accepted x
 accepted-longer limit limit′ tables words x p l =
-    let w = words-within limit tables words (p .lengths) in
+    let w = lengths-of limit tables words (p .lengths) in
     passed-accepted limit′ tables words x (record {
-      lengths = lengths-again limit limit′ tables words words (p .lengths) (omega (arith, w .0, l)) (w .1);
+      lengths = lengths-fit limit′ tables words (lengths-again w (omega (arith, w .words′, l)) (w .some-word));
       types = p .types;
       no-twice = p .no-twice;
       calls = p .calls;
@@ -67,7 +52,7 @@ accepted-again limit limit′ tables words x u p e l m =
     let typed = typing-of tables (λ k. Unit) u (tables .inputs) (x .type) e (λ k i. tt) in
     let far : length (tables .inputs) + length (encode u) ≤ 2 ^ 30 = omega (arith, fit .inputs, l, m) in
     passed-accepted limit′ tables (encode u) (record { term = u; type = x .type }) (record {
-      lengths = lengths-again limit limit′ tables words (encode u) (p .lengths) l (words-of u);
+      lengths = lengths-fit limit′ tables (encode u) (lengths-again (lengths-of limit tables words (p .lengths)) l (words-of u));
       types = p .types;
       no-twice = p .no-twice;
       calls = p .calls;

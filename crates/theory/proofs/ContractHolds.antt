@@ -56,7 +56,8 @@ module _ (settings : Settings) (tables : Tables) (words : List ℕ) (before : Bu
         → Handed (checkedTo pure capacity settings v)
     unfolding checkedTo
     checked (refused n) (refusal m) e z = absurd (omega (arith, z))
-    checked (accepted x) p e z = reduced x e (reduce pure capacity settings (x .term)) (reduce-exact pure capacity settings (x .term)) refl z
+    checked (accepted x) p e z =
+        reduced x e (reduce pure capacity settings (x .term)) (reduce-exact pure capacity settings (x .term)) refl z
 
     pub handed-back : let o = normalizeOutcome settings tables words before in
         o .answer .refusal ≡ 0 → P (o .answer .ty) (take (o .answer .length) (o .buffers .output))

@@ -15,6 +15,7 @@ use Rattle.syntax.specs.Encoding.{encode, encodeAll, size}
 use Rattle.syntax.specs.Shaped.{count, Shaped, ShapedAll}
 use Rattle.typing.specs.Infer.{Context}
 use Rattle.typing.specs.TableChecks.{every, wellFormedCall, wellFormedCalls, lengthsFit}
+use Rattle.typing.proofs.LengthsFit.{lengths-of}
 use Rattle.syntax.proofs.Options.{and-left, and-right}
 use Rattle.typing.proofs.Typing.{Of, Signed, at-below, Typed, TypedAll, t-var, t-call, t-lam, t-app, t-bind, t-pair, t-fst, t-snd}
 use Rattle.typing.proofs.Typing.{t-inl, t-inr, t-case, t-done, t-arg}
@@ -36,13 +37,19 @@ pub record Fitting (tables : Tables) : Type 0 where
   pub counts : (k w : ℕ) → getElem? (tables .calls) k ≡ some w → countOf w ≤ 3
   pub results : (k w : ℕ) → getElem? (tables .calls) k ≡ some w → resultOf w < length (tables .types)
 
+-- a type with parts, and a call, are in their tables
+module _ (tables : Tables) where
+  pub known-type : {k F A B : ℕ} → Of tables k F A B → F < length (tables .types)
+  known-type {k} {F} o =
+      let w = bind-some (getElem? (tables .types) F) (λ w. given {X = ℕ × ℕ} (eqb (kindOf w) k) (leftOf w, rightOf w)) (o .is) in
+      below (tables .types) F (w .1)
+
+  pub known-call : {k : ℕ} {s : Signature} → Signed tables k s → k < length (tables .calls)
+  known-call {k} e = below (tables .calls) k (bind-some (getElem? (tables .calls) k) (λ w. some (signatureOf w)) (e .is) .1)
+
 module _ (tables : Tables) (fit : Fitting tables) (ok : ℕ → Type 0) where
   type-below : {k F A B : ℕ} → Of tables k F A B → F < 2 ^ 30
-  type-below {k} {F} o =
-      let w = bind-some (getElem? (tables .types) F) (λ w. given {X = ℕ × ℕ} (eqb (kindOf w) k) (leftOf w, rightOf w)) (o .is) in
-      let h = below (tables .types) F (w .1) in
-      let i = fit .types in
-      omega (arith, h, i)
+  type-below o = omega (arith, known-type tables o, fit .types)
 
   arity-is : (calls : List ℕ) (k w : ℕ) → getElem? calls k ≡ some w → getD calls k 0 ≡ w
   arity-is [] k w e = absurd (Option·none-ne-some w e)
@@ -58,11 +65,9 @@ module _ (tables : Tables) (fit : Fitting tables) (ok : ℕ → Type 0) where
       × (arity (tables .calls) k ≡ count ts)
   call-fits {Γ} {k} {ts} {s} e xs =
       let w = bind-some (getElem? (tables .calls) k) (λ w. some (signatureOf w)) (e .is) in
-      let h = below (tables .calls) k (w .1) in
-      let i = fit .calls in
       let j = fit .counts k (w .0) (w .1) in
       let d = Option·some-injective (signatureOf (w .0)) s (w .2) in (
-        omega (arith, h, i),
+        omega (arith, known-call tables e, fit .calls),
         ap countOf (arity-is (tables .calls) k (w .0) (w .1)) ∙ min-is (countOf (w .0)) j
             ∙ sym (length-take (countOf (w .0)) (argumentFields (w .0))) ∙ ap (λ (s : Signature). length (s .arguments)) d
             ∙ sym (counts-typed xs),
@@ -117,21 +122,15 @@ call-passes types w h =
 -- checks 1 and 4 say that the tables fit
 pub fitting : (limit : ℕ) (tables : Tables) (words : List ℕ) → T (lengthsFit limit tables words) → T (wellFormedCalls tables)
     → Fitting tables
-unfolding lengthsFit wellFormedCalls
+unfolding wellFormedCalls
 fitting limit tables words h k =
-    let a = leb (length (tables .types)) 1024 in
-    let b = leb (length (tables .calls)) 1024 in
-    let c = leb (length (tables .inputs)) 256 in
-    let d = leb (length words) limit in
-    let x = and-left (a && b && c && d) (leb 1 (length words)) h in
-    let y = and-left (a && b && c) d x in
-    let z = and-left (a && b) c y in
+    let l = lengths-of limit tables words h in
     let passes : (j w : ℕ) → getElem? (tables .calls) j ≡ some w → (countOf w ≤ 3) × (resultOf w < length (tables .types)) =
     λ j w e. call-passes (length (tables .types)) w (entry-passes (wellFormedCall (length (tables .types))) (tables .calls) k j w e) in
     record {
-      types = leb→le (length (tables .types)) 1024 (and-left a b z);
-      calls = leb→le (length (tables .calls)) 1024 (and-right a b z);
-      inputs = leb→le (length (tables .inputs)) 256 (and-right (a && b) c y);
+      types = l .types;
+      calls = l .calls;
+      inputs = l .inputs;
       counts = λ j w e. passes j w e .0;
       results = λ j w e. passes j w e .1;
     }

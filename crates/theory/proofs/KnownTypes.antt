@@ -15,10 +15,10 @@ use Rattle.typing.specs.TableChecks.{every, wellFormedInputs}
 use Rattle.typing.specs.Refusals.{TypedTerm}
 use Rattle.typing.proofs.Accepted.{Passed}
 use Rattle.typing.proofs.InferTyped.{typing-of}
-use Rattle.typing.proofs.Trees.{Earlier, earlier, word-of, parts-below}
+use Rattle.typing.proofs.Trees.{Earlier, earlier, parts-below}
 use Rattle.typing.proofs.Typing.{At, here, there, Of, Signed, Typed, t-var, t-call, t-lam, t-app, t-bind, t-pair, t-fst, t-snd, t-inl}
 use Rattle.typing.proofs.Typing.{t-inr, t-case}
-use Rattle.theory.proofs.Fields.{below, bind-some, Fitting, fitting}
+use Rattle.theory.proofs.Fields.{bind-some, known-type, Fitting, fitting}
 
 module _ (tables : Tables) (wf : Earlier tables) (fit : Fitting tables) (ok : ℕ → Type 0) where
   abbrev InTable : ℕ → Type 0
@@ -42,13 +42,10 @@ module _ (tables : Tables) (wf : Earlier tables) (fit : Fitting tables) (ok : �
   variable-known (one-more a h) (there x) = variable-known h x
 
   -- a type with parts, its parts, and a call's result
-  whole-known : {k F A B : ℕ} → Of tables k F A B → InTable F
-  whole-known {k} {F} {A} {B} o = below (tables .types) F (word-of tables wf k F A B (o .is) .is)
-
   parts-known : {k F A B : ℕ} → Of tables (suc k) F A B → InTable A × InTable B
   parts-known {k} {F} {A} {B} o =
       let p = parts-below tables wf k F A B (o .is) in
-      let f = whole-known o in
+      let f = known-type tables o in
       (omega (arith, p .0), omega (arith, p .1))
 
   pub result-known : {k A : ℕ} {s : Signature} → Signed tables k s → s .result ≡ A → InTable A
@@ -60,14 +57,14 @@ module _ (tables : Tables) (wf : Earlier tables) (fit : Fitting tables) (ok : �
   typed-known : {Γ : Context} {t : Term} {A : ℕ} → Known Γ → Typed tables ok Γ t A → InTable A
   typed-known h (t-var x) = variable-known h x
   typed-known h (t-call z e d xs) = result-known e d
-  typed-known h (t-lam o x) = whole-known o
+  typed-known h (t-lam o x) = known-type tables o
   typed-known h (t-app o x y) = parts-known o .1
   typed-known h (t-bind x y) = typed-known (one-more (typed-known h x) h) y
-  typed-known h (t-pair o x y) = whole-known o
+  typed-known h (t-pair o x y) = known-type tables o
   typed-known h (t-fst o x) = parts-known o .0
   typed-known h (t-snd o x) = parts-known o .1
-  typed-known h (t-inl o x) = whole-known o
-  typed-known h (t-inr o x) = whole-known o
+  typed-known h (t-inl o x) = known-type tables o
+  typed-known h (t-inr o x) = known-type tables o
   typed-known h (t-case o x y z) = typed-known (one-more (parts-known o .0) h) y
 
 -- the type that the checks answer is one of at most 1,024

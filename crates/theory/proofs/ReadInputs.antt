@@ -2,8 +2,8 @@
 use mathlib.Core.Path.{_≡_, refl, sym, _∙_, ap, subst}
 use mathlib.Core.Bool.{Bool, true, false}
 use mathlib.Core.List.{List}
-use mathlib.Core.Option.{Option, some}
-use lib.Dec.{T, ltb, ltb→lt}
+use mathlib.Core.Option.{Option}
+use lib.Dec.{T, ltb→lt}
 use lib.ListN.{length}
 use borrow.Author.Tests.{ltb-true, lt-ltb}
 use Prim.Native.Nat.{ℕ, _+_, _<_}
@@ -54,7 +54,8 @@ module _ (tables : Tables) (words : List ℕ) (x : TypedTerm) (e : elaborate oth
   -- a mark stands exactly where some variable names the input: one that is under d binders and has the number d + i
   pub marked-named : (i : ℕ) → i < 256 → markAt (freeInputsOutcome tables words .marks) i ≡ 1 → Found i (positions (x .term))
   unfolding reads
-  marked-named i l m = used-found (x .term) i (ltb-true 0 (uses (x .term) i) (counts-true-is (reads (x .term) i) (sym (mark-reads i l) ∙ m)))
+  marked-named i l m =
+      used-found (x .term) i (ltb-true 0 (uses (x .term) i) (counts-true-is (reads (x .term) i) (sym (mark-reads i l) ∙ m)))
 
   pub named-marked : (i : ℕ) → i < 256 → Found i (positions (x .term)) → markAt (freeInputsOutcome tables words .marks) i ≡ 1
   unfolding reads

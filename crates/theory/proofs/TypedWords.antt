@@ -3,24 +3,22 @@
 use mathlib.Core.Path.{_≡_, sym, subst}
 use mathlib.Core.Bool.{Bool, true, _&&_}
 use mathlib.Core.List.{List, [], _∷_, _++_}
-use mathlib.Core.Option.{some}
-use lib.Dec.{T, ltb, eqb, lt→ltb}
-use lib.ListN.{length, length-append, getElem?}
+use lib.Dec.{T, ltb, lt→ltb}
+use lib.ListN.{length, length-append}
 use Prim.Native.Nat.{ℕ, _+_, _^_, _≤_, _<_}
 use native.Mathlib.Omega.{arith}
-use Rattle.syntax.specs.Maybe.{given}
-use Rattle.syntax.specs.Words.{pack, kindOf, leftOf, rightOf, numberOf, typeOf}
-use Rattle.syntax.specs.Tables.{Tables, Signature, signatureOf}
+use Rattle.syntax.specs.Words.{pack, kindOf, numberOf, typeOf}
+use Rattle.syntax.specs.Tables.{Tables}
 use Rattle.syntax.specs.Term.{Term, Terms, node}
-use Rattle.syntax.specs.Encoding.{encode, encodeAll, size}
+use Rattle.syntax.specs.Encoding.{encode, encodeAll}
 use Rattle.syntax.proofs.Options.{both-true}
 use Rattle.typing.specs.Infer.{Context}
 use Rattle.typing.specs.TableChecks.{every}
 use Rattle.typing.specs.TermChecks.{wellFormedFields, wellFormedWord, wellFormedWords}
-use Rattle.typing.proofs.Typing.{Of, Signed, at-below, Typed, TypedAll, t-var, t-call, t-lam, t-app, t-bind, t-pair, t-fst, t-snd}
+use Rattle.typing.proofs.Typing.{Of, at-below, Typed, TypedAll, t-var, t-call, t-lam, t-app, t-bind, t-pair, t-fst, t-snd}
 use Rattle.typing.proofs.Typing.{t-inl, t-inr, t-case, t-done, t-arg}
 use Rattle.typing.proofs.ScopedNode.{every-append}
-use Rattle.theory.proofs.Fields.{below, bind-some, Fitting}
+use Rattle.theory.proofs.Fields.{known-type, known-call, Fitting}
 
 and-after : (b : Bool) → T b → T (b && true)
 and-after b h = both-true b true h tt
@@ -35,13 +33,6 @@ module _ (tables : Tables) (fit : Fitting tables) (ok : ℕ → Type 0) where
       let eA : A ≡ typeOf w = omega (arith, hA) in
       subst (λ (x : ℕ). T (wellFormedFields tables x (numberOf w) (typeOf w))) ek
       (subst (λ (x : ℕ). T (wellFormedFields tables k x (typeOf w))) en (subst (λ (x : ℕ). T (wellFormedFields tables k n x)) eA h))
-
-  known-type : {k F A B : ℕ} → Of tables k F A B → F < length (tables .types)
-  known-type {k} {F} o =
-      below (tables .types) F (bind-some (getElem? (tables .types) F) (λ w. given {X = ℕ × ℕ} (eqb (kindOf w) k) (leftOf w, rightOf w)) (o .is) .1)
-
-  known-call : {k : ℕ} {s : Signature} → Signed tables k s → k < length (tables .calls)
-  known-call {k} e = below (tables .calls) k (bind-some (getElem? (tables .calls) k) (λ w. some (signatureOf w)) (e .is) .1)
 
   abbrev Formed : List ℕ → Type 0
   Formed ws = T (wellFormedWords tables ws)
@@ -71,7 +62,7 @@ module _ (tables : Tables) (fit : Fitting tables) (ok : ℕ → Type 0) where
   of-type : {j F A B : ℕ} (k : ℕ) → k ≤ 15 → Of tables j F A B → (T (ltb F (length (tables .types))) → T (wellFormedFields tables k 0 F))
       → T (wellFormedWord tables (pack k 0 F))
   of-type {F = F} k h o f =
-      let l = known-type o in
+      let l = known-type tables o in
       word-formed k 0 F h (omega arith) (omega (arith, l, fit .types)) (f (lt→ltb F (length (tables .types)) l))
 
   mutual
@@ -81,16 +72,18 @@ module _ (tables : Tables) (fit : Fitting tables) (ok : ℕ → Type 0) where
     words-formed (t-var {n = n} x) h =
         before _ [] (word-formed 0 n 0 (omega arith) (omega (arith, at-below x, h)) (omega arith) tt) none
     words-formed (t-call {k = k} z e d xs) h =
-        let l = known-call e in
+        let l = known-call tables e in
         let f = and-after (ltb k (length (tables .calls))) (lt→ltb k (length (tables .calls)) l) in
         before _ _ (word-formed 1 k 0 (omega arith) (omega (arith, l, fit .calls)) (omega arith) f) (all-formed xs (omega (arith, h)))
     words-formed (t-lam o x) h = before _ _ (of-type 2 (omega arith) o (λ l. l)) (words-formed x (omega (arith, h)))
     words-formed (t-app {f = f} {a = a} o x y) h =
         let i = length-append (encode f) (encode a) in
-        before _ _ (plain 3 (omega arith) tt) (both (encode f) (encode a) (words-formed x (omega (arith, h, i))) (words-formed y (omega (arith, h, i))))
+        before _ _ (plain 3 (omega arith) tt)
+        (both (encode f) (encode a) (words-formed x (omega (arith, h, i))) (words-formed y (omega (arith, h, i))))
     words-formed (t-bind {e = e} {b = b} x y) h =
         let i = length-append (encode e) (encode b) in
-        before _ _ (plain 4 (omega arith) tt) (both (encode e) (encode b) (words-formed x (omega (arith, h, i))) (words-formed y (omega (arith, h, i))))
+        before _ _ (plain 4 (omega arith) tt)
+        (both (encode e) (encode b) (words-formed x (omega (arith, h, i))) (words-formed y (omega (arith, h, i))))
     words-formed (t-pair {a = a} {b = b} o x y) h =
         let i = length-append (encode a) (encode b) in
         before _ _ (of-type 5 (omega arith) o (λ l. l))

@@ -63,7 +63,8 @@ unread-came : (settings : Settings) (tables : Tables) (words : List ℕ) (before
 unread-came settings tables words before x left u c e r =
     let pure = mayDrop (tables .calls) in
     let p = accepted-passed normalizeLimit tables words x e in
-    let g = came (subst (Exact pure (capacityOf before) (settings .budget) (x .term)) r (reduce-exact pure (capacityOf before) settings (x .term))) in
+    let capacity = capacityOf before in
+    let g = came (subst (Exact pure capacity (settings .budget) (x .term)) r (reduce-exact pure capacity settings (x .term))) in
     let z = last tables pure (x .type) (x .term) u (p .type) (g .sequence) in
     let source = accepted-longer normalizeLimit otherLimit tables words x p (omega arith) in
     let fits : size u ≤ otherLimit = omega (arith, g .fits, capacity-bounded before) in

@@ -4,6 +4,7 @@ pub mod EveryNode
 pub mod Typing
 pub mod InferTyped
 pub mod Order
+pub mod LengthsFit
 pub mod Accepted
 pub mod Trees
 pub mod TypeNumbers

@@ -16,7 +16,8 @@ use Rattle.outcomes.specs.Check.{checkedOf}
 use Rattle.checker.specs.Places.{typedTerm}
 use Rattle.checker.proofs.Every.{told-true, told-false, told}
 use Rattle.checker.proofs.PlaceByPlace.{Left, all-left, passes, fails, number-passes, number-fails, provides, provides-none}
-use Rattle.checker.proofs.TermPlaces.{Lengths, lengths-of, Decoded, starts, whole-decoded, not-whole}
+use Rattle.typing.proofs.LengthsFit.{Lengths, lengths-of}
+use Rattle.checker.proofs.TermPlaces.{Decoded, starts, whole-decoded, not-whole}
 use Rattle.checker.proofs.check.check_within.Statement.{statement}
 use Rattle.checker.proofs.check.check_within.Tie as tie
 

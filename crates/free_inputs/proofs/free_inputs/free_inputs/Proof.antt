@@ -1,6 +1,5 @@
 -- Refused by the checks, or accepted and then marked; 256 marks have no more than 256 ones.
 use Prim.Native.Nat.{_≤_}
-use native.Mathlib.Omega.{arith}
 use Rattle.syntax.specs.Tables.{Tables, over}
 use Rattle.typing.specs.Refusals.{otherLimit}
 use Rattle.words.specs.Fronts.{Starts}
