@@ -14,10 +14,10 @@
  *
  * What holds for all calls: they return, and read and write no memory but the slices and the
  * stack. They keep nothing between calls, so threads may make them at the same time.
- * They use the stack of their thread, the first two the more the deeper a term nests. The least
- * that was enough for the deepest term: 1,028 KiB for flatten_respond, 772 KiB for
- * flatten_normalize, 200 KiB for flatten_free_inputs (bindings/rust/tests/depth.rs). Allow 2 MiB. A
- * stack that is too small is not refused by number: the process ends at the stack's guard page.
+ * They use the stack of their thread, flatten_respond and flatten_normalize the more, the deeper a
+ * term nests. The least that was enough for the deepest term: 1,028 KiB for flatten_respond, 772 KiB
+ * for flatten_normalize, 200 KiB for flatten_free_inputs (bindings/rust/tests/depth.rs). Allow
+ * 2 MiB. A stack that is too small is not refused by number: the process ends at its guard page.
  */
 #ifndef FLATTEN_H
 #define FLATTEN_H
@@ -67,7 +67,8 @@ struct flatten_answer {
 /*
  * The answer of flatten_free_inputs.
  *
- * refusal  0 where the term is accepted, else 1 to 9 as above; but 1 is for over 8,192 term words
+ * refusal  0 where the term is accepted, else 1 to 9 as above, with 8,192 term words in place of
+ *          4,096
  * marks    a mark for each input: that of input i is bit 63 - i % 64 of marks[i / 64], so that
  *          input 0 has the highest bit of the first word; all zero where the term is refused
  * count    how many marks are set

@@ -21,7 +21,7 @@
 //! ```
 //! use flatten::{free_inputs, Tables};
 //!
-//! // let v1, v2: the let is not used.
+//! // let v1, v3: inputs 1 and 2; the let is not used.
 //! let tables = Tables { types: &[0], calls: &[], inputs: &[0, 0, 0] };
 //! let free = free_inputs(tables, &[4 << 60, 1 << 30, 3 << 30])?;
 //!
@@ -30,10 +30,10 @@
 //! # Ok::<(), flatten::Refused>(())
 //! ```
 //!
-//! The calls use the stack of their thread, the first two the more the deeper a term nests. The
-//! least that was enough for the deepest term: 1,028 KiB for `respond`, 772 KiB for `normalize`,
-//! 200 KiB for `free_inputs` (tests/depth.rs). A thread's default of 2 MiB is enough. A stack that
-//! is too small ends the process.
+//! The calls use the stack of their thread. `respond` and `normalize` use the more, the deeper a
+//! term nests. The least that was enough for the deepest term: 1,028 KiB for `respond`, 772 KiB for
+//! `normalize`, 200 KiB for `free_inputs` (tests/depth.rs). A thread's default of 2 MiB is enough. A
+//! stack that is too small ends the process.
 
 mod free_inputs;
 mod inputs;

@@ -107,7 +107,8 @@ fn nested_arguments() {
     assert_eq!(status(tables, &term), "ok 1 8175 1 0 0 2 0 0 0 0 2 0");
 }
 
-/// `d (d (… v0))` and `(λ. (λ. … d v0) v0) v0`: 8,192 words are the most that `free_inputs` takes.
+/// `d (d (… i))` and `(λ. (λ. … d i) i) i`, where i is the input: 8,192 words are the most that
+/// `free_inputs` takes.
 #[test]
 fn nested_reads() {
     let levels = 2730;

@@ -20,16 +20,9 @@ fn variable(number: u64) -> u64 {
 
 #[test]
 fn each_input_has_its_mark() {
-    for (input, marks) in [
-        (0, [HIGHEST, 0, 0, 0]),
-        (63, [1, 0, 0, 0]),
-        (64, [0, HIGHEST, 0, 0]),
-        (127, [0, 1, 0, 0]),
-        (128, [0, 0, HIGHEST, 0]),
-        (191, [0, 0, 1, 0]),
-        (192, [0, 0, 0, HIGHEST]),
-        (255, [0, 0, 0, 1]),
-    ] {
+    for input in 0..256 {
+        let mut marks = [0; 4];
+        marks[input as usize / 64] = HIGHEST >> (input % 64);
         let expected = Ok(FreeInputs { marks, count: 1 });
         assert_eq!(free_inputs(TABLES, &[variable(input)]), expected);
         let under_a_let = [LET, C, variable(input + 1)];

@@ -48,7 +48,7 @@ first = 2 ^ 63 ∷ 0 ∷ 0 ∷ 0 ∷ []
 abbrev two : List ℕ
 two = (2 ^ 63 + 2 ^ 62) ∷ 0 ∷ 0 ∷ 0 ∷ []
 
--- n lets, the first of which stands under d others, each binds an input: the one under d others input d
+-- n lets, each in the body of the one before, the first under d binders; the let under e binders binds input e
 abbrev every : ℕ → ℕ → Term
 every zero d = v0
 every (suc n) d = bind (var (d + d)) (every n (suc d))

@@ -1,3 +1,3 @@
 pub mod OneMark
 pub mod MarksByNode
-pub mod ReadInputs
+pub mod FreeInputs

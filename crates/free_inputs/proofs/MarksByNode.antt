@@ -3,30 +3,28 @@
 use Prim.Native.Nat.{ℕ, suc, _+_, _-_, _≤_}
 use native.Mathlib.Omega.{arith}
 use native.Mathlib.Nat.{add-zero, zero-add, suc-add}
-use native.Mathlib.Decide.{ℕ-discrete}
 use mathlib.Core.Path.{_≡_, refl, sym, _∙_, ap, ap₂}
 use mathlib.Core.Bool.{Bool, true, false, _&&_, _||_, or-true, or-false}
 use mathlib.Core.List.{List}
 use lib.Dec.{eqb, ltb}
 use lib.ListN.{length, getD, set, replicate, length-set}
 use lib.Seq.{getD-set-same}
-use borrow.Author.Tests.{lt-ltb, ne-eqb}
-use Rattle.syntax.specs.Term.{Term, Terms, done, arg, node}
+use borrow.Author.Tests.{lt-ltb}
+use Rattle.syntax.specs.Term.{Terms, done, arg, node}
 use Rattle.syntax.specs.Parts.{partCount}
 use Rattle.syntax.specs.Shaped.{count}
 use Rattle.syntax.specs.Values.{counts, uses, usesAll}
-use Rattle.syntax.proofs.ByKind.{by-kind}
 use Rattle.words.specs.Fronts.{Starts}
 use Rattle.words.specs.Joined.{joined}
 use Rattle.words.specs.Reach.{outer, inner}
 use Rattle.words.specs.Depths.{OpensParts}
-use Rattle.words.proofs.Reach.{uses-binding}
+use Rattle.words.proofs.Reach.{uses-of-node}
 use Rattle.words.proofs.RowAtDepths.{Gathering, ahead, ahead-one, ahead-opened, Near, near-begin, near-next, opens-room}
 use Rattle.words.proofs.Rows.{Marching, march-from, march-inside, march-fits, march-end, march-on, one-starts, one-holds}
 use Rattle.outcomes.specs.Marks.{mask, masks}
 use Rattle.outcomes.specs.FreeInputs.{reads}
 use Rattle.outcomes.proofs.Marks.{masks-same}
-use Rattle.free_inputs.specs.InputMarks.{names, MarksInput, MarksInputs}
+use Rattle.free_inputs.specs.InputMarks.{names, MarksNamed, MarksRead}
 
 -- the uses of input i by terms at their depths
 abbrev pub usesOf : ℕ → Gathering ℕ
@@ -42,19 +40,6 @@ usesOf i = record {
   join-none = λ x. omega arith;
   join-join = λ x y z. omega arith;
 }
-
--- a node's uses are its own, if it is the variable, and its parts'
-uses-node : (t : Term) (n : ℕ)
-    → uses t n ≡ counts (eqb (node t .kind) 0 && eqb (node t .number) n) + (usesAll (outer t) n + usesAll (inner t) (suc n))
-unfolding node uses outer inner
-uses-node t n = by (ℕ-discrete (node t .kind) 0)
-  where
-    Goal : Term → Type 0
-    Goal x = uses x n ≡ counts (eqb (node x .kind) 0 && eqb (node x .number) n) + (usesAll (outer x) n + usesAll (inner x) (suc n))
-
-    by : Dec (node t .kind ≡ 0) → Goal t
-    by (yes z) = by-kind Goal 0 t z λ m. omega arith
-    by (no z) = omega (arith, uses-binding t n z, ap (λ (b : Bool). counts (b && eqb (node t .number) n)) (ne-eqb (node t .kind) 0 z))
 
 -- used at all, with one use more or not
 used-too : (u : ℕ) (b : Bool) → ltb 0 (u + counts b) ≡ (ltb 0 u || b)
@@ -92,7 +77,7 @@ module _ {calls words p marks : List ℕ} {owed at : ℕ} (g : Scan calls words 
   scan-inside = march-inside calls words (g .going)
 
   -- no term is owed
-  pub scan-end : owed ≡ 0 → MarksInputs calls words marks
+  pub scan-end : owed ≡ 0 → MarksRead calls words marks
   unfolding uses ahead reads
   scan-end z = record {
     told = λ t rest h.
@@ -113,7 +98,7 @@ module _ {calls words p marks : List ℕ} {owed at : ℕ} (g : Scan calls words 
         (omega (arith, far))
 
     -- a node
-    pub scan-node : (q new : List ℕ) (r : ℕ) → length q ≡ length p → MarksInput (getD words at 0) under marks new
+    pub scan-node : (q new : List ℕ) (r : ℕ) → length q ≡ length p → MarksNamed (getD words at 0) under marks new
         → OpensParts calls (getD words at 0) under p q (owed - 1) r → Scan calls words q new r (at + 1)
     unfolding ahead uses usesOf
     scan-node q new r l m w =
@@ -133,14 +118,14 @@ module _ {calls words p marks : List ℕ} {owed at : ℕ} (g : Scan calls words 
               let a : ahead (usesOf i) q (joined os (joined is (v .later)))
               ≡ usesAll os (under + i) + (usesAll is (suc under + i) + ahead (usesOf i) p (v .later)) =
               ahead-opened (usesOf i) (w .opened) os is (v .later) c (v .outers) (v .parts) in
-              let at = node (v .term) in
-              let own : counts (names word (under + i)) ≡ counts (eqb (at .kind) 0 && eqb (at .number) (under + i)) =
+              let n = node (v .term) in
+              let own : counts (names word (under + i)) ≡ counts (eqb (n .kind) 0 && eqb (n .number) (under + i)) =
               ap₂ (λ (k n : ℕ). counts (eqb k 0 && eqb n (under + i))) (v .kind) (v .number) in
               omega (
                 arith,
                 v .to-do i,
                 ap (λ (j : ℕ). uses (v .term) (getD p j 0 + i)) c,
-                uses-node (v .term) (under + i),
+                uses-of-node (v .term) (under + i),
                 own,
                 ap (usesAll is) (suc-add under i),
                 a,

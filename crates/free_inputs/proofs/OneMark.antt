@@ -13,7 +13,7 @@ use borrow.Author.Tests.{eq-eqb, ne-eqb}
 use Rattle.syntax.specs.Words.{kindOf, numberOf}
 use Rattle.outcomes.specs.Marks.{masks}
 use Rattle.outcomes.proofs.Marks.{masks-same, masks-marked}
-use Rattle.free_inputs.specs.InputMarks.{names, MarksInput}
+use Rattle.free_inputs.specs.InputMarks.{names, MarksNamed}
 
 -- the highest bit, shifted down
 shifted : (j : ℕ) → j ≤ 63 → 2 ^ 63 / 2 ^ j ≡ 2 ^ (63 - j)
@@ -33,23 +33,23 @@ own-number w n k h =
     ap (λ (b : Bool). b && eqb (numberOf w) n) (eq-eqb (kindOf w) 0 k) ∙ eq-eqb (numberOf w) n h
 
 module _ (w under : ℕ) (old : List ℕ) where
-  names-none : ((i : ℕ) → i < 256 → names w (under + i) ≡ false) → MarksInput w under old old
+  names-none : ((i : ℕ) → i < 256 → names w (under + i) ≡ false) → MarksNamed w under old old
   names-none h = record {
     told = λ f e. e ∙ masks-same 4 f (λ i. f i || names w (under + i)) λ i l.
         sym (ap (λ (b : Bool). f i || b) (h i l) ∙ or-false (f i));
   }
 
   -- the word is not a variable's
-  pub no-variable : kindOf w ≢ 0 → MarksInput w under old old
+  pub no-variable : kindOf w ≢ 0 → MarksNamed w under old old
   no-variable h = names-none λ i l. other-kind w (under + i) h
 
   -- its number is no input's
-  pub no-input : ((i : ℕ) → i < 256 → numberOf w ≢ under + i) → MarksInput w under old old
+  pub no-input : ((i : ℕ) → i < 256 → numberOf w ≢ under + i) → MarksNamed w under old old
   no-input h = names-none λ i l. other-number w (under + i) (h i l)
 
   -- input j is named
   pub input : (j : ℕ) → kindOf w ≡ 0 → numberOf w ≡ under + j → j < 256
-      → MarksInput w under old (set old (j / 64) (bitOr (getD old (j / 64) 0) (2 ^ 63 / 2 ^ (j % 64))))
+      → MarksNamed w under old (set old (j / 64) (bitOr (getD old (j / 64) 0) (2 ^ 63 / 2 ^ (j % 64))))
   input j k n l = record {
     told = λ f e.
         ap {B = List ℕ} (λ o. set o (j / 64) (bitOr (getD o (j / 64) 0) (2 ^ 63 / 2 ^ (j % 64)))) e

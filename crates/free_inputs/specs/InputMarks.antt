@@ -14,10 +14,10 @@ use Rattle.outcomes.specs.FreeInputs.{reads}
 abbrev pub names : ℕ → ℕ → Bool
 names w n = eqb (kindOf w) 0 && eqb (numberOf w) n
 
--- beside the inputs that were marked, the one that a word names under so many binders is
-pub record MarksInput (w under : ℕ) (old new : List ℕ) : Type 0 where
+-- the inputs marked before, and the one that the word names under so many binders
+pub record MarksNamed (w under : ℕ) (old new : List ℕ) : Type 0 where
   pub told : (f : ℕ → Bool) → old ≡ masks 4 f → new ≡ masks 4 (λ i. f i || names w (under + i))
 
 -- for whatever term the words begin with: the marks of the inputs that it reads
-pub record MarksInputs (calls words marks : List ℕ) : Type 0 where
+pub record MarksRead (calls words marks : List ℕ) : Type 0 where
   pub told : (t : Term) (rest : List ℕ) → Holds calls words t rest → marks ≡ masks 4 (reads t)

@@ -15,7 +15,7 @@ use lib.Pow.{pow-pos, pow-lt, pow-add, high}
 use lib.Bits.{bitOr, or-block, or-zero-r, block-odd}
 use Rattle.syntax.specs.Values.{counts}
 use Rattle.syntax.proofs.Options.{counts-one}
-use Rattle.outcomes.specs.Marks.{mask, masks, howMany, markAt}
+use Rattle.outcomes.specs.Marks.{mask, masks, howMany}
 
 -- marks that agree make the same mask
 pub mask-same : (n : ℕ) (f g : ℕ → Bool) → ((i : ℕ) → i < n → f i ≡ g i) → mask n f ≡ mask n g
@@ -196,7 +196,10 @@ mask-digit (suc n) (suc i) f l =
     ∙ block-odd c i (x / 2 ^ d)
     ∙ mask-digit n i (λ i. f (suc i)) (omega (arith, l))
 
--- the mark of a number in the words
+-- the mark of a number, 1 or 0, as it stands in the words
+unfoldable pub markAt : List ℕ → ℕ → ℕ
+markAt words i = getD words (i / 64) 0 / 2 ^ (63 - i % 64) % 2
+
 pub mark-masks : (k i : ℕ) (f : ℕ → Bool) → i < 64 * k → markAt (masks k f) i ≡ counts (f i)
 unfolding masks markAt
 mark-masks zero i f l = absurd (omega (arith, l))

@@ -1,8 +1,7 @@
 -- Marks as binary digits: yes or no for each number, packed into words with the first mark as the highest digit.
-use Prim.Native.Nat.{ℕ, zero, suc, _+_, _-_, _*_, _/_, _%_, _^_}
+use Prim.Native.Nat.{ℕ, zero, suc, _+_, _*_, _^_}
 use mathlib.Core.Bool.{Bool}
 use mathlib.Core.List.{List, [], _∷_}
-use lib.ListN.{getD}
 use Rattle.syntax.specs.Values.{counts}
 
 -- the marks of 0 up to n - 1 as a number of n binary digits; the mark of 0 is the highest
@@ -19,7 +18,3 @@ masks (suc k) f = mask 64 f ∷ masks k (λ i. f (64 + i))
 unfoldable pub howMany : ℕ → (ℕ → Bool) → ℕ
 howMany zero f = 0
 howMany (suc n) f = counts (f 0) + howMany n (λ i. f (suc i))
-
--- the mark of i as it stands in the words: 1 or 0
-unfoldable pub markAt : List ℕ → ℕ → ℕ
-markAt words i = getD words (i / 64) 0 / 2 ^ (63 - i % 64) % 2

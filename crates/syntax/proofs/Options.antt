@@ -83,6 +83,14 @@ pub counts-one : (b : Bool) → counts b ≤ 1
 counts-one true = omega arith
 counts-one false = omega arith
 
+pub counts-is-1 : (b : Bool) → counts b ≡ 1 → b ≡ true
+counts-is-1 true e = refl
+counts-is-1 false e = absurd (omega (arith, e))
+
+pub counts-is-0 : (b : Bool) → counts b ≡ 0 → b ≡ false
+counts-is-0 true e = absurd (omega (arith, e))
+counts-is-0 false e = refl
+
 -- a variable uses itself
 pub counts-true : (b : Bool) → T b → 1 ≤ counts b
 counts-true true h = omega arith

@@ -1,4 +1,5 @@
--- What the checks accept they accept under a larger limit, and with it every term of the same type whose words are within the limit.
+-- What the checks accept under one limit they accept under a larger one. Over the same tables they accept every term of the same type that
+-- is within the limit.
 use mathlib.Core.Path.{_≡_, sym, subst}
 use mathlib.Core.List.{List}
 use mathlib.Core.Option.{some}

@@ -1,3 +1,4 @@
+pub mod AcceptedAgain
 pub mod ClaimHolds
 pub mod Compatible
 pub mod ContractHolds
@@ -13,10 +14,6 @@ pub mod Grammar
 pub mod GrammarNormal
 pub mod GrammarTest
 pub mod KnownTypes
-pub mod TypedWords
-pub mod AcceptedAgain
-pub mod ReadInputs
-pub mod UnreadInputs
 pub mod NextInsertion
 pub mod NextReduction
 pub mod Operands
@@ -24,6 +21,7 @@ pub mod OperandsKept
 pub mod PendingSteps
 pub mod PendingStructure
 pub mod Preserve
+pub mod ReadInputs
 pub mod Relation
 pub mod RuledOut
 pub mod SameRuns
@@ -32,7 +30,9 @@ pub mod SoundInsert
 pub mod SoundReduce
 pub mod SoundStep
 pub mod Subformulas
+pub mod TypedWords
 pub mod TypesKept
+pub mod UnreadInputs
 pub mod ValuesMakeNoCalls
 pub mod WrongOnCases
 pub mod WrongPrograms

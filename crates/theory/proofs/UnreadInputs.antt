@@ -1,7 +1,7 @@
 -- Request P1's law: an input that a term does not read is read by no term of its reduction sequence, and stays unmarked for the words that
 -- `normalize` hands back. For a step uses no new variable.
 use mathlib.Core.Path.{_≡_, refl, sym, _∙_, ap, subst}
-use mathlib.Core.Bool.{Bool, true, false}
+use mathlib.Core.Bool.{Bool, false}
 use mathlib.Core.List.{List}
 use lib.Dec.{ltb}
 use lib.ListN.{take}
@@ -20,11 +20,13 @@ use Rattle.reduction.specs.Reduction.{Counts, Settings, reached, reduce}
 use Rattle.reduction.proofs.Exact.{Exact, reduce-exact}
 use Rattle.reduction.proofs.StepUses.{step-uses}
 use Rattle.reduction.proofs.AlongSequence.{every-term}
-use Rattle.outcomes.specs.Marks.{markAt}
+use Rattle.outcomes.proofs.Marks.{markAt}
 use Rattle.outcomes.specs.FreeInputs.{reads, freeInputsOutcome}
 use Rattle.outcomes.specs.Normalize.{Buffers, capacityOf, normalizeOutcome}
 use Rattle.outcomes.specs.declared.FreeInputs.{FreeInputs}
 use Rattle.typing.proofs.Accepted.{accepted-passed}
+use Rattle.typing.proofs.Encoding.{encode-decode}
+use Rattle.syntax.proofs.Options.{counts-is-0}
 use Rattle.theory.proofs.ReadInputs.{accepted-marks, mark-reads}
 use Rattle.theory.proofs.AcceptedAgain.{accepted-longer, accepted-again}
 use Rattle.theory.proofs.ClaimHolds.{last, came}
@@ -46,15 +48,20 @@ unread-between pure {t} {u} q i e =
     let k = every-term pure (λ w. uses w i ≡ 0) (λ phase t s d z. step-uses pure phase t s d i z) q (unread-unused t i e) in
     (λ w m. unused-unread w i (k .0 w m), unused-unread u i (k .1))
 
--- what the marks of a term say of those of its normal form: the checks accept it too, and what is unmarked stays unmarked
+-- What the marks of a source say of its reduction sequence: `free_inputs` accepts the source's words and those handed back, and an input
+-- that is unmarked for the source's words is read by no term of the sequence and is unmarked for the words handed back.
 pub record StaysUnread (tables : Tables) (words result : List ℕ) : Type 0 where
-  pub accepted′ : freeInputsOutcome tables result .refusal ≡ 0
-  pub unread : (i : ℕ) → i < 256 → markAt (freeInputsOutcome tables words .marks) i ≡ 0
+  pub source : Term
+  pub normal : Term
+  pub sequence : Sequence (mayDrop (tables .calls)) source normal
+  pub source-words : words ≡ encode source
+  pub normal-words : result ≡ encode normal
+  pub source-accepted : freeInputsOutcome tables words .refusal ≡ 0
+  pub normal-accepted : freeInputsOutcome tables result .refusal ≡ 0
+  pub between : (i : ℕ) → i < 256 → markAt (freeInputsOutcome tables words .marks) i ≡ 0
+      → (w : Term) → w ∈ terms (mayDrop (tables .calls)) sequence → reads w i ≡ false
+  pub unmarked : (i : ℕ) → i < 256 → markAt (freeInputsOutcome tables words .marks) i ≡ 0
       → markAt (freeInputsOutcome tables result .marks) i ≡ 0
-
-counts-false : (b : Bool) → counts b ≡ 0 → b ≡ false
-counts-false true e = absurd (omega (arith, e))
-counts-false false e = refl
 
 -- of a reduction that came through
 unread-came : (settings : Settings) (tables : Tables) (words : List ℕ) (before : Buffers) (x : TypedTerm) (left : ℕ) (u : Term)
@@ -69,11 +76,19 @@ unread-came settings tables words before x left u c e r =
     let source = accepted-longer normalizeLimit otherLimit tables words x p (omega arith) in
     let fits : size u ≤ otherLimit = omega (arith, g .fits, capacity-bounded before) in
     let normal = accepted-again normalizeLimit otherLimit tables words x u p (z .type) fits (omega arith) in
+    let unread : (i : ℕ) → i < 256 → markAt (freeInputsOutcome tables words .marks) i ≡ 0 → reads (x .term) i ≡ false =
+    λ i l m. counts-is-0 (reads (x .term) i) (sym (mark-reads tables words x source i l) ∙ m) in
     record {
-      accepted′ = ap (λ (o : FreeInputs). o .refusal) (accepted-marks tables (encode u) _ normal);
-      unread = λ i l m.
-          let unread = counts-false (reads (x .term) i) (sym (mark-reads tables words x source i l) ∙ m) in
-          mark-reads tables (encode u) _ normal i l ∙ ap counts (unread-between pure (g .sequence) i unread .1);
+      source = x .term;
+      normal = u;
+      sequence = g .sequence;
+      source-words = sym (encode-decode tables words (p .words′) (x .term) (p .term));
+      normal-words = refl;
+      source-accepted = ap (λ (o : FreeInputs). o .refusal) (accepted-marks tables words x source);
+      normal-accepted = ap (λ (o : FreeInputs). o .refusal) (accepted-marks tables (encode u) _ normal);
+      between = λ i l m. unread-between pure (g .sequence) i (unread i l m) .0;
+      unmarked = λ i l m.
+          mark-reads tables (encode u) _ normal i l ∙ ap counts (unread-between pure (g .sequence) i (unread i l m) .1);
     }
 
 -- for every accepted outcome of `normalize`: an input unmarked for the source's words is unmarked for the normal form's words

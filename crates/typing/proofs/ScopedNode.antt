@@ -5,11 +5,12 @@ use mathlib.Core.List.{List, [], _∷_, _++_, map}
 use Prim.Native.Nat.{ℕ, suc, _+_}
 use native.Mathlib.Omega.{arith}
 use native.Mathlib.Nat.{zero-add, add-zero}
-use lib.Dec.{ltb}
+use lib.Dec.{T, ltb}
 use Rattle.syntax.specs.Kinds.{bindersAt}
 use Rattle.syntax.specs.Term.{Term, Terms, var, call, lam, app, bind, pair, fst, snd, inl, inr, case, done, arg, node, asVar}
 use Rattle.syntax.specs.Positions.{Position, within, bound, positions, positionsAll}
-use Rattle.syntax.proofs.Options.{and-last}
+use Rattle.syntax.specs.Lists.{_∈_, here, there}
+use Rattle.syntax.proofs.Options.{and-last, and-left, and-right}
 use Rattle.typing.specs.TableChecks.{every}
 use Rattle.typing.specs.TermChecks.{below, scopedAt}
 
@@ -22,6 +23,11 @@ every-map : {X Y : Type 0} (f : Y → Bool) (g : X → Bool) (h : X → Y) → (
     → every f (map h xs) ≡ every g xs
 every-map f g h e [] = refl
 every-map f g h e (x ∷ xs) = ap₂ {C = Bool} (λ a b. a && b) (e x) (every-map f g h e xs)
+
+-- what every member passes, each does
+pub every-member : {X : Type 0} (f : X → Bool) {x : X} {xs : List X} → x ∈ xs → T (every f xs) → T (f x)
+every-member f {x} (here {xs = xs}) h = and-left (f x) (every f xs) h
+every-member f (there {y = y} {xs = xs} i) h = every-member f i (and-right (f y) (every f xs) h)
 
 -- the test of a position
 abbrev test : {W : Type 0} → ℕ → Position W → Bool

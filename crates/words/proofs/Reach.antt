@@ -2,14 +2,19 @@
 -- under one binder: by the table of kinds.
 use Prim.Native.Nat.{ℕ, suc, _+_}
 use native.Mathlib.Omega.{arith}
+use native.Mathlib.Decide.{ℕ-discrete}
 use mathlib.Core.Path.{_≡_, refl, sym, ap}
 use mathlib.Core.Logic.{_≢_}
+use mathlib.Core.Bool.{Bool, _&&_}
 use mathlib.Core.List.{List, _∷_, _++_, append-nil}
+use lib.Dec.{eqb}
+use borrow.Author.Tests.{ne-eqb}
 use Rattle.syntax.specs.Term.{Term, var, call, lam, app, bind, pair, fst, snd, inl, inr, case, node}
 use Rattle.syntax.specs.Encoding.{wordOf, encode, encodeAll}
 use Rattle.syntax.specs.Shaped.{count}
 use Rattle.syntax.specs.Substitution.{Kit, under, traverse, traverseAll}
-use Rattle.syntax.specs.Values.{uses, usesAll}
+use Rattle.syntax.specs.Values.{counts, uses, usesAll}
+use Rattle.syntax.proofs.ByKind.{by-kind}
 use Rattle.words.specs.Joined.{joined}
 use Rattle.words.specs.Reach.{outer, inner, outerCount}
 use Rattle.words.proofs.Joined.{joined-done}
@@ -56,6 +61,19 @@ uses-binding (snd a) n h = omega arith
 uses-binding (inl A a) n h = omega arith
 uses-binding (inr A a) n h = omega arith
 uses-binding (case s l r) n h = omega arith
+
+-- with the node's own use, if it is the variable
+pub uses-of-node : (t : Term) (n : ℕ)
+    → uses t n ≡ counts (eqb (node t .kind) 0 && eqb (node t .number) n) + (usesAll (outer t) n + usesAll (inner t) (suc n))
+unfolding node uses outer inner
+uses-of-node t n = by (ℕ-discrete (node t .kind) 0)
+  where
+    Goal : Term → Type 0
+    Goal x = uses x n ≡ counts (eqb (node x .kind) 0 && eqb (node x .number) n) + (usesAll (outer x) n + usesAll (inner x) (suc n))
+
+    by : Dec (node t .kind ≡ 0) → Goal t
+    by (yes z) = by-kind Goal 0 t z λ m. omega arith
+    by (no z) = omega (arith, uses-binding t n z, ap (λ (b : Bool). counts (b && eqb (node t .number) n)) (ne-eqb (node t .kind) 0 z))
 
 -- a traversal
 module _ {X : Type 0} (kit : Kit X) (f : ℕ → X) where

@@ -1,4 +1,5 @@
-//! The normalizer on words alone, without trees: a forward scan, and rewriting in place.
+//! The normalizer on words alone, without trees: a forward scan, and rewriting in place; and which
+//! inputs occur free in a term.
 //! It is the baseline for speed; the oracle is the one to compare results with.
 
 mod checks;

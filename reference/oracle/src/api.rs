@@ -1,4 +1,5 @@
-//! The public calls on lent word slices: check, is_normal and normalize.
+//! The public calls on lent word slices: check, is_normal and normalize. `free_inputs.rs` has one
+//! more.
 
 use crate::checks::{examine, Refusal, LONGEST_TO_EXAMINE, LONGEST_TO_NORMALIZE};
 use crate::coding::encode;

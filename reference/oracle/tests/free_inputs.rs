@@ -1,4 +1,5 @@
-//! The call free_inputs: a mark stands exactly where some variable names the input.
+//! The call free_inputs: the marks are the inputs that variables name, by four other ways to find
+//! them.
 
 use oracle::coding::encode;
 use oracle::free_inputs::{free_inputs, FreeInputs};
@@ -152,7 +153,7 @@ fn what_was_put_in_is_marked() {
 }
 
 #[test]
-fn a_mark_stands_exactly_where_a_variable_names_the_input() {
+fn the_marks_are_the_inputs_that_variables_name() {
     let (mut total, mut unmarked) = (0, 0);
     each_sample_of_inputs(42, 1200, 150, |_, sample| {
         let marked = check_marks(&sample);

@@ -7,7 +7,7 @@ pub mod runs;
 
 use std::fmt::Display;
 
-/// The longest undamaged term in a line, in words.
+/// The longest undamaged term in a line of cases, bundles or runs, in words.
 const LONGEST_TERM: usize = 25;
 
 /// Items separated by single spaces.

@@ -5,7 +5,7 @@ use Rattle.typing.specs.Refusals.{otherLimit}
 use Rattle.words.specs.Fronts.{Starts}
 use Rattle.checker.proofs.Verdicts.{accepted-starts, accepted-short}
 use Rattle.outcomes.proofs.Marks.{onesOf}
-use Rattle.free_inputs.proofs.ReadInputs.{ones-few, refused-read, accepted-read}
+use Rattle.free_inputs.proofs.FreeInputs.{ones-few, refused-read, accepted-read}
 use borrow.Author.Needs.{needs}
 use Rattle.free_inputs.proofs.free_inputs.free_inputs.Statement.{statement}
 use Rattle.free_inputs.proofs.free_inputs.free_inputs.Tie as tie

@@ -103,7 +103,7 @@ impl Contents {
         ] {
             self.free_inputs_of(&sample);
         }
-        // 3k + 2 words for k levels: 8,192 words. The most parts to come, and the most binders.
+        // 3k + 2 words for k levels: 8,192 words. Many parts to come, and many binders.
         self.free_inputs_of(&calls_of_inputs(2730));
         self.free_inputs_of(&functions_of_inputs(2730));
         self.free_inputs_of(&nested_calls(8193));

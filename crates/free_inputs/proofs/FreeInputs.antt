@@ -14,9 +14,9 @@ use Rattle.outcomes.specs.declared.Checked.{Checked}
 use Rattle.outcomes.specs.declared.FreeInputs.{FreeInputs}
 use Rattle.outcomes.proofs.Marks.{howMany-most, onesOf, ones-masks}
 use Rattle.checker.proofs.Verdicts.{accepted-of, refused-of, accepted-holds}
-use Rattle.free_inputs.specs.InputMarks.{MarksInputs}
+use Rattle.free_inputs.specs.InputMarks.{MarksRead}
 
-pub ones-few : {calls words marks : List ℕ} → MarksInputs calls words marks → Starts calls words → onesOf marks ≤ 256
+pub ones-few : {calls words marks : List ℕ} → MarksRead calls words marks → Starts calls words → onesOf marks ≤ 256
 ones-few m s =
     let f = reads (s .term) in
     omega (arith, ap onesOf (m .told (s .term) (s .rest) (s .holds)), ones-masks f, howMany-most 256 f)
@@ -29,7 +29,7 @@ module _ (tables : Tables) (words : List ℕ) (r : Checked) (e : r ≡ checkedOf
   refused-read z = ap readOf (sym (refused-of otherLimit tables words r e z))
 
   -- accepted
-  pub accepted-read : r .refusal ≡ 0 → (marks : List ℕ) → MarksInputs (tables .calls) words marks
+  pub accepted-read : r .refusal ≡ 0 → (marks : List ℕ) → MarksRead (tables .calls) words marks
       → _≡_ {A = FreeInputs} (record { refusal = 0; marks = marks; count = onesOf marks }) (freeInputsOutcome tables words)
   unfolding freeInputsOutcome
   accepted-read z marks m =
