@@ -65,10 +65,10 @@ MUTANTS = [
     ("the last input has the highest mark", "theory", [
         (FREE, "{ℕ}", "{ℕ, _-_}"), (FREE, "masks 4 (reads (x .term))", "masks 4 (λ i. reads (x .term) (255 - i))")]),
     ("an input that is used twice is not read", "theory", [(FREE, "{ltb}", "{eqb}"), (FREE, "ltb 0 (uses t i)", "eqb 1 (uses t i)")]),
-    ("uses counted for inputs", "cases", [
+    ("uses counted for inputs", "theory", [
         (FREE, "{ℕ}", "{ℕ, zero, suc, _+_}"), (FREE, ANSWER, TOTAL + ANSWER),
         (FREE, "howMany 256 (reads (x .term))", "total 256 (uses (x .term))")]),
-    ("a refusal that answers marks", "cases", [(FREE, "replicate 4 0", "replicate 4 1")]),
+    ("a refusal that answers marks", "theory", [(FREE, "replicate 4 0", "replicate 4 1")]),
 ]
 
 def refusal(edits):

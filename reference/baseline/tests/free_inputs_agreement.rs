@@ -2,7 +2,7 @@
 
 use oracle::free_inputs::{free_inputs, FreeInputs};
 use tools::generate::boundaries::*;
-use tools::generate::damage::{apply_damages, DAMAGES};
+use tools::generate::damage::{apply_damages, flip_a_bit, DAMAGES};
 use tools::generate::deep::{moderate_deep_shapes, named_deep_shapes};
 use tools::generate::each::{each_random_sample, each_sample_of_inputs};
 use tools::generate::examples::examples;
@@ -64,35 +64,22 @@ fn damaged_tables() {
 #[test]
 fn flipped_bits() {
     each_random_sample(53, 10_000, 40, |random, mut sample| {
-        let tables = [
-            &mut sample.types,
-            &mut sample.calls,
-            &mut sample.inputs,
-            &mut sample.term,
-        ];
-        let mut words: Vec<&mut u64> = tables.into_iter().flatten().collect();
-        let index = random.below(words.len());
-        *words[index] ^= 1 << random.below(64);
+        flip_a_bit(random, &mut sample);
         agree(&sample, "a flipped bit");
     });
 }
 
 #[test]
 fn lengths_at_their_limits() {
-    for (sample, refusal) in [
-        (with_types(1024), 0),
-        (with_types(1025), 1),
-        (with_calls(1024), 0),
-        (with_calls(1025), 1),
-        (with_inputs(256), 0),
-        (with_inputs(257), 1),
+    let terms = [
         (nested_calls(8192), 0),
         (nested_calls(8193), 1),
         (unused_lets(4097), 0),
         (unused_lets(8192), 0),
         (unused_lets(8193), 1),
         (normal_chain(2730), 0),
-    ] {
+    ];
+    for (sample, refusal) in tables_at_their_limits().into_iter().chain(terms) {
         assert_eq!(agree(&sample, "at a limit").refusal, refusal);
     }
 }

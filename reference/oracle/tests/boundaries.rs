@@ -30,14 +30,7 @@ fn normalize_refusal(sample: &Sample) -> u32 {
 
 #[test]
 fn table_lengths() {
-    for (sample, refusal) in [
-        (with_types(1024), 0),
-        (with_types(1025), 1),
-        (with_calls(1024), 0),
-        (with_calls(1025), 1),
-        (with_inputs(256), 0),
-        (with_inputs(257), 1),
-    ] {
+    for (sample, refusal) in tables_at_their_limits() {
         assert_eq!(check_refusal(&sample), refusal);
         assert_eq!(normalize_refusal(&sample), refusal);
     }

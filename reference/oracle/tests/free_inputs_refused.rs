@@ -72,18 +72,13 @@ fn flipped_bits_are_refused_as_by_check() {
 
 #[test]
 fn lengths_at_their_limits() {
-    for (sample, refusal) in [
-        (with_types(1024), 0),
-        (with_types(1025), 1),
-        (with_calls(1024), 0),
-        (with_calls(1025), 1),
-        (with_inputs(256), 0),
-        (with_inputs(257), 1),
+    let terms = [
         (nested_calls(8192), 0),
         (nested_calls(8193), 1),
         (unused_lets(8192), 0),
         (unused_lets(8193), 1),
-    ] {
+    ];
+    for (sample, refusal) in tables_at_their_limits().into_iter().chain(terms) {
         assert_eq!(check_refusal(&sample, "at a limit"), refusal);
     }
     for shape in longest_readings() {

@@ -4,7 +4,7 @@ use oracle::api::{normalize, Answer};
 use oracle::bundle::{read_bundle, Lengths};
 use oracle::listing::respond;
 use tools::generate::bundles::BUNDLE_DAMAGES;
-use tools::generate::damage::{apply_damages, Damage, DAMAGES};
+use tools::generate::damage::{apply_damages, flip_a_bit, Damage, DAMAGES};
 use tools::generate::each::each_random_sample;
 use tools::generate::ill_typed::broken_samples;
 use tools::generate::Sample;
@@ -182,15 +182,7 @@ fn respond_lists_what_normalize_answers() {
 fn flipped_bits_do_no_harm() {
     random_samples(16, 20_000, |random, mut sample| {
         for _ in 0..random.between(1, 3) {
-            let tables = [
-                &mut sample.types,
-                &mut sample.calls,
-                &mut sample.inputs,
-                &mut sample.term,
-            ];
-            let mut words: Vec<&mut u64> = tables.into_iter().flatten().collect();
-            let index = random.below(words.len());
-            *words[index] ^= 1 << random.below(64);
+            flip_a_bit(random, &mut sample);
         }
         let checked = sample.check();
         let normal = sample.is_normal();

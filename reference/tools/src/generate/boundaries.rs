@@ -37,6 +37,18 @@ pub fn with_inputs(count: u64) -> Sample {
     }
 }
 
+/// Tables at their limits and one past them, each with the refusal that it gets.
+pub fn tables_at_their_limits() -> [(Sample, u32); 6] {
+    [
+        (with_types(1024), 0),
+        (with_types(1025), 1),
+        (with_calls(1024), 0),
+        (with_calls(1025), 1),
+        (with_inputs(256), 0),
+        (with_inputs(257), 1),
+    ]
+}
+
 /// `d (d ... c)`, of this many words: as deep as a term of its length can be.
 pub fn nested_calls(words: usize) -> Sample {
     let mut term = vec![pack_term(CALL, 1, 0); words - 1];

@@ -162,6 +162,19 @@ pub const DAMAGES: &[Damage] = &[
     }),
 ];
 
+/// Flips a bit of one of the words.
+pub fn flip_a_bit(random: &mut Random, sample: &mut Sample) {
+    let tables = [
+        &mut sample.types,
+        &mut sample.calls,
+        &mut sample.inputs,
+        &mut sample.term,
+    ];
+    let mut words: Vec<&mut u64> = tables.into_iter().flatten().collect();
+    let index = random.below(words.len());
+    *words[index] ^= 1 << random.below(64);
+}
+
 /// Puts in the damages, which have different numbers; answers the lowest number.
 pub fn apply_damages(random: &mut Random, sample: &mut Sample, damages: &[&Damage]) -> u32 {
     let mut damages = damages.to_vec();
