@@ -4,7 +4,7 @@ use mathlib.Core.List.{List, [], _∷_}
 use Prim.Native.Nat.{ℕ, _+_, _≤_}
 use native.Mathlib.Omega.{arith}
 use Rattle.syntax.specs.Maybe.{isSome}
-use Rattle.syntax.specs.Term.{Term, var, call, lam, app, bind, pair, fst, snd, inl, inr, case, node, partsOf, asVar, asLam, asApp}
+use Rattle.syntax.specs.Term.{Term, var, call, lam, app, bind, pair, fst, snd, inl, inr, case, unit, node, partsOf, asVar, asLam, asApp}
 use Rattle.syntax.specs.Term.{asBind, asPair, asFst, asSnd, asInl, asInr, asCase}
 use Rattle.syntax.specs.Values.{isValue, isComputation, counts}
 use Rattle.syntax.proofs.Options.{counts-one}
@@ -38,6 +38,7 @@ module _ (pure : Term → Bool) where
   reduction-alone (app (inl A′ a′) v) = omega arith
   reduction-alone (app (inr A′ a′) v) = omega arith
   reduction-alone (app (case s′ l′ r′) v) = omega arith
+  reduction-alone (app (unit A′) v) = omega arith
   reduction-alone (bind (var n′) c) = omega arith
   reduction-alone (bind (call k′ ts′) c) = omega arith
   reduction-alone (bind (lam A′ b′) c) = omega arith
@@ -49,6 +50,7 @@ module _ (pure : Term → Bool) where
   reduction-alone (bind (inl A′ a′) c) = omega (arith, counts-one (isSome (fire pure LetValue (bind (inl A′ a′) c))))
   reduction-alone (bind (inr A′ a′) c) = omega (arith, counts-one (isSome (fire pure LetValue (bind (inr A′ a′) c))))
   reduction-alone (bind (case s′ l′ r′) c) = omega (arith, counts-one (isSome (fire pure LetOfCase (bind (case s′ l′ r′) c))))
+  reduction-alone (bind (unit A′) c) = omega arith
   reduction-alone (pair A a b) = omega arith
   reduction-alone (fst (var n′)) = omega arith
   reduction-alone (fst (call k′ ts′)) = omega arith
@@ -61,6 +63,7 @@ module _ (pure : Term → Bool) where
   reduction-alone (fst (inl A′ a′)) = omega arith
   reduction-alone (fst (inr A′ a′)) = omega arith
   reduction-alone (fst (case s′ l′ r′)) = omega arith
+  reduction-alone (fst (unit A′)) = omega arith
   reduction-alone (snd (var n′)) = omega arith
   reduction-alone (snd (call k′ ts′)) = omega arith
   reduction-alone (snd (lam A′ b′)) = omega arith
@@ -72,6 +75,7 @@ module _ (pure : Term → Bool) where
   reduction-alone (snd (inl A′ a′)) = omega arith
   reduction-alone (snd (inr A′ a′)) = omega arith
   reduction-alone (snd (case s′ l′ r′)) = omega arith
+  reduction-alone (snd (unit A′)) = omega arith
   reduction-alone (inl A a) = omega arith
   reduction-alone (inr A a) = omega arith
   reduction-alone (case (var n′) l r) = omega arith
@@ -85,6 +89,8 @@ module _ (pure : Term → Bool) where
   reduction-alone (case (inl A′ a′) l r) = omega (arith, counts-one (isSome (fire pure LeftCase (case (inl A′ a′) l r))))
   reduction-alone (case (inr A′ a′) l r) = omega (arith, counts-one (isSome (fire pure RightCase (case (inr A′ a′) l r))))
   reduction-alone (case (case s′ l′ r′) l r) = omega arith
+  reduction-alone (case (unit A′) l r) = omega arith
+  reduction-alone (unit A) = omega arith
 
   -- the other phases have one rule
   pub alone : (phase : Phase) (t : Term) → fitting (rules phase) t ≤ 1

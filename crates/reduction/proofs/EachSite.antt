@@ -3,7 +3,7 @@ use mathlib.Core.Path.{_≡_}
 use mathlib.Core.Option.{some}
 use Prim.Native.Nat.{ℕ}
 use lib.ListN.{getElem?}
-use Rattle.syntax.specs.Term.{Term, var, call, lam, app, bind, pair, fst, snd, inl, inr, case, node}
+use Rattle.syntax.specs.Term.{Term, var, call, lam, app, bind, pair, fst, snd, inl, inr, case, unit, node}
 use Rattle.syntax.specs.Positions.{Position, positions}
 use Rattle.syntax.proofs.Inherited.{Inherited, inherited}
 use Rattle.reduction.proofs.Search.{Each, EachAll}
@@ -22,6 +22,7 @@ module _ (P : Term → Type 0) where
   each-parts (inl A a) e = (e .1, tt)
   each-parts (inr A a) e = (e .1, tt)
   each-parts (case s l r) e = (e .1, (e .2, (e .3, tt)))
+  each-parts (unit A) e = tt
 
   each-inherited : Inherited (λ t. Each t P) (λ ts. EachAll ts P)
   unfolding Each

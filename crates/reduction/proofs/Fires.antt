@@ -4,7 +4,7 @@ use mathlib.Core.Bool.{Bool, true, false, _&&_, not}
 use mathlib.Core.Option.{Option, some, none}
 use lib.Dec.{T, eqb}
 use Prim.Native.Nat.{ℕ, suc}
-use Rattle.syntax.specs.Term.{Term, Terms, var, call, lam, app, bind, pair, fst, snd, inl, inr, case, done, arg}
+use Rattle.syntax.specs.Term.{Term, Terms, var, call, lam, app, bind, pair, fst, snd, inl, inr, case, unit, done, arg}
 use Rattle.syntax.specs.Substitution.{traverse, traverseAll, renaming, rename, weaken, weakenBody, _⟦_⟧}
 use Rattle.syntax.specs.Values.{isValue, isComputation, argumentsIn, operands, uses}
 use Rattle.reduction.specs.Rules.{nameFirst, letInsertion, letOfLet, letOfCase, apply, first, second, leftCase, rightCase, letValue}
@@ -67,6 +67,7 @@ insert-is (snd a) = one-operand (isValue a) i-snd
 insert-is (inl A a) = one-operand (isValue a) i-inl
 insert-is (inr A a) = one-operand (isValue a) i-inr
 insert-is (case s l r) = one-operand (isValue s) i-case
+insert-is (unit A) = every-none
 
 -- a rule, a node that it fits, and what it makes of it
 pub data Fires (pure : Term → Bool) : Rule → Term → Term → Type 0 where

@@ -3,12 +3,12 @@ use mathlib.Core.Path.{_≡_, refl, sym, subst}
 use mathlib.Core.Bool.{Bool}
 use mathlib.Core.Option.{Option, some}
 use Prim.Native.Nat.{ℕ, _+_}
-use Rattle.syntax.specs.Term.{Term, Terms, var, call, lam, app, bind, pair, fst, snd, inl, inr, case, done, arg}
+use Rattle.syntax.specs.Term.{Term, Terms, var, call, lam, app, bind, pair, fst, snd, inl, inr, case, unit, done, arg}
 use Rattle.syntax.specs.Encoding.{size}
 use Rattle.reduction.specs.declared.Phase.{Phase}
 use Rattle.reduction.specs.Redex.{Step as Stepped, step}
 use Rattle.syntax.proofs.Options.{Every, every-none, every-map, every-at}
-use Rattle.reduction.proofs.Structure.{Hit, here, find, finds, find-var, finds-done, find-call, find-lam, find-app, find-bind}
+use Rattle.reduction.proofs.Structure.{Hit, here, find, finds, find-var, find-unit, finds-done, find-call, find-lam, find-app, find-bind}
 use Rattle.reduction.proofs.Structure.{find-pair, find-fst, find-snd, find-inl, find-inr, find-case, finds-arg, step-find}
 use Rattle.reduction.proofs.Roots.{Step, StepAll, s-root, s-call, s-lam, s-app₁, s-app₂, s-bind₁, s-bind₂, s-pair₁, s-pair₂, s-fst}
 use Rattle.reduction.proofs.Roots.{s-snd, s-inl, s-inr, s-case₁, s-case₂, s-case₃, s-this, s-next}
@@ -96,6 +96,7 @@ module _ (pure : Term → Bool) (phase : Phase) where
         (every-or (top (case s l r))
         (every-or (every-map _ (λ h s. a-case₁ refl s) (hit s))
         (every-or (every-map _ (λ h s. a-case₂ refl s) (hit l)) (every-map _ (λ h s. a-case₃ refl s) (hit r)))))
+    hit (unit A) = by (find-unit pure phase A) (top (unit A))
 
     hits : (ts : Terms) → Every (HitsAll ts) (finds pure phase ts)
     hits done = by (finds-done pure phase) every-none

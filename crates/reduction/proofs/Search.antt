@@ -3,12 +3,12 @@ use mathlib.Core.Path.{_≡_, refl, sym, _∙_, ap, subst}
 use mathlib.Core.Bool.{Bool}
 use mathlib.Core.Option.{Option, some, none, Option·map, Option·some-ne-none}
 use Prim.Native.Nat.{ℕ, _+_}
-use Rattle.syntax.specs.Term.{Term, Terms, var, call, lam, app, bind, pair, fst, snd, inl, inr, case, done, arg}
+use Rattle.syntax.specs.Term.{Term, Terms, var, call, lam, app, bind, pair, fst, snd, inl, inr, case, unit, done, arg}
 use Rattle.syntax.specs.Encoding.{size}
 use Rattle.reduction.specs.Rules.{rules}
 use Rattle.reduction.specs.declared.Phase.{Phase}
 use Rattle.reduction.specs.Redex.{Contraction, contract, Step as Stepped, step}
-use Rattle.reduction.proofs.Structure.{Hit, _or_, inside, stepOf, here, find, finds, find-var, finds-done, find-call, find-lam}
+use Rattle.reduction.proofs.Structure.{Hit, _or_, inside, stepOf, here, find, finds, find-var, find-unit, finds-done, find-call, find-lam}
 use Rattle.reduction.proofs.Structure.{find-app, find-bind, find-pair, find-fst, find-snd, find-inl, find-inr, find-case, finds-arg}
 use Rattle.reduction.proofs.Structure.{step-find}
 use Rattle.syntax.proofs.Options.{Every, every-none, every-some, every-map, every-at, map-none}
@@ -30,6 +30,7 @@ unfoldable mutual
   Each (inl A a) P = P (inl A a) × Each a P
   Each (inr A a) P = P (inr A a) × Each a P
   Each (case s l r) P = P (case s l r) × Each s P × Each l P × Each r P
+  Each (unit A) P = P (unit A)
 
   pub EachAll : Terms → (Term → Type 0) → Type 0
   EachAll done P = Unit
@@ -101,6 +102,7 @@ module _ (pure : Term → Bool) (phase : Phase) where
         (every-or (root (case s l r))
         (every-or (every-map _ (λ h s. s-case₁ s) (found s))
         (every-or (every-map _ (λ h s. s-case₂ s) (found l)) (every-map _ (λ h s. s-case₃ s) (found r)))))
+    found (unit A) = at (find-unit pure phase A) (root (unit A))
 
     foundAll : (ts : Terms) → Every (ToAll ts) (finds pure phase ts)
     foundAll done = at (finds-done pure phase) every-none
@@ -174,6 +176,7 @@ module _ (pure : Term → Bool) (phase : Phase) where
           missed r
               (inside-none (1 + size s + size l) (λ x. case s l x) (find pure phase r) (x .3)),
         )
+    missed (unit A) e = here-none (unit A) (sym (find-unit pure phase A) ∙ e)
 
     missedAll : (ts : Terms) → finds pure phase ts ≡ none → EachAll ts Misses
     missedAll done e = tt
@@ -211,6 +214,7 @@ module _ (pure : Term → Bool) (phase : Phase) where
         (none-or _ _ (none-inside 1 (λ x. case x l r) _ (unfound s (e .1)))
         (none-or _ _ (none-inside (1 + size s) (λ x. case s x r) _ (unfound l (e .2)))
         (none-inside (1 + size s + size l) (λ x. case s l x) _ (unfound r (e .3)))))
+    unfound (unit A) e = find-unit pure phase A ∙ none-here (unit A) e
 
     unfoundAll : (ts : Terms) → EachAll ts Misses → finds pure phase ts ≡ none
     unfoundAll done e = finds-done pure phase

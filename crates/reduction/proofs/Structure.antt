@@ -6,7 +6,7 @@ use mathlib.Core.Option.{Option, some, none, Option·map}
 use Prim.Native.Nat.{ℕ, zero, suc, _+_}
 use native.Mathlib.Omega.{arith}
 use lib.ListN.{length, length-map}
-use Rattle.syntax.specs.Term.{Term, Terms, var, call, lam, app, bind, pair, fst, snd, inl, inr, case, done, arg}
+use Rattle.syntax.specs.Term.{Term, Terms, var, call, lam, app, bind, pair, fst, snd, inl, inr, case, unit, done, arg}
 use Rattle.syntax.specs.Encoding.{size}
 use Rattle.syntax.specs.Positions.{Position, within, bound, positions, positionsAll}
 use Rattle.syntax.proofs.Positions.{length-positions}
@@ -122,13 +122,17 @@ module _ (pure : Term → Bool) (phase : Phase) where
       swap : (a b : ℕ) → a + b ≡ b + a
       swap a b = omega arith
 
+  or-nothing : (o : Option (Hit Term)) → (o or none) ≡ o
+  or-nothing none = refl
+  or-nothing (some h) = refl
+
   pub find-var : (n : ℕ) → find (var n) ≡ here (var n)
   unfolding find positions
   find-var n = or-nothing (here (var n))
-    where
-      or-nothing : (o : Option (Hit Term)) → (o or none) ≡ o
-      or-nothing none = refl
-      or-nothing (some h) = refl
+
+  pub find-unit : (A : ℕ) → find (unit A) ≡ here (unit A)
+  unfolding find positions
+  find-unit A = or-nothing (here (unit A))
 
   pub finds-done : finds done ≡ none
   unfolding finds positions

@@ -8,9 +8,9 @@ use Rattle.syntax.specs.Maybe.{given}
 use Rattle.reduction.specs.declared.Rule.{Rule}
 use Rattle.reduction.specs.declared.Rule.the-variants.{LetOfLet, LetOfCase, Apply, First, Second, LeftCase, RightCase, LetValue}
 
--- the kinds of values: variable, function, pair, left and right injection
+-- the kinds of values: variable, function, pair, left and right injection, unit
 unfoldable pub valueKind : ℕ → Bool
-valueKind k = eqb k 0 || eqb k 2 || eqb k 5 || eqb k 8 || eqb k 9
+valueKind k = eqb k 0 || eqb k 2 || eqb k 5 || eqb k 8 || eqb k 9 || eqb k 11
 
 -- the rule that fits a let, by the kind of its bound part and of that part's first part
 unfoldable pub letByKinds : ℕ → ℕ → Option Rule

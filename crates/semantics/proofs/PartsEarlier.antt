@@ -3,18 +3,17 @@
 use mathlib.Core.Path.{_≡_}
 use mathlib.Core.Option.{some}
 use lib.Dec.{T}
-use Prim.Native.Nat.{ℕ, zero, suc, _≤_, _<_}
+use Prim.Native.Nat.{ℕ, _≤_, _<_}
 use native.Mathlib.Omega.{arith}
-use Rattle.syntax.specs.Tables.{Tables, components}
+use Rattle.syntax.specs.Tables.{Tables, isComposite, components}
 use Rattle.typing.specs.TableChecks.{wellFormedTypes}
 use Rattle.typing.proofs.Trees.{earlier, parts-below}
-use Rattle.semantics.specs.TypeParts.{isComposite, PartOf, itself, ofLeft, ofRight}
+use Rattle.semantics.specs.TypeParts.{PartOf, itself, ofLeft, ofRight}
 
 module _ (tables : Tables) (checked : T (wellFormedTypes 0 (tables .types))) where
   -- the two parts of a function, a product or a sum are earlier
   both-earlier : (k A l r : ℕ) → T (isComposite k) → components tables k A ≡ some (l, r) → (l < A) × (r < A)
-  both-earlier zero A l r c e = absurd c
-  both-earlier (suc k) A l r c e = parts-below tables (earlier tables checked) k A l r e
+  both-earlier = parts-below tables (earlier tables checked)
 
   pub part-at-most : {D A : ℕ} → PartOf tables D A → D ≤ A
   part-at-most itself = omega arith

@@ -1,18 +1,13 @@
 -- Parts of a type (subformulas), types without functions, and the types of the calls in a term.
 use Prim.Native.Nat.{ℕ}
 use mathlib.Core.Path.{_≡_}
-use mathlib.Core.Bool.{Bool, _&&_}
 use mathlib.Core.List.{List, _∷_}
 use mathlib.Core.Option.{some, none}
-use lib.Dec.{T, leb}
-use Rattle.syntax.specs.Tables.{Tables, arrow, sum, components, Signature, signature}
+use lib.Dec.{T}
+use Rattle.syntax.specs.Tables.{Tables, arrow, isComposite, components, Signature, signature}
 use Rattle.syntax.specs.Term.{Term}
 use Rattle.syntax.specs.Lists.{_∈_}
 use Rattle.syntax.specs.Calls.{callsIn}
-
--- the kinds of types that have two parts: function, product, sum
-abbrev pub isComposite : ℕ → Bool
-isComposite k = leb arrow k && leb k sum
 
 module _ (tables : Tables) where
   -- D is part of A: a type is part of itself, and parts of parts count

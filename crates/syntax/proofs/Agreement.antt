@@ -1,7 +1,7 @@
 -- A traversal looks only at what is put for the variables that the term uses; and a renaming is a substitution that puts variables.
 use mathlib.Core.Path.{_≡_, refl, sym, _∙_, ap, ap₂}
 use Prim.Native.Nat.{ℕ, zero, suc, _≤_}
-use Rattle.syntax.specs.Term.{Term, Terms, var, call, lam, app, bind, pair, fst, snd, inl, inr, case, done, arg}
+use Rattle.syntax.specs.Term.{Term, Terms, var, call, lam, app, bind, pair, fst, snd, inl, inr, case, unit, done, arg}
 use Rattle.syntax.specs.Substitution.{Kit, under, traverse, traverseAll, rename, weaken, substitution, substitute}
 use Rattle.syntax.specs.Values.{uses, usesAll}
 use Rattle.syntax.proofs.Algebra.{identity, sub-rename}
@@ -40,6 +40,7 @@ module _ {X : Type 0} (K : Kit X) where
         let o = traverse-agrees r (under K f) (under K g)
         (same-under (uses r) f g (λ n u. h n (add-right (uses s n) _ (add-right (uses l (suc n)) (uses r (suc n)) u)))) in
         λ i. case (p i) (q i) (o i)
+    traverse-agrees (unit A) f g h = refl
 
     pub traverses-agree : (ts : Terms) (f g : ℕ → X) → ((n : ℕ) → 1 ≤ usesAll ts n → f n ≡ g n) → traverseAll K ts f ≡ traverseAll K ts g
     traverses-agree done f g h = refl

@@ -2,7 +2,7 @@
 -- each variable and is kept under binders.
 use mathlib.Core.Path.{_≡_, refl, sym, _∙_, ap, ap₂}
 use Prim.Native.Nat.{ℕ, zero, suc}
-use Rattle.syntax.specs.Term.{Term, Terms, var, call, lam, app, bind, pair, fst, snd, inl, inr, case, done, arg}
+use Rattle.syntax.specs.Term.{Term, Terms, var, call, lam, app, bind, pair, fst, snd, inl, inr, case, unit, done, arg}
 use Rattle.syntax.specs.Substitution.{Kit, under, traverse, traverseAll, renaming, rename, weaken, substitution, substitute}
 
 -- putting for each variable itself changes nothing
@@ -26,6 +26,7 @@ module _ {X : Type 0} (K : Kit X) where
       identity (inl A a) f h = ap (inl A) (identity a f h)
       identity (inr A a) f h = ap (inr A) (identity a f h)
       identity (case s l r) f h = λ i. case (identity s f h i) (identity l (under K f) (lift f h) i) (identity r (under K f) (lift f h) i)
+      identity (unit A) f h = refl
 
       pub identities : (ts : Terms) (f : ℕ → X) → Itself f → traverseAll K ts f ≡ ts
       identities done f h = refl
@@ -53,6 +54,7 @@ module _ {X Y Z : Type 0} (K : Kit X) (L : Kit Y) (M : Kit Z) where
       fusion (inr A x) f g h a = ap (inr A) (fusion x f g h a)
       fusion (case s l r) f g h a = λ i. case (fusion s f g h a i) (fusion l (under K f) (under L g) (under M h) (lift f g h a) i)
           (fusion r (under K f) (under L g) (under M h) (lift f g h a) i)
+      fusion (unit A) f g h a = refl
 
       pub fusions : (ts : Terms) (f : ℕ → X) (g : ℕ → Y) (h : ℕ → Z) → Agree f g h
           → traverseAll L (traverseAll K ts f) g ≡ traverseAll M ts h
@@ -71,6 +73,7 @@ unvar (snd a) = 0
 unvar (inl A a) = 0
 unvar (inr A a) = 0
 unvar (case s l r) = 0
+unvar (unit A) = 0
 
 pub var-injective : {m n : ℕ} → var m ≡ var n → m ≡ n
 unfolding unvar

@@ -1,7 +1,7 @@
 -- A term by the kind of its node: what holds of every term of a kind holds of a term whose node is of that kind.
 use Prim.Native.Nat.{ℕ, zero, suc}
 use mathlib.Core.Path.{_≡_, sym, subst}
-use Rattle.syntax.specs.Term.{Term, Terms, var, call, lam, app, bind, pair, fst, snd, inl, inr, case, node}
+use Rattle.syntax.specs.Term.{Term, Terms, var, call, lam, app, bind, pair, fst, snd, inl, inr, case, unit, node}
 
 -- P holds of every term of a kind
 abbrev pub OfKind : (Term → Type 0) → ℕ → Type 0
@@ -16,7 +16,8 @@ OfKind P (suc (suc (suc (suc (suc (suc (suc zero))))))) = (a : Term) → P (snd 
 OfKind P (suc (suc (suc (suc (suc (suc (suc (suc zero)))))))) = (A : ℕ) (a : Term) → P (inl A a)
 OfKind P (suc (suc (suc (suc (suc (suc (suc (suc (suc zero))))))))) = (A : ℕ) (a : Term) → P (inr A a)
 OfKind P (suc (suc (suc (suc (suc (suc (suc (suc (suc (suc zero)))))))))) = (s l r : Term) → P (case s l r)
-OfKind P (suc (suc (suc (suc (suc (suc (suc (suc (suc (suc (suc k))))))))))) = Unit
+OfKind P (suc (suc (suc (suc (suc (suc (suc (suc (suc (suc (suc zero))))))))))) = (A : ℕ) → P (unit A)
+OfKind P (suc (suc (suc (suc (suc (suc (suc (suc (suc (suc (suc (suc k)))))))))))) = Unit
 
 of-node : (P : Term → Type 0) (t : Term) → OfKind P (node t .kind) → P t
 unfolding node
@@ -31,6 +32,7 @@ of-node P (snd a) h = h a
 of-node P (inl A a) h = h A a
 of-node P (inr A a) h = h A a
 of-node P (case s l r) h = h s l r
+of-node P (unit A) h = h A
 
 pub by-kind : (P : Term → Type 0) (k : ℕ) (t : Term) → node t .kind ≡ k → OfKind P k → P t
 by-kind P k t e h = of-node P t (subst (OfKind P) (sym e) h)

@@ -7,7 +7,7 @@ use native.Mathlib.Omega.{arith}
 use Rattle.syntax.specs.Maybe.{_>>=_}
 use Rattle.syntax.specs.Words.{pack, kindOf, numberOf, typeOf}
 use Rattle.syntax.specs.Tables.{arity}
-use Rattle.syntax.specs.Term.{Term, Terms, var, call, lam, app, bind, pair, fst, snd, inl, inr, case, done, arg, node}
+use Rattle.syntax.specs.Term.{Term, Terms, var, call, lam, app, bind, pair, fst, snd, inl, inr, case, unit, done, arg, node}
 use Rattle.syntax.specs.Shaped.{count, Shaped, ShapedAll}
 use Rattle.syntax.specs.Encoding.{wordOf, encode, encodeAll}
 use Rattle.syntax.specs.Decoding.{leaf, unary, binary, ternary, splitForest, callBuilder, builders, graft, decodeForest, single}
@@ -91,6 +91,10 @@ module _ (calls : List ℕ) where
   unfolding graft builders node unary
   graft-inr A a h ts = rw (kind-pack 9 0 A (omega arith) h, type-pack 9 0 A (omega arith) h)
 
+  graft-unit : (A : ℕ) → A < 2 ^ 30 → (ts : Terms) → graft calls (wordOf (unit A)) ts ≡ some (arg (unit A) ts)
+  unfolding graft builders node leaf
+  graft-unit A h ts = rw (kind-pack 11 0 A (omega arith) h, type-pack 11 0 A (omega arith) h)
+
   mutual
     unfolding encode Shaped graft builders node unary binary ternary
 
@@ -115,6 +119,7 @@ module _ (calls : List ℕ) where
         (row (encode c) (encode l ++ encode r) rest (arg c) (λ ts. arg l (arg r ts))
         (decode-encode c ((encode l ++ encode r) ++ rest) (s .0))
         (row (encode l) (encode r) rest (arg l) (arg r) (decode-encode l (encode r ++ rest) (s .1)) (decode-encode r rest (s .2))))
+    decode-encode (unit A) rest s = under _ [] rest (λ ts. ts) (arg (unit A)) (graft-unit A s) (nothing rest)
 
     pub decode-encodeAll : (ts : Terms) (rest : List ℕ) → ShapedAll calls ts → Reads (encodeAll ts) rest (before ts)
     decode-encodeAll done rest s = nothing rest

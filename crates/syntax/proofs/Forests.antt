@@ -82,7 +82,7 @@ module _ (calls : List ℕ) where
       }
 
   -- a node of a known kind takes its parts from a forest that has them
-  gives : (k n A : ℕ) → k ≤ 10 → (ts : Terms) (m : ℕ) → count ts ≡ partsOfKind (arity calls n) k + m
+  gives : (k n A : ℕ) → k ≤ 11 → (ts : Terms) (m : ℕ) → count ts ≡ partsOfKind (arity calls n) k + m
       → Gives (getElem? (builders calls) k >>= λ build. build n A ts) (suc m)
   unfolding builders
   gives zero n A h ts m e = leaf-gives _ n A ts m e
@@ -96,12 +96,13 @@ module _ (calls : List ℕ) where
   gives (suc (suc (suc (suc (suc (suc (suc (suc zero)))))))) n A h ts m e = unary-gives _ n A ts m e
   gives (suc (suc (suc (suc (suc (suc (suc (suc (suc zero))))))))) n A h ts m e = unary-gives _ n A ts m e
   gives (suc (suc (suc (suc (suc (suc (suc (suc (suc (suc zero)))))))))) n A h ts m e = ternary-gives _ n A ts m e
-  gives (suc (suc (suc (suc (suc (suc (suc (suc (suc (suc (suc k))))))))))) n A h ts m e = absurd (omega arith)
+  gives (suc (suc (suc (suc (suc (suc (suc (suc (suc (suc (suc zero))))))))))) n A h ts m e = leaf-gives _ n A ts m e
+  gives (suc (suc (suc (suc (suc (suc (suc (suc (suc (suc (suc (suc k)))))))))))) n A h ts m e = absurd (omega arith)
 
   -- every word's kind is known
   unfoldable pub Kinds : List ℕ → Type 0
   Kinds [] = Unit
-  Kinds (w ∷ ws) = (kindOf w ≤ 10) × Kinds ws
+  Kinds (w ∷ ws) = (kindOf w ≤ 11) × Kinds ws
 
   some-suc : (o : Option ℕ) (n : ℕ) → Option·map suc o ≡ some (suc n) → o ≡ some n
   some-suc none n e = absurd (Option·none-ne-some (suc n) e)
@@ -218,7 +219,8 @@ module _ (calls : List ℕ) where
   keeps (suc (suc (suc (suc (suc (suc (suc (suc zero)))))))) n A h g ts s = unary-keeps _ n A (λ a p. (g, p)) ts s
   keeps (suc (suc (suc (suc (suc (suc (suc (suc (suc zero))))))))) n A h g ts s = unary-keeps _ n A (λ a p. (g, p)) ts s
   keeps (suc (suc (suc (suc (suc (suc (suc (suc (suc (suc zero)))))))))) n A h g ts s = ternary-keeps _ n A (λ a b c p q r. (p, q, r)) ts s
-  keeps (suc (suc (suc (suc (suc (suc (suc (suc (suc (suc (suc k))))))))))) n A h g ts s = untold
+  keeps (suc (suc (suc (suc (suc (suc (suc (suc (suc (suc (suc zero))))))))))) n A h g ts s = leaf-keeps _ n A g ts s
+  keeps (suc (suc (suc (suc (suc (suc (suc (suc (suc (suc (suc (suc k)))))))))))) n A h g ts s = untold
 
   pub shaped-forest : (ws : List ℕ) (us : Terms) → decodeForest calls ws ≡ some us → ShapedAll calls us
   unfolding decodeForest graft Shaped

@@ -5,7 +5,8 @@ use mathlib.Core.List.{List, [], _∷_, _++_, map}
 use mathlib.Core.Option.{some, Option·some-injective, Option·none-ne-some}
 use Prim.Native.Nat.{ℕ, zero, suc}
 use lib.ListN.{getElem?}
-use Rattle.syntax.specs.Term.{Term, Terms, var, call, lam, app, bind, pair, fst, snd, inl, inr, case, done, arg, node}
+use Rattle.syntax.specs.Term.{Term, Terms, var, call, lam, app, bind, pair, fst, snd, inl, inr, case, unit, done, arg, node}
+use Rattle.syntax.specs.Lists.{_∈_, here, there}
 use Rattle.syntax.specs.Positions.{Position, within, bound, positions, positionsAll}
 use Rattle.syntax.specs.Shaped.{Shaped, ShapedAll}
 
@@ -38,6 +39,10 @@ module _ {P : Term → Type 0} where
   look (more {p = q} h a) zero p e = subst (λ (x : Position _). P (x .subterm)) (Option·some-injective q p e) h
   look (more h a) (suc i) p e = look a i p e
 
+  look-in : {X : Type 0} {ps : List (Position X)} → All P ps → (p : Position X) → p ∈ ps → P (p .subterm)
+  look-in (more h a) p here = h
+  look-in (more h a) p (there i) = look-in a p i
+
 module _ {P : Term → Type 0} {PAll : Terms → Type 0} (I : Inherited P PAll) where
   mutual
     unfolding positions node
@@ -63,6 +68,7 @@ module _ {P : Term → Type 0} {PAll : Terms → Type 0} (I : Inherited P PAll) 
         more h (in-a-row (all-within (λ x. case x l r) (all s (I .first s _ i)))
         (in-a-row (all-bound (λ x. case s x r) (all l (I .first l _ j)))
         (all-bound (λ x. case s l x) (all r (I .first r _ (I .rest l _ j))))))
+    all (unit A) h = more h no-more
 
     allAll : (ts : Terms) → PAll ts → All P (positionsAll ts)
     allAll done h = no-more
@@ -71,6 +77,9 @@ module _ {P : Term → Type 0} {PAll : Terms → Type 0} (I : Inherited P PAll) 
 
   pub inherited : (t : Term) → P t → (i : ℕ) (p : Position Term) → getElem? (positions t) i ≡ some p → P (p .subterm)
   inherited t h i p e = look (all t h) i p e
+
+  pub inherited-in : (t : Term) → P t → (p : Position Term) → p ∈ positions t → P (p .subterm)
+  inherited-in t h p i = look-in (all t h) p i
 
 shaped-parts : (calls : List ℕ) (t : Term) → Shaped calls t → ShapedAll calls (node t .parts)
 unfolding Shaped node
@@ -85,6 +94,7 @@ shaped-parts calls (snd a) h = (h, tt)
 shaped-parts calls (inl A a) h = (h .1, tt)
 shaped-parts calls (inr A a) h = (h .1, tt)
 shaped-parts calls (case s l r) h = (h .0, (h .1, (h .2, tt)))
+shaped-parts calls (unit A) h = tt
 
 shaped-inherited : (calls : List ℕ) → Inherited (Shaped calls) (ShapedAll calls)
 unfolding Shaped

@@ -6,7 +6,7 @@ use native.Mathlib.Omega.{arith}
 use lib.ListN.{length, getD, drop, take, length-drop}
 use lib.Seq.{drop-append-seam, drop-drop, take-all}
 use Rattle.syntax.specs.Words.{pack, kindOf, numberOf, typeOf}
-use Rattle.syntax.specs.Term.{Term, Terms, var, call, lam, app, bind, pair, fst, snd, inl, inr, case, arg, node}
+use Rattle.syntax.specs.Term.{Term, Terms, var, call, lam, app, bind, pair, fst, snd, inl, inr, case, unit, arg, node}
 use Rattle.syntax.specs.Encoding.{wordOf, encode, encodeAll, size}
 use Rattle.syntax.specs.Parts.{partCount}
 use Rattle.syntax.proofs.Decoding.{kind-pack, number-pack, type-pack}
@@ -27,6 +27,7 @@ encode-node (snd a) = ap {B = List ℕ} (λ ws. pack 7 0 0 ∷ ws) (sym (append-
 encode-node (inl A a) = ap {B = List ℕ} (λ ws. pack 8 0 A ∷ ws) (sym (append-nil (encode a)))
 encode-node (inr A a) = ap {B = List ℕ} (λ ws. pack 9 0 A ∷ ws) (sym (append-nil (encode a)))
 encode-node (case s l r) = ap {B = List ℕ} (λ ws. pack 10 0 0 ∷ (encode s ++ (encode l ++ ws))) (sym (append-nil (encode r)))
+encode-node (unit A) = refl
 
 module _ (calls : List ℕ) where
   -- what the shape of a term says of its node
@@ -74,6 +75,7 @@ module _ (calls : List ℕ) where
         parts = kinded calls 10 0 0 (omega arith) (omega arith);
         shaped = (s .0, (s .1, (s .2, tt)));
       }
+  shaped-node (unit A) s = record { number = omega arith; type = s; parts = kinded calls 11 0 A (omega arith) s; shaped = tt }
 
   -- what stands at the front of words that begin with a term
   pub record Front (ws : List ℕ) (t : Term) (rest : List ℕ) : Type 0 where

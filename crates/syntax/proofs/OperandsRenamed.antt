@@ -3,7 +3,7 @@
 use mathlib.Core.Path.{_≡_, refl}
 use mathlib.Core.List.{List, [], _∷_}
 use Prim.Native.Nat.{ℕ}
-use Rattle.syntax.specs.Term.{Term, Terms, var, call, lam, app, bind, pair, fst, snd, inl, inr, case, done, arg}
+use Rattle.syntax.specs.Term.{Term, Terms, var, call, lam, app, bind, pair, fst, snd, inl, inr, case, unit, done, arg}
 use Rattle.syntax.specs.Substitution.{traverse, traverseAll, renaming, rename}
 use Rattle.syntax.specs.Values.{Operand, argumentsIn, operands}
 
@@ -34,3 +34,4 @@ operands-renamed f (snd a) = one-more refl (λ x. refl) no-more
 operands-renamed f (inl A a) = one-more refl (λ x. refl) no-more
 operands-renamed f (inr A a) = one-more refl (λ x. refl) no-more
 operands-renamed f (case s l r) = one-more refl (λ x. refl) no-more
+operands-renamed f (unit A) = no-more

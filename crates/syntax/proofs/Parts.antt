@@ -7,7 +7,7 @@ use native.Mathlib.Omega.{arith}
 use lib.ListN.{length, length-append}
 use Rattle.syntax.specs.Words.{pack, numberOf}
 use Rattle.syntax.specs.Tables.{arity}
-use Rattle.syntax.specs.Term.{Term, Terms, var, call, lam, app, bind, pair, fst, snd, inl, inr, case, done, arg, node}
+use Rattle.syntax.specs.Term.{Term, Terms, var, call, lam, app, bind, pair, fst, snd, inl, inr, case, unit, done, arg, node}
 use Rattle.syntax.specs.Encoding.{encode, encodeAll, size}
 use Rattle.syntax.specs.Kinds.{partsOfKind}
 use Rattle.syntax.specs.Parts.{partCount, extent, partEnd}
@@ -82,6 +82,7 @@ module _ (calls : List ℕ) where
     term-holds (case c l r) s = under _ (encode c ++ (encode l ++ encode r)) 3 (kinded 10 0 0 (omega arith) (omega arith))
         (row (encode c) (encode l ++ encode r) 1 2 (term-holds c (s .0))
         (row (encode l) (encode r) 1 1 (term-holds l (s .1)) (term-holds r (s .2))))
+    term-holds (unit A) s = under _ [] 0 (kinded 11 0 A (omega arith) s) nothing
 
     pub terms-hold : (ts : Terms) → ShapedAll calls ts → Holds (encodeAll ts) (count ts)
     terms-hold done s = nothing

@@ -5,7 +5,7 @@ use mathlib.Core.Logic.{_≢_}
 use Prim.Native.Nat.{ℕ, suc, _+_}
 use native.Mathlib.Omega.{arith}
 use Rattle.syntax.specs.Kinds.{bindersAt}
-use Rattle.syntax.specs.Term.{Term, Terms, var, call, lam, app, bind, pair, fst, snd, inl, inr, case, done, arg, Node, node}
+use Rattle.syntax.specs.Term.{Term, Terms, var, call, lam, app, bind, pair, fst, snd, inl, inr, case, unit, done, arg, Node, node}
 use Rattle.syntax.specs.Substitution.{Kit, traverse, traverseAll}
 use Rattle.syntax.specs.Under.{underBy}
 use Rattle.syntax.specs.PartsUnder.{traverseParts, usesParts}
@@ -40,6 +40,7 @@ module _ {X : Type 0} (kit : Kit X) where
   node-traverse (inl A a) f h = refl
   node-traverse (inr A a) f h = refl
   node-traverse (case s l r) f h = refl
+  node-traverse (unit A) f h = refl
 
 -- uses in a part that no binder stands over, and in one that a binder stands over
 outer : (t : Term) (n : ℕ) → uses t n ≡ uses t (n + 0)
@@ -66,3 +67,4 @@ uses-node (snd a) n h = omega (arith, outer a n)
 uses-node (inl A a) n h = omega (arith, outer a n)
 uses-node (inr A a) n h = omega (arith, outer a n)
 uses-node (case s l r) n h = omega (arith, outer s n, inner l n, inner r n)
+uses-node (unit A) n h = refl

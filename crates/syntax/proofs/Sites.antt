@@ -7,7 +7,7 @@ use Prim.Native.Nat.{ℕ, zero, suc, _+_, _<_}
 use native.Mathlib.Omega.{arith}
 use lib.ListN.{length, drop, getElem?, length-append, length-map}
 use lib.Seq.{drop-at}
-use Rattle.syntax.specs.Term.{Term, Terms, var, call, lam, app, bind, pair, fst, snd, inl, inr, case, done, arg}
+use Rattle.syntax.specs.Term.{Term, Terms, var, call, lam, app, bind, pair, fst, snd, inl, inr, case, unit, done, arg}
 use Rattle.syntax.specs.Encoding.{wordOf, encode, encodeAll, size}
 use Rattle.syntax.specs.Positions.{Position, root, within, bound, positions, positionsAll}
 use Rattle.syntax.proofs.Positions.{length-positions}
@@ -137,6 +137,7 @@ mutual
       (row-bound encode encode (case s l) (wordOf (case s l r) ∷ (encode s ++ encode l)) []
       (λ x. ap {B = List ℕ} (λ ws. wordOf (case s l x) ∷ ws) (sym (append-assoc (encode s) (encode l) (encode x)))
       ∙ last (wordOf (case s l x) ∷ (encode s ++ encode l)) (encode x)) r (row r) _ (third-at (wordOf (case s l r)) s l))))
+  row (unit A) = more (at-root (unit A)) no-more
 
   rowAll : (ts : Terms) → Row encodeAll (encodeAll ts) 0 (positionsAll ts)
   rowAll done = no-more

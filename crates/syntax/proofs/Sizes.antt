@@ -6,7 +6,7 @@ use native.Mathlib.Omega.{arith}
 use lib.Dec.{eqb, eqb·zero-suc, eqb·suc-zero, eqb·suc-suc}
 use mathlib.Core.List.{_++_}
 use lib.ListN.{length, length-append}
-use Rattle.syntax.specs.Term.{Term, Terms, var, call, lam, app, bind, pair, fst, snd, inl, inr, case, done, arg, node}
+use Rattle.syntax.specs.Term.{Term, Terms, var, call, lam, app, bind, pair, fst, snd, inl, inr, case, unit, done, arg, node}
 use Rattle.syntax.specs.Encoding.{encode, encodeAll, size}
 use Rattle.syntax.specs.Substitution.{under, traverse, traverseAll, renaming, rename, substitution, substitute, _⟦_⟧}
 use Rattle.syntax.specs.Under.{underBy, onlyAt}
@@ -57,6 +57,10 @@ pub size-inr : (A : ℕ) (a : Term) → size (inr A a) ≡ suc (size a)
 unfolding size encode
 size-inr A a = refl
 
+pub size-unit : (A : ℕ) → size (unit A) ≡ 1
+unfolding size encode
+size-unit A = refl
+
 pub size-case : (s l r : Term) → size (case s l r) ≡ suc (size s + (size l + size r))
 unfolding size encode
 size-case s l r = omega (arith, length-append (encode s) (encode l ++ encode r), length-append (encode l) (encode r))
@@ -95,6 +99,7 @@ mutual
   size-rename (case s l r) f =
       let g = under renaming f in
       omega (arith, size-case (rename s f) (rename l g) (rename r g), size-case s l r, size-rename s f, size-rename l g, size-rename r g)
+  size-rename (unit A) f = refl
 
   pub size-renames : (ts : Terms) (f : ℕ → ℕ) → sizeAll (traverseAll renaming ts f) ≡ sizeAll ts
   size-renames done f = refl
@@ -134,6 +139,7 @@ module _ (v : Term) where
     size-onlyAt (case s l r) d =
         let e = suc d in
         omega (arith, size-case (put s d) (put l e) (put r e), size-case s l r, size-onlyAt s d, size-onlyAt l e, size-onlyAt r e)
+    size-onlyAt (unit A) d = omega (arith, size-unit A)
 
     pub sizes-onlyAt : (ts : Terms) (d : ℕ)
         → sizeAll (traverseAll substitution ts (onlyAt d v)) + usesAll ts d ≡ sizeAll ts + usesAll ts d * size v

@@ -4,7 +4,7 @@ use mathlib.Core.List.{List, [], _∷_, _++_, map, map-map, map-append}
 use mathlib.Core.Option.{Option·map}
 use Prim.Native.Nat.{ℕ, zero, suc}
 use lib.ListN.{length, getElem?, length-map}
-use Rattle.syntax.specs.Term.{Term, Terms, var, call, lam, app, bind, pair, fst, snd, inl, inr, case, done, arg}
+use Rattle.syntax.specs.Term.{Term, Terms, var, call, lam, app, bind, pair, fst, snd, inl, inr, case, unit, done, arg}
 use Rattle.syntax.specs.Encoding.{wordOf, encode, encodeAll, size}
 use Rattle.syntax.specs.Positions.{Position, within, bound, positions, positionsAll}
 
@@ -21,6 +21,7 @@ unfoldable mutual
   nodes (inl A a) = inl A a ∷ nodes a
   nodes (inr A a) = inr A a ∷ nodes a
   nodes (case s l r) = case s l r ∷ (nodes s ++ (nodes l ++ nodes r))
+  nodes (unit A) = unit A ∷ []
 
   pub nodesAll : Terms → List Term
   nodesAll done = []
@@ -69,6 +70,7 @@ mutual
       (part (λ x. case x l r) (positions s) _ (subterms-nodes s))
       (both (λ p. p .subterm) (map (bound (λ x. case s x r)) (positions l)) (map (bound (λ x. case s l x)) (positions r)) _ _
       (body (λ x. case s x r) (positions l) _ (subterms-nodes l)) (body (λ x. case s l x) (positions r) _ (subterms-nodes r))))
+  subterms-nodes (unit A) = refl
 
   subterms-nodesAll : (ts : Terms) → map (λ p. p .subterm) (positionsAll ts) ≡ nodesAll ts
   subterms-nodesAll done = refl
@@ -94,6 +96,7 @@ mutual
   words-nodes (case s l r) = first _ _ _
       (both wordOf (nodes s) (nodes l ++ nodes r) _ _ (words-nodes s)
       (both wordOf (nodes l) (nodes r) _ _ (words-nodes l) (words-nodes r)))
+  words-nodes (unit A) = refl
 
   words-nodesAll : (ts : Terms) → map wordOf (nodesAll ts) ≡ encodeAll ts
   words-nodesAll done = refl

@@ -9,7 +9,7 @@ use native.Mathlib.Nat.{zero-add}
 use lib.Dec.{T, eqb, eqb→eq}
 use borrow.Author.Tests.{eq-eqb}
 use Rattle.syntax.specs.Lists.{_∈_, here, there}
-use Rattle.syntax.specs.Term.{Term, Terms, var, call, lam, app, bind, pair, fst, snd, inl, inr, case, done, arg, node, asVar}
+use Rattle.syntax.specs.Term.{Term, Terms, var, call, lam, app, bind, pair, fst, snd, inl, inr, case, unit, done, arg, node, asVar}
 use Rattle.syntax.specs.Positions.{Position, within, bound, positions, positionsAll}
 use Rattle.syntax.specs.Values.{counts, uses, usesAll}
 
@@ -94,6 +94,7 @@ mutual
             (map (bound (λ x. case s x r)) (positions l) ++ map (bound (λ x. case s l x)) (positions r)),
         holding-append n (map (bound (λ x. case s x r)) (positions l)) (map (bound (λ x. case s l x)) (positions r)),
       )
+  uses-holding (unit A) n = refl
 
   uses-holding-all : (ts : Terms) (n : ℕ) → usesAll ts n ≡ holding n (positionsAll ts)
   uses-holding-all done n = refl

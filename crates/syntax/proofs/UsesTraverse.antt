@@ -4,7 +4,7 @@ use mathlib.Core.Path.{_≡_, _∙_, ap}
 use Prim.Native.Nat.{ℕ, zero, suc, _+_, _*_}
 use native.Mathlib.Omega.{arith}
 use lib.Dec.{eqb, eqb·zero-suc, eqb·suc-suc}
-use Rattle.syntax.specs.Term.{Term, Terms, var, call, lam, app, bind, pair, fst, snd, inl, inr, case, done, arg}
+use Rattle.syntax.specs.Term.{Term, Terms, var, call, lam, app, bind, pair, fst, snd, inl, inr, case, unit, done, arg}
 use Rattle.syntax.specs.Substitution.{Kit, under, traverse, traverseAll}
 use Rattle.syntax.specs.Values.{counts, uses, usesAll}
 
@@ -52,6 +52,7 @@ module _ {X : Type 0} (K : Kit X) (weakens : Weakens K) (a w : ℕ) where
           uses-traverse l (under K f) (suc n′) (suc n) (suc d) u,
           uses-traverse r (under K f) (suc n′) (suc n) (suc d) u,
         )
+    uses-traverse (unit A) f n′ n d h = omega arith
 
     pub uses-traverses : (ts : Terms) (f : ℕ → X) (n′ n d : ℕ) → Puts K a w f n′ n d
         → usesAll (traverseAll K ts f) n′ ≡ a * usesAll ts n + w * usesAll ts d

@@ -3,7 +3,7 @@ use mathlib.Core.Path.{_≡_, refl, sym, ap₂, subst}
 use mathlib.Core.Bool.{true, _&&_}
 use lib.Dec.{T}
 use Prim.Native.Nat.{ℕ}
-use Rattle.syntax.specs.Term.{Term, var, call, lam, app, bind, pair, fst, snd, inl, inr, case}
+use Rattle.syntax.specs.Term.{Term, var, call, lam, app, bind, pair, fst, snd, inl, inr, case, unit}
 use Rattle.syntax.specs.Substitution.{Kit, traverse, renaming, rename, substitution, substitute}
 use Rattle.syntax.specs.Values.{isValue}
 
@@ -21,6 +21,7 @@ module _ {X : Type 0} (K : Kit X) where
   value-traverse (inl A a) f h = value-traverse a f h
   value-traverse (inr A a) f h = value-traverse a f h
   value-traverse (case s l r) f h = refl
+  value-traverse (unit A) f h = refl
 
   pub value-kept : (t : Term) (f : ℕ → X) → ((n : ℕ) → isValue (K .term (f n)) ≡ true) → T (isValue t) → T (isValue (traverse K t f))
   value-kept t f h v = subst T (sym (value-traverse t f h)) v

@@ -2,7 +2,7 @@
 use mathlib.Core.Path.{_≡_, refl, sym, _∙_, ap}
 use lib.Dec.{eqb, eqb→eq}
 use Prim.Native.Nat.{ℕ, zero, suc}
-use Rattle.syntax.specs.Term.{Term, Terms, var, call, lam, app, bind, pair, fst, snd, inl, inr, case, done, arg, node, one, two}
+use Rattle.syntax.specs.Term.{Term, Terms, var, call, lam, app, bind, pair, fst, snd, inl, inr, case, unit, done, arg, node, one, two}
 use Rattle.syntax.specs.Term.{three, partsOf, asVar, asLam, asApp, asBind, asPair, asFst, asSnd, asInl, asInr, asCase}
 use Rattle.syntax.proofs.Options.{Every, every-none, every-some, every-bind, every-given, every-to}
 
@@ -34,7 +34,8 @@ build (suc (suc (suc (suc (suc (suc (suc zero))))))) n A ts = one-part snd ts
 build (suc (suc (suc (suc (suc (suc (suc (suc zero)))))))) n A ts = one-part (inl A) ts
 build (suc (suc (suc (suc (suc (suc (suc (suc (suc zero))))))))) n A ts = one-part (inr A) ts
 build (suc (suc (suc (suc (suc (suc (suc (suc (suc (suc zero)))))))))) n A ts = three-parts case ts
-build (suc (suc (suc (suc (suc (suc (suc (suc (suc (suc (suc k))))))))))) n A ts = var 0
+build (suc (suc (suc (suc (suc (suc (suc (suc (suc (suc (suc zero))))))))))) n A ts = unit A
+build (suc (suc (suc (suc (suc (suc (suc (suc (suc (suc (suc (suc k)))))))))))) n A ts = var 0
 
 -- a term is its node
 build-node : (t : Term) → build (node t .kind) (node t .number) (node t .type) (node t .parts) ≡ t
@@ -50,6 +51,7 @@ build-node (snd a) = refl
 build-node (inl A a) = refl
 build-node (inr A a) = refl
 build-node (case s l r) = refl
+build-node (unit A) = refl
 
 one-is : (ts : Terms) → Every (λ a. ts ≡ arg a done) (one ts)
 one-is done = every-none

@@ -8,9 +8,9 @@ use lib.Dec.{leb, ltb, eqb}
 abbrev pub usesNumber : ℕ → Bool
 usesNumber k = leb k 1
 
--- the kinds whose type field is used: function, pair, left and right injection
+-- the kinds whose type field is used: function, pair, left and right injection, unit
 abbrev pub usesType : ℕ → Bool
-usesType k = eqb k 2 || eqb k 5 || eqb k 8 || eqb k 9
+usesType k = eqb k 2 || eqb k 5 || eqb k 8 || eqb k 9 || eqb k 11
 
 -- how many parts a node of a kind has, a call's given
 abbrev pub partsOfKind : ℕ → ℕ → ℕ

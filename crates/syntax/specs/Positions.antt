@@ -1,7 +1,7 @@
 -- Every node of a term with the term around it, in prefix order: the ways to write t as C[s].
 use Prim.Native.Nat.{ℕ, suc}
 use mathlib.Core.List.{List, [], _∷_, _++_, map}
-use Rattle.syntax.specs.Term.{Term, Terms, var, call, lam, app, bind, pair, fst, snd, inl, inr, case, done, arg}
+use Rattle.syntax.specs.Term.{Term, Terms, var, call, lam, app, bind, pair, fst, snd, inl, inr, case, unit, done, arg}
 
 -- a position: the subterm there, how many binders it stands under, and the whole by what stands there
 pub record Position (Whole : Type 0) : Type 0 where
@@ -37,6 +37,7 @@ unfoldable mutual
   positions (case s l r) = root (case s l r)
       ∷ (map (within (λ x. case x l r)) (positions s)
       ++ (map (bound (λ x. case s x r)) (positions l) ++ map (bound (λ x. case s l x)) (positions r)))
+  positions (unit A) = root (unit A) ∷ []
 
   pub positionsAll : Terms → List (Position Terms)
   positionsAll done = []

@@ -3,9 +3,9 @@ use Prim.Native.Nat.{ℕ, suc, _+_}
 use mathlib.Core.Bool.{Bool, true, false, _&&_, not}
 use mathlib.Core.List.{List, [], _∷_}
 use lib.Dec.{eqb}
-use Rattle.syntax.specs.Term.{Term, Terms, var, call, lam, app, bind, pair, fst, snd, inl, inr, case, done, arg}
+use Rattle.syntax.specs.Term.{Term, Terms, var, call, lam, app, bind, pair, fst, snd, inl, inr, case, unit, done, arg}
 
--- a value (paper 01: V): variables and functions are values; a pair or an injection is one if its parts are
+-- a value (paper 01: V): variables, functions and units are values; a pair or an injection is one if its parts are
 unfoldable pub isValue : Term → Bool
 isValue (var n) = true
 isValue (call k ts) = false
@@ -18,6 +18,7 @@ isValue (snd a) = false
 isValue (inl A a) = isValue a
 isValue (inr A a) = isValue a
 isValue (case s l r) = false
+isValue (unit A) = true
 
 -- a computation (paper 01: P) is anything else
 unfoldable pub isComputation : Term → Bool
@@ -49,6 +50,7 @@ operands (snd a) = at a snd ∷ []
 operands (inl A a) = at a (inl A) ∷ []
 operands (inr A a) = at a (inr A) ∷ []
 operands (case s l r) = at s (λ x. case x l r) ∷ []
+operands (unit A) = []
 
 -- the number of a Boolean: 1 if it is true, else 0
 abbrev pub counts : Bool → ℕ
@@ -69,6 +71,7 @@ unfoldable mutual
   uses (inl A a) n = uses a n
   uses (inr A a) n = uses a n
   uses (case s l r) n = uses s n + (uses l (suc n) + uses r (suc n))
+  uses (unit A) n = 0
 
   pub usesAll : Terms → ℕ → ℕ
   usesAll done n = 0

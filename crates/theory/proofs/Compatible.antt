@@ -2,16 +2,16 @@
 use mathlib.Core.Path.{_≡_, subst}
 use mathlib.Core.List.{List, [], _∷_}
 use Prim.Native.Nat.{ℕ, suc}
-use Rattle.syntax.specs.Tables.{arrow, product, sum, Signature}
-use Rattle.syntax.specs.Term.{Term, Terms, call, lam, app, bind, pair, fst, snd, inl, inr, case, done, arg}
+use Rattle.syntax.specs.Tables.{arrow, product, sum, unitType, Signature}
+use Rattle.syntax.specs.Term.{Term, Terms, call, lam, app, bind, pair, fst, snd, inl, inr, case, unit, done, arg}
 use Rattle.semantics.specs.Value.{Value, Values, also, Trace}
 use Rattle.semantics.specs.Run.{answered, lookup}
-use Rattle.theory.proofs.Ends.{ends-lam, ends-app, ends-bind, ends-pair, ends-fst, ends-snd, ends-inl, ends-inr}
+use Rattle.theory.proofs.Ends.{ends-lam, ends-unit, ends-app, ends-bind, ends-pair, ends-fst, ends-snd, ends-inl, ends-inr}
 use Rattle.theory.proofs.Ends.{ends-case-left, ends-case-right, ends-done, ends-arg, ends-call, enters-closure}
 use Rattle.typing.proofs.Typing.{Of, Signed}
 use Rattle.theory.proofs.Relation.{Pairs, pairs, Sums, lefts, rights, all-none, all-more, Model, Rv, Runs, E, EAll, ends-related}
 use Rattle.theory.proofs.Relation.{ends-related-all, enters-related, one-call, from-arrow, to-arrow, from-product}
-use Rattle.theory.proofs.Relation.{to-product, from-sum, to-sum}
+use Rattle.theory.proofs.Relation.{to-product, from-sum, to-sum, to-unit, units}
 
 module _ (M : Model) where
   -- variables of two runs that hold related values
@@ -82,6 +82,9 @@ module _ (M : Model) where
     pub e-inr : {S A B : ℕ} {a a′ : Term} → Of (M .tables) sum S A B → E M B ρ a ρ′ a′ → E M S ρ (inr S a) ρ′ (inr S a′)
     e-inr e x = ends-related M (ends-inr (M .answer) (x .p)) (ends-inr (M .answer) (x .q))
         (M .join (x .calls) (M .none)) (to-sum M e (rights (x .vals)))
+
+    pub e-unit : {U A B : ℕ} → Of (M .tables) unitType U A B → E M U ρ (unit U) ρ′ (unit U)
+    e-unit e = ends-related M (ends-unit (M .answer)) (ends-unit (M .answer)) (M .none) (to-unit M e units)
 
     pub e-case : {S A B D : ℕ} {s s′ a a′ b b′ : Term} → Of (M .tables) sum S A B → E M S ρ s ρ′ s′
         → ((v w : Value) → Rv M A v w → E M D (also v ρ) a (also w ρ′) a′)

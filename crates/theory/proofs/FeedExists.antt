@@ -1,5 +1,5 @@
 -- What the claim asks of a run's feed can be met: a known type with no function in it has a value, so a term whose types have no function
--- can be fed. The value is read off the type's tree: a number for a base type, a pair for a product, the left injection for a sum.
+-- can be fed. The value is read off the type's tree: a number for a base type, a pair for a product, the left injection for a sum, the unit type's own.
 use mathlib.Core.Path.{_≡_, refl, sym, _∙_, ap, subst}
 use mathlib.Core.List.{List, [], _∷_}
 use mathlib.Core.Option.{Option, some, none, Option·some-ne-none}
@@ -8,18 +8,18 @@ use lib.ListN.{length, getElem?}
 use Prim.Native.Nat.{ℕ, zero, suc, _<_}
 use native.Mathlib.Omega.{arith}
 use Rattle.syntax.specs.Words.{kindOf, leftOf, rightOf}
-use Rattle.syntax.specs.Tables.{Tables, base, arrow, product, sum, Signature, signature}
+use Rattle.syntax.specs.Tables.{Tables, base, arrow, product, sum, unitType, Signature, signature}
 use Rattle.syntax.specs.Term.{Term}
 use Rattle.syntax.specs.Lists.{_∈_, here, there}
 use Rattle.syntax.proofs.Options.{and-left, and-right}
 use Rattle.typing.specs.TableChecks.{every, wellFormedTypes, wellFormedInputs}
 use Rattle.typing.specs.Refusals.{TypedTerm}
 use Rattle.typing.proofs.Accepted.{Passed}
-use Rattle.typing.proofs.Trees.{Ty, void, number, function, both, either, shape, tree, ty, word-tree, Formed, a-base, a-composite}
-use Rattle.typing.proofs.Trees.{entry-formed, at-word, earlier}
+use Rattle.typing.proofs.Trees.{Ty, void, number, function, both, either, unitary, shape, tree, ty, word-tree, Formed, a-base}
+use Rattle.typing.proofs.Trees.{a-composite, a-unit as a-unit-word, entry-formed, at-word, earlier}
 use Rattle.typing.proofs.TypeNumbers.{present}
-use Rattle.semantics.specs.Value.{Value, Values, num, tuple, left, empty, also}
-use Rattle.semantics.specs.ValueTypes.{HasType, a-number, a-tuple, a-left, HaveTypes, no-more, one-more}
+use Rattle.semantics.specs.Value.{Value, Values, num, tuple, left, trivial, empty, also}
+use Rattle.semantics.specs.ValueTypes.{HasType, a-number, a-tuple, a-left, a-unit, HaveTypes, no-more, one-more}
 use Rattle.semantics.specs.TypeParts.{itself, FunctionFree}
 use Rattle.semantics.specs.Claim.{FirstOrder, Feed}
 use Rattle.theory.proofs.Fields.{fitting}
@@ -35,6 +35,7 @@ valueOf (number n) = num 0
 valueOf (function A B) = num 0
 valueOf (both A B) = tuple (valueOf A) (valueOf B)
 valueOf (either A B) = left (valueOf A)
+valueOf unitary = trivial
 
 module _ (tables : Tables) where
   -- values for a list of types
@@ -68,15 +69,17 @@ module _ (tables : Tables) (checked : T (wellFormedTypes 0 (tables .types))) whe
   word-value f A w (suc (suc zero)) e h formed free ih =
       let wf = earlier tables checked in
       let c = components-of tables wf product A w e h in
-      let p = wf .parts A w 1 e h in
+      let p = wf .parts A w product tt e h in
       a-tuple c (ih (leftOf w) (p .0) (free-left tables wf product tt c free))
       (ih (rightOf w) (p .1) (free-right tables wf product tt c free))
   word-value f A w (suc (suc (suc zero))) e h formed free ih =
       let wf = earlier tables checked in
       let c = components-of tables wf sum A w e h in
-      a-left c (ih (leftOf w) (wf .parts A w 2 e h .0) (free-left tables wf sum tt c free))
-  word-value f A w (suc (suc (suc (suc k)))) e h (a-base z _) free ih = absurd (omega (arith, h, z))
-  word-value f A w (suc (suc (suc (suc k)))) e h (a-composite _ z _ _) free ih = absurd (omega (arith, h, z))
+      a-left c (ih (leftOf w) (wf .parts A w sum tt e h .0) (free-left tables wf sum tt c free))
+  word-value f A w (suc (suc (suc (suc zero)))) e h formed free ih = a-unit (components-of tables (earlier tables checked) unitType A w e h)
+  word-value f A w (suc (suc (suc (suc (suc k))))) e h (a-base z _) free ih = absurd (omega (arith, h, z))
+  word-value f A w (suc (suc (suc (suc (suc k))))) e h (a-composite _ z _ _) free ih = absurd (omega (arith, h, z))
+  word-value f A w (suc (suc (suc (suc (suc k))))) e h (a-unit-word z _ _) free ih = absurd (omega (arith, h, z))
 
   tree-value : (f A : ℕ) → A < f → A < length (tables .types) → Inhabited f A
   tree-value zero A l i free = absurd (omega (arith, l))

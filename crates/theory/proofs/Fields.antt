@@ -18,7 +18,7 @@ use Rattle.typing.specs.TableChecks.{every, wellFormedCall, wellFormedCalls, le
 use Rattle.typing.proofs.LengthsFit.{lengths-of}
 use Rattle.syntax.proofs.Options.{and-left, and-right}
 use Rattle.typing.proofs.Typing.{Of, Signed, at-below, Typed, TypedAll, t-var, t-call, t-lam, t-app, t-bind, t-pair, t-fst, t-snd}
-use Rattle.typing.proofs.Typing.{t-inl, t-inr, t-case, t-done, t-arg}
+use Rattle.typing.proofs.Typing.{t-inl, t-inr, t-case, t-unit, t-done, t-arg}
 
 pub below : {X : Type 0} (xs : List X) (n : ℕ) {x : X} → getElem? xs n ≡ some x → n < length xs
 below [] n {x} e = absurd (Option·none-ne-some x e)
@@ -96,6 +96,7 @@ module _ (tables : Tables) (fit : Fitting tables) (ok : ℕ → Type 0) where
     shaped (t-case {s = s} {l = l} {r = r} o x y z) h =
         let i = length-append (encode s) (encode l ++ encode r) in let j = length-append (encode l) (encode r) in
         (shaped x (omega (arith, h, i, j)), shaped y (omega (arith, h, i, j)), shaped z (omega (arith, h, i, j)))
+    shaped (t-unit o) h = type-below o
 
     shapedAll : {Γ : Context} {ts : Terms} {As : List ℕ} → TypedAll tables ok Γ ts As → length Γ + length (encodeAll ts) ≤ 2 ^ 30
         → ShapedAll (tables .calls) ts

@@ -9,7 +9,7 @@ use Prim.Native.Nat.{ℕ}
 use native.Mathlib.Omega.{arith}
 use Rattle.syntax.specs.Maybe.{given}
 use Rattle.syntax.specs.Words.{kindOf}
-use Rattle.syntax.specs.Term.{Term, var, call, lam, app, bind, pair, fst, snd, inl, inr, case, node, partsOf, asVar, asLam, asApp}
+use Rattle.syntax.specs.Term.{Term, var, call, lam, app, bind, pair, fst, snd, inl, inr, case, unit, node, partsOf, asVar, asLam, asApp}
 use Rattle.syntax.specs.Term.{asBind, asPair, asFst, asSnd, asInl, asInr, asCase}
 use Rattle.syntax.specs.Encoding.{wordOf, encode}
 use Rattle.syntax.specs.Shaped.{Shaped}
@@ -39,6 +39,7 @@ value-kind (snd a) o = refl
 value-kind (inl A a) o = is-true (isValue a) o
 value-kind (inr A a) o = is-true (isValue a) o
 value-kind (case s l r) o = refl
+value-kind (unit A) o = refl
 
 -- a property of each node holds of the first
 pub root-each : (P : Term → Type 0) (t : Term) → Each t P → P t
@@ -54,6 +55,7 @@ root-each P (snd a) e = e .0
 root-each P (inl A a) e = e .0
 root-each P (inr A a) e = e .0
 root-each P (case s l r) e = e .0
+root-each P (unit A) e = e
 
 -- the kind of a node's first part, and of that part's first part, d where no rule looks for one
 abbrev pub kind₁ : Term → ℕ → ℕ
@@ -68,6 +70,7 @@ kind₁ (snd a) d = node a .kind
 kind₁ (inl A a) d = d
 kind₁ (inr A a) d = d
 kind₁ (case s l r) d = node s .kind
+kind₁ (unit A) d = d
 
 abbrev pub kind₂ : Term → ℕ → ℕ
 kind₂ (var n) d = d
@@ -81,6 +84,7 @@ kind₂ (snd a) d = d
 kind₂ (inl A a) d = d
 kind₂ (inr A a) d = d
 kind₂ (case s l r) d = d
+kind₂ (unit A) d = d
 
 -- the rule found where a test passes
 fits : (b c : Bool) (r : Rule) (u : Term) → b ≡ c
@@ -108,6 +112,7 @@ module _ (pure : Term → Bool) where
   by-kinds (app (inl A′ a′) v) d₁ d₂ e = refl
   by-kinds (app (inr A′ a′) v) d₁ d₂ e = refl
   by-kinds (app (case s′ l′ r′) v) d₁ d₂ e = refl
+  by-kinds (app (unit A′) v) d₁ d₂ e = refl
   by-kinds (bind (var n′) c) d₁ d₂ e = refl
   by-kinds (bind (call k′ ts′) c) d₁ d₂ e = refl
   by-kinds (bind (lam A′ b′) c) d₁ d₂ e = refl
@@ -130,6 +135,8 @@ module _ (pure : Term → Bool) where
   by-kinds (bind (case (inl A″ a″) l r) c) d₁ d₂ e = refl
   by-kinds (bind (case (inr A″ a″) l r) c) d₁ d₂ e = refl
   by-kinds (bind (case (case s″ l″ r″) l r) c) d₁ d₂ e = refl
+  by-kinds (bind (case (unit A″) l r) c) d₁ d₂ e = refl
+  by-kinds (bind (unit A′) c) d₁ d₂ e = refl
   by-kinds (pair A a b) d₁ d₂ e = refl
   by-kinds (fst (var n′)) d₁ d₂ e = refl
   by-kinds (fst (call k′ ts′)) d₁ d₂ e = refl
@@ -142,6 +149,7 @@ module _ (pure : Term → Bool) where
   by-kinds (fst (inl A′ a′)) d₁ d₂ e = refl
   by-kinds (fst (inr A′ a′)) d₁ d₂ e = refl
   by-kinds (fst (case s′ l′ r′)) d₁ d₂ e = refl
+  by-kinds (fst (unit A′)) d₁ d₂ e = refl
   by-kinds (snd (var n′)) d₁ d₂ e = refl
   by-kinds (snd (call k′ ts′)) d₁ d₂ e = refl
   by-kinds (snd (lam A′ b′)) d₁ d₂ e = refl
@@ -153,6 +161,7 @@ module _ (pure : Term → Bool) where
   by-kinds (snd (inl A′ a′)) d₁ d₂ e = refl
   by-kinds (snd (inr A′ a′)) d₁ d₂ e = refl
   by-kinds (snd (case s′ l′ r′)) d₁ d₂ e = refl
+  by-kinds (snd (unit A′)) d₁ d₂ e = refl
   by-kinds (inl A a) d₁ d₂ e = refl
   by-kinds (inr A a) d₁ d₂ e = refl
   by-kinds (case (var n′) l r) d₁ d₂ e = refl
@@ -166,6 +175,8 @@ module _ (pure : Term → Bool) where
   by-kinds (case (inl A′ a′) l r) d₁ d₂ e = fits (isValue a′) true LeftCase _ (is-true (isValue a′) (e .0))
   by-kinds (case (inr A′ a′) l r) d₁ d₂ e = fits (isValue a′) true RightCase _ (is-true (isValue a′) (e .0))
   by-kinds (case (case s′ l′ r′) l r) d₁ d₂ e = refl
+  by-kinds (case (unit A′) l r) d₁ d₂ e = refl
+  by-kinds (unit A) d₁ d₂ e = refl
 
 module _ (calls : List ℕ) where
   kind-word : (t : Term) → Shaped calls t → kindOf (wordOf t) ≡ node t .kind
@@ -181,6 +192,7 @@ module _ (calls : List ℕ) where
   kind-word (inl A a) s = kind-pack 8 0 A (omega arith) (s .0)
   kind-word (inr A a) s = kind-pack 9 0 A (omega arith) (s .0)
   kind-word (case c l r) s = kind-pack 10 0 0 (omega arith) (omega arith)
+  kind-word (unit A) s = kind-pack 11 0 A (omega arith) s
 
   -- the kind of the word at an index
   abbrev kindAt : List ℕ → ℕ → ℕ
@@ -199,6 +211,7 @@ module _ (calls : List ℕ) where
   word₀ (inl A a) rest = refl
   word₀ (inr A a) rest = refl
   word₀ (case s l r) rest = refl
+  word₀ (unit A) rest = refl
 
   at₀ : (t : Term) (rest : List ℕ) → Shaped calls t → kindAt (encode t ++ rest) 0 ≡ node t .kind
   at₀ t rest s = ap kindOf (word₀ t rest) ∙ kind-word t s
@@ -219,6 +232,7 @@ module _ (calls : List ℕ) where
   at₁ (inl A a) rest s = refl
   at₁ (inr A a) rest s = refl
   at₁ (case c l r) rest s = part₀ c (encode l ++ encode r) rest (s .0)
+  at₁ (unit A) rest s = refl
 
   at₂ : (t : Term) (rest : List ℕ) → Shaped calls t → kindAt (encode t ++ rest) 2 ≡ kind₂ t (kindAt (encode t ++ rest) 2)
   unfolding encode Shaped
@@ -235,6 +249,7 @@ module _ (calls : List ℕ) where
   at₂ (inl A a) rest s = refl
   at₂ (inr A a) rest s = refl
   at₂ (case c l r) rest s = refl
+  at₂ (unit A) rest s = refl
 
   pub fit-by-kinds : (pure : Term → Bool) (t : Term) (rest : List ℕ) → Shaped calls t → Each t Ops
       → Option·map (λ (x : Contraction). x .rule) (contract pure (rules Reduction) t) ≡ ruleByKinds (kindOf (getD (encode t ++ rest) 0 0))

@@ -18,11 +18,11 @@ use Rattle.reduction.specs.declared.Phase.the-variants.{Reduction}
 use Rattle.reduction.specs.Redex.{Contraction, contract, step}
 use Rattle.reduction.specs.declared.Rule.{Rule}
 use Rattle.reduction.specs.NormalForm.{needed, NormalValue, NormalValues, Operation, Normal, variable, function, product as both, left}
-use Rattle.reduction.specs.NormalForm.{right, no-more, more, application, calling, first as taking₁, second as taking₂, value, operation}
+use Rattle.reduction.specs.NormalForm.{right, the-unit, no-more, more, application, calling, first as taking₁, second as taking₂, value, operation}
 use Rattle.reduction.specs.NormalForm.{letting, branching}
 use Rattle.syntax.proofs.Options.{given-none, both-true, or-true, not-both}
 use Rattle.typing.proofs.Typing.{Of, of-kind, Typed, TypedAll, t-var, t-call, t-lam, t-app, t-bind, t-pair, t-fst, t-snd, t-inl, t-inr}
-use Rattle.typing.proofs.Typing.{t-case, t-done, t-arg}
+use Rattle.typing.proofs.Typing.{t-case, t-unit, t-done, t-arg}
 use Rattle.reduction.proofs.Search.{Each, EachAll, Misses, no-step}
 use Rattle.theory.proofs.Operands.{AllValues, Ops, each-map}
 
@@ -91,6 +91,7 @@ module _ (tables : Tables) (ok : ℕ → Type 0) where
   app-form (t-fst _ _) o h k e w = absurd h
   app-form (t-snd _ _) o h k e w = absurd h
   app-form (t-case _ _ _ _) o h k e w = absurd h
+  app-form (t-unit d) o h k e w = absurd (apart 4 1 (λ z. omega (arith, z)) d o)
 
   fst-form : {Γ : Context} {a : Term} {P A B : ℕ} → Typed tables ok Γ a P → Of tables product P A B → T (isValue a) → first (fst a) ≡ none
       → Operation never (fst a)
@@ -106,6 +107,7 @@ module _ (tables : Tables) (ok : ℕ → Type 0) where
   fst-form (t-fst _ _) o h e = absurd h
   fst-form (t-snd _ _) o h e = absurd h
   fst-form (t-case _ _ _ _) o h e = absurd h
+  fst-form (t-unit d) o h e = absurd (apart 4 2 (λ z. omega (arith, z)) d o)
 
   snd-form : {Γ : Context} {a : Term} {P A B : ℕ} → Typed tables ok Γ a P → Of tables product P A B → T (isValue a) → second (snd a) ≡ none
       → Operation never (snd a)
@@ -121,6 +123,7 @@ module _ (tables : Tables) (ok : ℕ → Type 0) where
   snd-form (t-fst _ _) o h e = absurd h
   snd-form (t-snd _ _) o h e = absurd h
   snd-form (t-case _ _ _ _) o h e = absurd h
+  snd-form (t-unit d) o h e = absurd (apart 4 2 (λ z. omega (arith, z)) d o)
 
   case-form : {Γ : Context} {s l r : Term} {S A B : ℕ} → Typed tables ok Γ s S → Of tables sum S A B → T (isValue s)
       → leftCase (case s l r) ≡ none → rightCase (case s l r) ≡ none → Normal never l → Normal never r → Normal never (case s l r)
@@ -136,6 +139,7 @@ module _ (tables : Tables) (ok : ℕ → Type 0) where
   case-form (t-fst _ _) o h e d f g = absurd h
   case-form (t-snd _ _) o h e d f g = absurd h
   case-form (t-case _ _ _ _) o h e d f g = absurd h
+  case-form (t-unit i) o h e d f g = absurd (apart 4 3 (λ z. omega (arith, z)) i o)
 
 pub operation-computes : {pure : Term → Bool} {t : Term} → Operation pure t → T (isComputation t)
 unfolding isComputation isValue
@@ -151,6 +155,7 @@ value-is (function b) = tt
 value-is (both {a = a} {b = b} x y) = both-true (isValue a) (isValue b) (value-is x) (value-is y)
 value-is (left x) = value-is x
 value-is (right x) = value-is x
+value-is the-unit = tt
 
 bind-form : {e b : Term} → Normal never e → letOfLet (bind e b) ≡ none → letOfCase (bind e b) ≡ none → letValue (bind e b) ≡ none
     → Normal never b → Normal never (bind e b)
@@ -178,6 +183,7 @@ module _ (tables : Tables) (ok : ℕ → Type 0) where
     form (t-inr _ x) p q = value (right (val x (p .0) (p .1) (q .1)))
     form (t-case o x y z) p q = case-form tables ok x o (p .0) (q .0 .not-leftCase) (q .0 .not-rightCase) (form y (p .2) (q .2))
         (form z (p .3) (q .3))
+    form (t-unit _) p q = value the-unit
 
     val : {Γ : Context} {t : Term} {A : ℕ} → Typed tables ok Γ t A → T (isValue t) → Each t Ops → Each t Irreducible → NormalValue never t
     val (t-var x) h p q = variable
@@ -191,6 +197,7 @@ module _ (tables : Tables) (ok : ℕ → Type 0) where
     val (t-inl _ x) h p q = left (val x (p .0) (p .1) (q .1))
     val (t-inr _ x) h p q = right (val x (p .0) (p .1) (q .1))
     val (t-case _ x y z) h p q = absurd h
+    val (t-unit _) h p q = the-unit
 
     vals : {Γ : Context} {ts : Terms} {As : List ℕ} → TypedAll tables ok Γ ts As → AllValues ts → EachAll ts Ops → EachAll ts Irreducible
         → NormalValues never ts

@@ -4,14 +4,14 @@ use mathlib.Core.Bool.{Bool}
 use mathlib.Core.Option.{none}
 use Prim.Native.Nat.{ℕ}
 use Rattle.syntax.specs.Term.{Term, Terms, var, bind, node, partsOf, asVar, asLam, asApp, asBind, asPair, asFst, asSnd, asInl, asInr}
-use Rattle.syntax.specs.Term.{asCase}
+use Rattle.syntax.specs.Term.{asCase, unit}
 use Rattle.syntax.specs.Substitution.{under, traverse, traverseAll, renaming, rename}
 use Rattle.syntax.specs.Values.{isValue, isComputation}
 use Rattle.reduction.specs.Rules.{letOfLet, letOfCase, apply, first, second, leftCase, rightCase, letValue, lower, fire, rules}
 use Rattle.reduction.specs.declared.Phase.the-variants.{Insertion}
 use Rattle.reduction.specs.declared.Phase.the-variants.{Reduction}
 use Rattle.reduction.specs.Redex.{contract, step}
-use Rattle.reduction.specs.NormalForm.{NormalValue, NormalValues, Operation, Normal, variable, function, product as both, left, right}
+use Rattle.reduction.specs.NormalForm.{NormalValue, NormalValues, Operation, Normal, variable, function, product as both, left, right, the-unit}
 use Rattle.reduction.specs.NormalForm.{no-more, more, application, calling, first as taking₁, second as taking₂, value, operation, letting}
 use Rattle.reduction.specs.NormalForm.{branching}
 use Rattle.reduction.proofs.Roots.{Drops, r-drop, Step, StepAll, s-root, s-call, s-lam, s-app₁, s-app₂, s-bind₁, s-bind₂, s-pair₁, s-pair₂}
@@ -36,6 +36,7 @@ mutual
   value-rename f (both a b) = both (value-rename f a) (value-rename f b)
   value-rename f (left a) = left (value-rename f a)
   value-rename f (right a) = right (value-rename f a)
+  value-rename f the-unit = the-unit
 
   values-rename : {ts : Terms} (f : ℕ → ℕ) → NormalValues never ts → NormalValues never (traverseAll renaming ts f)
   values-rename f no-more = no-more
@@ -48,11 +49,17 @@ mutual
   operation-rename f taking₂ = taking₂
 
 module _ (pure : Term → Bool) where
-  -- a variable takes no step
+  -- a variable takes no step, nor does a unit
   var-step : {n : ℕ} {t : Term} → Step (Drops pure) (var n) t → ⊥
   var-step (s-root r) = no-drop r
     where
       no-drop : {n : ℕ} {t : Term} → Drops pure (var n) t → ⊥
+      no-drop = elim [ ]
+
+  unit-step : {A : ℕ} {t : Term} → Step (Drops pure) (unit A) t → ⊥
+  unit-step (s-root r) = no-drop r
+    where
+      no-drop : {A : ℕ} {t : Term} → Drops pure (unit A) t → ⊥
       no-drop = elim [ ]
 
   mutual
@@ -73,6 +80,7 @@ module _ (pure : Term → Bool) where
     value-step (both a b) (s-pair₂ s) = both a (value-step b s)
     value-step (left a) (s-inl s) = left (value-step a s)
     value-step (right a) (s-inr s) = right (value-step a s)
+    value-step the-unit s = absurd (unit-step s)
 
     values-step : {ts us : Terms} → NormalValues never ts → StepAll (Drops pure) ts us → NormalValues never us
     values-step (more v vs) (s-this s) = more (value-step v s) vs
@@ -104,6 +112,7 @@ mutual
   value-ops (both a b) = ((value-is a, value-is b), value-ops a, value-ops b)
   value-ops (left a) = (value-is a, value-ops a)
   value-ops (right a) = (value-is a, value-ops a)
+  value-ops the-unit = tt
 
   values-ops : {ts : Terms} → NormalValues never ts → EachAll ts Ops
   values-ops no-more = tt
@@ -140,6 +149,7 @@ module _ (pure : Term → Bool) where
     value-misses (both a b) = (refl, value-misses a, value-misses b)
     value-misses (left a) = (refl, value-misses a)
     value-misses (right a) = (refl, value-misses a)
+    value-misses the-unit = refl
 
     values-misses : {ts : Terms} → NormalValues never ts → EachAll ts (Misses pure Reduction)
     values-misses no-more = tt

@@ -9,13 +9,13 @@ use Prim.Native.Nat.{ℕ, zero, suc, _<_}
 use native.Mathlib.Omega.{arith}
 use Rattle.syntax.specs.Maybe.{_>>=_, given}
 use Rattle.syntax.specs.Words.{kindOf, leftOf, rightOf}
-use Rattle.syntax.specs.Tables.{Tables, base, arrow, product, sum, components}
-use Rattle.semantics.specs.Value.{Value, Values, num, tuple, left, right, also, Trace}
-use Rattle.semantics.specs.ValueTypes.{HasType, a-number, a-tuple, a-left, a-right, HaveTypes, no-more, one-more}
+use Rattle.syntax.specs.Tables.{Tables, base, arrow, product, sum, unitType, isComposite, components}
+use Rattle.semantics.specs.Value.{Value, Values, num, tuple, left, right, trivial, also, Trace}
+use Rattle.semantics.specs.ValueTypes.{HasType, a-number, a-tuple, a-left, a-right, a-unit, HaveTypes, no-more, one-more}
 use Rattle.syntax.specs.Lists.{_∈_, here, there}
-use Rattle.semantics.specs.TypeParts.{isComposite, itself, ofLeft, ofRight, FunctionFree}
-use Rattle.typing.proofs.Trees.{Ty, void, number, function, both, either, shape, tree, ty, word-tree, Earlier, ty-is, ty-base}
-use Rattle.theory.proofs.Relation.{nums, pairs, lefts, rights, Related, Rel, All, all-none, all-more}
+use Rattle.semantics.specs.TypeParts.{itself, ofLeft, ofRight, FunctionFree}
+use Rattle.typing.proofs.Trees.{Ty, void, number, function, both, either, unitary, shape, tree, ty, word-tree, Earlier, ty-is, ty-base}
+use Rattle.theory.proofs.Relation.{nums, pairs, lefts, rights, units, Related, Rel, All, all-none, all-more}
 
 unfoldable pub Plain : Ty → Type 0
 Plain void = Unit
@@ -23,6 +23,7 @@ Plain (number n) = Unit
 Plain (function A B) = ⊥
 Plain (both A B) = Plain A × Plain B
 Plain (either A B) = Plain A × Plain B
+Plain unitary = Unit
 
 module _ (tables : Tables) (wf : Earlier tables) where
   pub components-of : (k A w : ℕ) → getElem? (tables .types) A ≡ some w → kindOf w ≡ k → components tables k A ≡ some (leftOf w, rightOf w)
@@ -48,12 +49,13 @@ module _ (tables : Tables) (wf : Earlier tables) where
   plain-word f A w zero e h free ih = tt
   plain-word f A w (suc zero) e h free ih = absurd (Option·some-ne-none _ (sym (components-of arrow A w e h) ∙ free A itself))
   plain-word f A w (suc (suc zero)) e h free ih =
-      let c = components-of product A w e h in let p = wf .parts A w 1 e h in
+      let c = components-of product A w e h in let p = wf .parts A w product tt e h in
       (ih (leftOf w) (p .0) (free-left product tt c free), ih (rightOf w) (p .1) (free-right product tt c free))
   plain-word f A w (suc (suc (suc zero))) e h free ih =
-      let c = components-of sum A w e h in let p = wf .parts A w 2 e h in
+      let c = components-of sum A w e h in let p = wf .parts A w sum tt e h in
       (ih (leftOf w) (p .0) (free-left sum tt c free), ih (rightOf w) (p .1) (free-right sum tt c free))
-  plain-word f A w (suc (suc (suc (suc k)))) e h free ih = tt
+  plain-word f A w (suc (suc (suc (suc zero)))) e h free ih = tt
+  plain-word f A w (suc (suc (suc (suc (suc k))))) e h free ih = tt
 
   -- a type without functions is a plain tree
   plain-tree : (f A : ℕ) → A < f → FunctionFree tables A → Plain (tree tables f A)
@@ -75,6 +77,7 @@ module _ (tables : Tables) (wf : Earlier tables) where
     plain-equal (both A B) p (pairs r s) = ap₂ tuple (plain-equal A (p .0) r) (plain-equal B (p .1) s)
     plain-equal (either A B) p (lefts r) = ap left (plain-equal A (p .0) r)
     plain-equal (either A B) p (rights r) = ap right (plain-equal B (p .1) r)
+    plain-equal unitary p units = refl
 
     pub free-equal : {A : ℕ} {v w : Value} → FunctionFree tables A → Rel tables answer C A v w → v ≡ w
     free-equal {A} f r = plain-equal (ty tables A) (plain-tree (suc A) A (omega arith) f) (r .rel)
@@ -87,13 +90,14 @@ module _ (tables : Tables) (wf : Earlier tables) where
     unfolding Plain shape Related
     word-has f A x zero e h ih v w p (nums n) = a-number (components-of base A x e h)
     word-has f A x (suc zero) e h ih v w p r = absurd p
-    word-has f A x (suc (suc zero)) e h ih v w p (pairs {a = a} {b = b} {c = c} {d = d} r s) = let q = wf .parts A x 1 e h
+    word-has f A x (suc (suc zero)) e h ih v w p (pairs {a = a} {b = b} {c = c} {d = d} r s) = let q = wf .parts A x product tt e h
         in a-tuple (components-of product A x e h) (ih (leftOf x) (q .0) a c (p .0) r) (ih (rightOf x) (q .1) b d (p .1) s)
-    word-has f A x (suc (suc (suc zero))) e h ih v w p (lefts {a = a} {b = b} r) = let q = wf .parts A x 2 e h
+    word-has f A x (suc (suc (suc zero))) e h ih v w p (lefts {a = a} {b = b} r) = let q = wf .parts A x sum tt e h
         in a-left (components-of sum A x e h) (ih (leftOf x) (q .0) a b (p .0) r)
-    word-has f A x (suc (suc (suc zero))) e h ih v w p (rights {a = a} {b = b} r) = let q = wf .parts A x 2 e h
+    word-has f A x (suc (suc (suc zero))) e h ih v w p (rights {a = a} {b = b} r) = let q = wf .parts A x sum tt e h
         in a-right (components-of sum A x e h) (ih (rightOf x) (q .1) a b (p .1) r)
-    word-has f A x (suc (suc (suc (suc k)))) e h ih v w p r = absurd r
+    word-has f A x (suc (suc (suc (suc zero)))) e h ih v w p units = a-unit (components-of unitType A x e h)
+    word-has f A x (suc (suc (suc (suc (suc k))))) e h ih v w p r = absurd r
 
     tree-has : (f A : ℕ) → A < f → Typing f A
     unfolding tree Related
@@ -122,6 +126,7 @@ module _ (tables : Tables) (wf : Earlier tables) where
         (sym (ty-is tables wf 2 A l r e)) (lefts (has-related h))
     has-related (a-right {A = A} {l = l} {r = r} {v = v} e h) = subst (λ (Y : Ty). Related answer C Y (right v) (right v))
         (sym (ty-is tables wf 2 A l r e)) (rights (has-related h))
+    has-related (a-unit {A = A} {X = X} e) = subst (λ (Y : Ty). Related answer C Y trivial trivial) (sym (ty-is tables wf 3 A (X .0) (X .1) e)) units
 
     pub has-rel : {A : ℕ} {v : Value} → HasType tables A v → Rel tables answer C A v v
     has-rel h = record { rel = has-related h }

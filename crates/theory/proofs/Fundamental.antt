@@ -11,11 +11,11 @@ use Rattle.semantics.specs.Run.{answered, lookup}
 use Rattle.syntax.proofs.Options.{uses-itself, add-left, add-right}
 use Rattle.syntax.proofs.Algebra.{rename-id, renames-id, rename-rename}
 use Rattle.typing.proofs.Typing.{At, here, there, Typed, TypedAll, t-var, t-call, t-lam, t-app, t-bind, t-pair, t-fst, t-snd, t-inl, t-inr}
-use Rattle.typing.proofs.Typing.{t-case, t-done, t-arg}
+use Rattle.typing.proofs.Typing.{t-case, t-unit, t-done, t-arg}
 use Rattle.theory.proofs.Ends.{ends-var}
 use Rattle.theory.proofs.Relation.{Model, Rv, Runs, E, EAll, ends-related}
 use Rattle.theory.proofs.Compatible.{Bound, past-left, past-right, e-lam, e-app, e-bind, e-pair, e-fst, e-snd, e-inl, e-inr}
-use Rattle.theory.proofs.Compatible.{e-case, e-done, e-arg, e-call}
+use Rattle.theory.proofs.Compatible.{e-case, e-unit, e-done, e-arg, e-call}
 
 module _ (M : Model) where
   -- t over ρ gives, with no call, a value related to v
@@ -76,6 +76,7 @@ module _ (M : Model) where
           e-case M e (traversed x (over-of (λ n. add-left (uses s n) (uses l (suc n) + uses r (suc n))) o))
           (λ v w q. traversed y (over-up A (over-of (λ n. add-left (uses l (suc n)) (uses r (suc n))) o′) q))
           (λ v w q. traversed z (over-up B (over-of (λ n. add-right (uses l (suc n)) (uses r (suc n))) o′) q))
+      traversed (t-unit e) o = e-unit M e
 
       pub traversedAll : {Γ : Context} {ts : Terms} {As : List ℕ} {f : ℕ → X} {ρ ρ′ : Values} → TypedAll (M .tables) (M .ok) Γ ts As
           → Over Γ (usesAll ts) f ρ ρ′ → EAll M As ρ ts ρ′ (traverseAll K ts f)

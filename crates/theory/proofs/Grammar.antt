@@ -17,7 +17,7 @@ use Rattle.reduction.specs.declared.Phase.the-variants.{Insertion, Reduction, D
 use Rattle.reduction.specs.Redex.{Contraction, contract, Step as Stepped, step}
 use Rattle.reduction.specs.declared.Rule.the-variants.{Drop}
 use Rattle.reduction.specs.NormalForm.{isNormal, needed, NormalValue, NormalValues, Operation, Normal, variable, function, product as both}
-use Rattle.reduction.specs.NormalForm.{left, right, no-more, more, application, calling, first as taking₁, second as taking₂, value}
+use Rattle.reduction.specs.NormalForm.{left, right, the-unit, no-more, more, application, calling, first as taking₁, second as taking₂, value}
 use Rattle.reduction.specs.NormalForm.{operation, letting, branching}
 use Rattle.syntax.proofs.Options.{and-left, and-right, or-true}
 use Rattle.typing.proofs.InferTyped.{typing-of}
@@ -41,6 +41,7 @@ module _ (pure : Term → Bool) where
     weak-value (both a b) = both (weak-value a) (weak-value b)
     weak-value (left a) = left (weak-value a)
     weak-value (right a) = right (weak-value a)
+    weak-value the-unit = the-unit
 
     weak-values : {ts : Terms} → NormalValues pure ts → NormalValues never ts
     weak-values no-more = no-more
@@ -103,6 +104,7 @@ module _ (pure : Term → Bool) where
     full-value (both a b) e = both (full-value a (e .1)) (full-value b (e .2))
     full-value (left a) e = left (full-value a (e .1))
     full-value (right a) e = right (full-value a (e .1))
+    full-value the-unit e = the-unit
 
     full-values : {ts : Terms} → NormalValues never ts → EachAll ts (Misses pure Dropping) → NormalValues pure ts
     full-values no-more e = no-more
@@ -129,6 +131,7 @@ module _ (pure : Term → Bool) where
     missed-value (both a b) = (refl, missed-value a, missed-value b)
     missed-value (left a) = (refl, missed-value a)
     missed-value (right a) = (refl, missed-value a)
+    missed-value the-unit = refl
 
     missed-values : {ts : Terms} → NormalValues pure ts → EachAll ts (Misses pure Dropping)
     missed-values no-more = tt

@@ -5,9 +5,9 @@ use mathlib.Core.Option.{Option}
 use lib.Dec.{T}
 use Prim.Native.Nat.{ℕ}
 use Rattle.syntax.specs.Maybe.{isSome}
-use Rattle.syntax.specs.Term.{Term, Terms, var, call, lam, app, bind, pair, fst, snd, inl, inr, case, done, arg, node, asVar}
+use Rattle.syntax.specs.Term.{Term, Terms, var, call, lam, app, bind, pair, fst, snd, inl, inr, case, unit, done, arg, node, asVar}
 use Rattle.reduction.specs.NormalForm.{needed, NormalValue, NormalValues, Operation, Normal, variable, function, product as both, left}
-use Rattle.reduction.specs.NormalForm.{right, no-more, more, application, calling, first as taking₁, second as taking₂, value, operation}
+use Rattle.reduction.specs.NormalForm.{right, the-unit, no-more, more, application, calling, first as taking₁, second as taking₂, value, operation}
 use Rattle.reduction.specs.NormalForm.{letting, branching}
 use Rattle.reduction.specs.Grammar.{Class, aValue, anOperation, aBlock, notNormal, isAValue, isAnOperation, isInGrammar, provided, class}
 use Rattle.reduction.specs.Grammar.{areValues, inGrammar}
@@ -94,6 +94,7 @@ module _ (pure : Term → Bool) where
         (and-right (isSome (asVar s) && isInGrammar (class pure l)) (isInGrammar (class pure r)) h) in
         on-variable (λ x. case x l r) (Normal pure) s (a-variable s (and-left (isSome (asVar s)) (isInGrammar (class pure l)) x))
         (λ n. branching y z)
+    class-is (unit A) = the-unit
 
     values-are : (ts : Terms) → T (areValues pure ts) → NormalValues pure ts
     values-are done h = no-more
@@ -121,6 +122,7 @@ module _ (pure : Term → Bool) where
         (both-true (isAValue (class pure a)) (isAValue (class pure b)) (value-test (value-class v)) (value-test (value-class w)))
     value-class (left {a = a} v) = provided-is (isAValue (class pure a)) aValue (value-test (value-class v))
     value-class (right {a = a} v) = provided-is (isAValue (class pure a)) aValue (value-test (value-class v))
+    value-class the-unit = refl
 
     values-class : {ts : Terms} → NormalValues pure ts → T (areValues pure ts)
     values-class no-more = tt

@@ -5,9 +5,9 @@ use mathlib.Core.List.{List, [], _∷_}
 use mathlib.Core.Option.{some, Option·some-injective}
 use lib.Dec.{T, ltb, ltb→lt}
 use lib.ListN.{length, getElem?}
-use Prim.Native.Nat.{ℕ, suc, _<_}
+use Prim.Native.Nat.{ℕ, suc, _≤_, _<_}
 use native.Mathlib.Omega.{arith}
-use Rattle.syntax.specs.Tables.{Tables, Signature, signatureOf}
+use Rattle.syntax.specs.Tables.{Tables, arrow, product, sum, isComposite, Signature, signatureOf}
 use Rattle.syntax.specs.Term.{Term}
 use Rattle.syntax.proofs.Options.{and-left, and-right}
 use Rattle.typing.specs.Infer.{Context}
@@ -17,7 +17,7 @@ use Rattle.typing.proofs.Accepted.{Passed}
 use Rattle.typing.proofs.InferTyped.{typing-of}
 use Rattle.typing.proofs.Trees.{Earlier, earlier, parts-below}
 use Rattle.typing.proofs.Typing.{At, here, there, Of, Signed, Typed, t-var, t-call, t-lam, t-app, t-bind, t-pair, t-fst, t-snd, t-inl}
-use Rattle.typing.proofs.Typing.{t-inr, t-case}
+use Rattle.typing.proofs.Typing.{t-inr, t-case, t-unit}
 use Rattle.theory.proofs.Fields.{bind-some, known-type, Fitting, fitting}
 
 module _ (tables : Tables) (wf : Earlier tables) (fit : Fitting tables) (ok : ℕ → Type 0) where
@@ -42,9 +42,9 @@ module _ (tables : Tables) (wf : Earlier tables) (fit : Fitting tables) (ok : �
   variable-known (one-more a h) (there x) = variable-known h x
 
   -- a type with parts, its parts, and a call's result
-  parts-known : {k F A B : ℕ} → Of tables (suc k) F A B → InTable A × InTable B
-  parts-known {k} {F} {A} {B} o =
-      let p = parts-below tables wf k F A B (o .is) in
+  parts-known : (k : ℕ) {F A B : ℕ} → T (isComposite k) → Of tables k F A B → InTable A × InTable B
+  parts-known k {F} {A} {B} c o =
+      let p = parts-below tables wf k F A B c (o .is) in
       let f = known-type tables o in
       (omega (arith, p .0), omega (arith, p .1))
 
@@ -58,14 +58,15 @@ module _ (tables : Tables) (wf : Earlier tables) (fit : Fitting tables) (ok : �
   typed-known h (t-var x) = variable-known h x
   typed-known h (t-call z e d xs) = result-known e d
   typed-known h (t-lam o x) = known-type tables o
-  typed-known h (t-app o x y) = parts-known o .1
+  typed-known h (t-app o x y) = parts-known arrow tt o .1
   typed-known h (t-bind x y) = typed-known (one-more (typed-known h x) h) y
   typed-known h (t-pair o x y) = known-type tables o
-  typed-known h (t-fst o x) = parts-known o .0
-  typed-known h (t-snd o x) = parts-known o .1
+  typed-known h (t-fst o x) = parts-known product tt o .0
+  typed-known h (t-snd o x) = parts-known product tt o .1
   typed-known h (t-inl o x) = known-type tables o
   typed-known h (t-inr o x) = known-type tables o
-  typed-known h (t-case o x y z) = typed-known (one-more (parts-known o .0) h) y
+  typed-known h (t-case o x y z) = typed-known (one-more (parts-known sum tt o .0) h) y
+  typed-known h (t-unit o) = known-type tables o
 
 -- the type that the checks answer is one of at most 1,024
 pub type-below : (limit : ℕ) (tables : Tables) (words : List ℕ) (x : TypedTerm) → Passed limit tables words x → x .type < 1024

@@ -36,3 +36,4 @@ pub mod UnreadInputs
 pub mod ValuesMakeNoCalls
 pub mod WrongOnCases
 pub mod WrongPrograms
+pub mod NoUnits

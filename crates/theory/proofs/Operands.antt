@@ -4,7 +4,7 @@ use mathlib.Core.Bool.{Bool, true, false}
 use mathlib.Core.Option.{Option, some, none, Option·some-ne-none}
 use lib.Dec.{T}
 use Prim.Native.Nat.{suc}
-use Rattle.syntax.specs.Term.{Term, Terms, var, call, lam, app, bind, pair, fst, snd, inl, inr, case, done, arg}
+use Rattle.syntax.specs.Term.{Term, Terms, var, call, lam, app, bind, pair, fst, snd, inl, inr, case, unit, done, arg}
 use Rattle.syntax.specs.Substitution.{traverse, traverseAll, renaming, weaken}
 use Rattle.syntax.specs.Values.{isValue, argumentsIn, operands}
 use Rattle.reduction.specs.Rules.{nameFirst, letInsertion, fire, rules}
@@ -30,6 +30,7 @@ Ops (snd a) = T (isValue a)
 Ops (inl A a) = T (isValue a)
 Ops (inr A a) = T (isValue a)
 Ops (case s l r) = T (isValue s)
+Ops (unit A) = Unit
 
 -- no let fits exactly if the operands are values
 abbrev searched : (Terms → Term) → (Terms → Term) → Terms → Option Term
@@ -92,6 +93,7 @@ ops-of (snd a) e = one-value _ (isValue a) e
 ops-of (inl A a) e = one-value _ (isValue a) e
 ops-of (inr A a) e = one-value _ (isValue a) e
 ops-of (case s l r) e = one-value _ (isValue s) e
+ops-of (unit A) e = tt
 
 pub of-ops : (t : Term) → Ops t → letInsertion t ≡ none
 unfolding letInsertion nameFirst operands traverse
@@ -106,6 +108,7 @@ of-ops (snd a) h = value-one _ (isValue a) h
 of-ops (inl A a) h = value-one _ (isValue a) h
 of-ops (inr A a) h = value-one _ (isValue a) h
 of-ops (case s l r) h = value-one _ (isValue s) h
+of-ops (unit A) h = refl
 
 mutual
   unfolding Each
@@ -122,6 +125,7 @@ mutual
   each-map P Q f (inl A a) e = (f (inl A a) (e .0), each-map P Q f a (e .1))
   each-map P Q f (inr A a) e = (f (inr A a) (e .0), each-map P Q f a (e .1))
   each-map P Q f (case s l r) e = (f (case s l r) (e .0), each-map P Q f s (e .1), each-map P Q f l (e .2), each-map P Q f r (e .3))
+  each-map P Q f (unit A) e = f (unit A) e
 
   pub each-mapAll : (P Q : Term → Type 0) → ((t : Term) → P t → Q t) → (ts : Terms) → EachAll ts P → EachAll ts Q
   each-mapAll P Q f done e = tt

@@ -3,7 +3,7 @@ use mathlib.Core.Path.{_≡_}
 use mathlib.Core.Bool.{true}
 use lib.Dec.{T}
 use Prim.Native.Nat.{ℕ, zero, suc}
-use Rattle.syntax.specs.Term.{Term, Terms, var, call, lam, app, bind, pair, fst, snd, inl, inr, case, done, arg}
+use Rattle.syntax.specs.Term.{Term, Terms, var, call, lam, app, bind, pair, fst, snd, inl, inr, case, unit, done, arg}
 use Rattle.syntax.specs.Substitution.{Kit, under, traverse, traverseAll, renaming, rename, weaken, substitution, only, _⟦_⟧}
 use Rattle.syntax.specs.Values.{isValue}
 use Rattle.syntax.proofs.Options.{is-true, and-left, and-right, both-true}
@@ -48,6 +48,7 @@ module _ {X : Type 0} (K : Kit X) (Good : X → Type 0) (new : Good (K .variable
     each-kept (inr A a) f g e = (kept a f g (e .0), each-kept a f g (e .1))
     each-kept (case s l r) f g e =
         (kept s f g (e .0), each-kept s f g (e .1), each-kept l (under K f) (up f g) (e .2), each-kept r (under K f) (up f g) (e .3))
+    each-kept (unit A) f g e = tt
 
     pub each-keptAll : (ts : Terms) (f : ℕ → X) → ((n : ℕ) → Good (f n)) → EachAll ts Ops → EachAll (traverseAll K ts f) Ops
     each-keptAll done f g e = tt

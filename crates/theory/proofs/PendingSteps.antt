@@ -8,7 +8,7 @@ use lib.Dec.{T}
 use lib.ListN.{length}
 use Prim.Native.Nat.{ℕ, zero, suc, _+_}
 use native.Mathlib.Omega.{arith}
-use Rattle.syntax.specs.Term.{Term, Terms, var, call, lam, app, bind, pair, fst, snd, inl, inr, case, done, arg}
+use Rattle.syntax.specs.Term.{Term, Terms, var, call, lam, app, bind, pair, fst, snd, inl, inr, case, unit, done, arg}
 use Rattle.syntax.specs.Substitution.{under, traverse, traverseAll, renaming, rename}
 use Rattle.syntax.specs.Values.{isValue, isComputation, counts}
 use Rattle.syntax.specs.Pending.{pending}
@@ -49,6 +49,7 @@ mutual
   pend-rename (inr A a) f = λ i. comp-rename a f i + pend-rename a f i
   pend-rename (case s l r) f = λ i. comp-rename s f i + pend-rename s f i + pend-rename l (under renaming f) i + pend-rename r
       (under renaming f) i
+  pend-rename (unit A) f = refl
 
   pendAll-rename : (ts : Terms) (f : ℕ → ℕ) → pendAll (traverseAll renaming ts f) ≡ pendAll ts
   pendAll-rename done f = refl
@@ -195,6 +196,7 @@ mutual
   none-pending (inl A a) e = λ i. comp-zero a (e .0) i + none-pending a (e .1) i
   none-pending (inr A a) e = λ i. comp-zero a (e .0) i + none-pending a (e .1) i
   none-pending (case s l r) e = λ i. comp-zero s (e .0) i + none-pending s (e .1) i + none-pending l (e .2) i + none-pending r (e .3) i
+  none-pending (unit A) e = refl
 
   none-pendingAll : (ts : Terms) → EachAll ts Ops → pendAll ts ≡ 0
   none-pendingAll done e = refl

@@ -4,7 +4,7 @@ use mathlib.Core.Path.{_≡_, refl, _∙_, ap, ap₂}
 use mathlib.Core.List.{List, [], _∷_, _++_, map}
 use Prim.Native.Nat.{ℕ, _+_}
 use native.Mathlib.Omega.{arith}
-use Rattle.syntax.specs.Term.{Term, Terms, var, call, lam, app, bind, pair, fst, snd, inl, inr, case, done, arg}
+use Rattle.syntax.specs.Term.{Term, Terms, var, call, lam, app, bind, pair, fst, snd, inl, inr, case, unit, done, arg}
 use Rattle.syntax.specs.Values.{isComputation, argumentsIn, operands, counts}
 use Rattle.syntax.specs.Positions.{Position, within, bound, positions, positionsAll, subterms}
 use Rattle.syntax.specs.Pending.{computations, pendingIn, pending}
@@ -31,6 +31,7 @@ unfoldable mutual
   pend (inl A a) = comp a + pend a
   pend (inr A a) = comp a + pend a
   pend (case s l r) = comp s + pend s + pend l + pend r
+  pend (unit A) = 0
 
   pub pendAll : Terms → ℕ
   pendAll done = 0
@@ -98,6 +99,7 @@ mutual
       (at-within (λ x. case x l r) (positions s) ∙ structure s)
       (at-append (map (bound (λ x. case s x r)) (positions l)) _) (at-bound (λ x. case s x r) (positions l) ∙ structure l)
       (at-bound (λ x. case s l x) (positions r) ∙ structure r)
+  structure (unit A) = refl
 
   structureAll : (ts : Terms) → pendAt (positionsAll ts) ≡ pendAll ts
   structureAll done = refl

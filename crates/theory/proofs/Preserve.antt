@@ -14,7 +14,7 @@ use Rattle.typing.specs.Infer.{Context}
 use Rattle.reduction.specs.Rules.{lower}
 use Rattle.syntax.proofs.Options.{uses-itself, add-left, add-right}
 use Rattle.typing.proofs.Typing.{Of, of-one, At, here, there, Typed, TypedAll, t-var, t-call, t-lam, t-app, t-bind, t-pair, t-fst, t-snd}
-use Rattle.typing.proofs.Typing.{t-inl, t-inr, t-case, t-done, t-arg}
+use Rattle.typing.proofs.Typing.{t-inl, t-inr, t-case, t-unit, t-done, t-arg}
 use Rattle.reduction.proofs.Roots.{Names, this, next, Insert, i-call, i-app₁, i-app₂, i-pair₁, i-pair₂, i-fst, i-snd, i-inl, i-inr, i-case}
 use Rattle.reduction.proofs.Roots.{Reduce, r-let, r-case, r-apply, r-fst, r-snd, r-left, r-right, r-value, Drops, r-drop, Step, StepAll}
 use Rattle.reduction.proofs.Roots.{s-root, s-call, s-lam, s-app₁, s-app₂, s-bind₁, s-bind₂, s-pair₁, s-pair₂, s-fst, s-snd, s-inl, s-inr}
@@ -62,6 +62,7 @@ module _ (tables : Tables) (ok : ℕ → Type 0) where
           t-case e (traversed x (into-of (λ n. add-left (uses s n) (uses l (suc n) + uses r (suc n))) o))
           (traversed y (into-up (into-of (λ n. add-left (uses l (suc n)) (uses r (suc n))) o′)))
           (traversed z (into-up (into-of (λ n. add-right (uses l (suc n)) (uses r (suc n))) o′)))
+      traversed (t-unit e) o = t-unit e
 
       pub traversedAll : {Γ Δ : Context} {ts : Terms} {As : List ℕ} {f : ℕ → X} → TypedAll tables ok Γ ts As → Into Γ (usesAll ts) f Δ
           → TypedAll tables ok Δ (traverseAll K ts f) As

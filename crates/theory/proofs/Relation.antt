@@ -4,12 +4,12 @@ use mathlib.Core.Path.{_≡_, sym, subst}
 use mathlib.Core.List.{List, [], _∷_, _++_}
 use mathlib.Core.Option.{some}
 use Prim.Native.Nat.{ℕ, suc}
-use Rattle.syntax.specs.Tables.{Tables, arrow, product, sum, components, Signature}
+use Rattle.syntax.specs.Tables.{Tables, arrow, product, sum, unitType, components, Signature}
 use Rattle.syntax.specs.Term.{Term, Terms}
-use Rattle.semantics.specs.Value.{Value, Values, num, tuple, left, right, empty, also, Call, Trace}
+use Rattle.semantics.specs.Value.{Value, Values, num, tuple, left, right, trivial, empty, also, Call, Trace}
 use Rattle.semantics.specs.Run.{Ends}
 use Rattle.typing.proofs.Typing.{Of, Signed}
-use Rattle.typing.proofs.Trees.{Ty, void, number, function, both, either, shape, ty, Earlier, ty-is}
+use Rattle.typing.proofs.Trees.{Ty, void, number, function, both, either, unitary, shape, ty, Earlier, ty-is}
 use Rattle.theory.proofs.Ends.{EndsAll, Enters}
 
 pub data Nums : Value → Value → Type 0 where
@@ -21,6 +21,9 @@ pub data Pairs (R S : Value → Value → Type 0) : Value → Value → Type 0 w
 pub data Sums (R S : Value → Value → Type 0) : Value → Value → Type 0 where
   lefts : {a b : Value} → R a b → Sums R S (left a) (left b)
   rights : {a b : Value} → S a b → Sums R S (right a) (right b)
+
+pub data Units : Value → Value → Type 0 where
+  units : Units trivial trivial
 
 -- two runs end with values that R relates and traces that C relates
 pub record Both (C : Trace → Trace → Type 0) (R : Value → Value → Type 0) (P Q : Value → Trace → Type 0) : Type 0 where
@@ -40,6 +43,7 @@ module _ (answer : ℕ → Values → Value) (C : Trace → Trace → Type 0) wh
   Related (function A B) v w = (a b : Value) → Related A a b → Both C (Related B) (Enters answer v a) (Enters answer w b)
   Related (both A B) v w = Pairs (Related A) (Related B) v w
   Related (either A B) v w = Sums (Related A) (Related B) v w
+  Related unitary v w = Units v w
 
 -- v and w are related at the type A
 pub record Rel (tables : Tables) (answer : ℕ → Values → Value) (C : Trace → Trace → Type 0) (A : ℕ) (v w : Value) : Type 0 where
@@ -176,3 +180,7 @@ module _ (M : Model) where
             → Sums (Related (M .answer) (M .C) (ty (M .tables) A)) (Related (M .answer) (M .C) (ty (M .tables) B)) x y
         go (lefts r) = lefts (r .rel)
         go (rights r) = rights (r .rel)
+
+    pub to-unit : Of (M .tables) unitType F A B → Units v w → Rv F v w
+    unfolding Related shape
+    to-unit e h = to 3 (e .is) h

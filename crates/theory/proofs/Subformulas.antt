@@ -7,19 +7,19 @@ use mathlib.Core.Option.{Option, some}
 use lib.Dec.{T}
 use Prim.Native.Nat.{ℕ}
 use Rattle.syntax.specs.Maybe.{_>>=_}
-use Rattle.syntax.specs.Tables.{Tables, arrow, product, sum, Signature}
+use Rattle.syntax.specs.Tables.{Tables, arrow, product, sum, isComposite, Signature}
 use Rattle.syntax.specs.Term.{Term, Terms, var}
 use Rattle.typing.specs.Infer.{Context}
 use Rattle.typing.specs.NodeTypes.{_then_, _and_, nodeTypes, nodeTypesAll}
-use Rattle.reduction.specs.NormalForm.{NormalValue, NormalValues, Operation, Normal, variable, function, product as both, left, right}
+use Rattle.reduction.specs.NormalForm.{NormalValue, NormalValues, Operation, Normal, variable, function, product as both, left, right, the-unit}
 use Rattle.reduction.specs.NormalForm.{no-more, more, application, calling, first as taking₁, second as taking₂, value, operation, letting}
 use Rattle.reduction.specs.NormalForm.{branching}
 use Rattle.syntax.specs.Lists.{_∈_, here, there}
 use Rattle.syntax.specs.Calls.{callsIn}
-use Rattle.semantics.specs.TypeParts.{isComposite, PartOf, itself, ofLeft, ofRight, typesOf}
+use Rattle.semantics.specs.TypeParts.{PartOf, itself, ofLeft, ofRight, typesOf}
 use Rattle.semantics.specs.Claim.{Subformula, of-result, of-input, of-call}
 use Rattle.typing.proofs.Typing.{Of, Signed, At, here as now, there as later, Typed, TypedAll, t-var, t-call, t-lam, t-app, t-bind, t-pair}
-use Rattle.typing.proofs.Typing.{t-fst, t-snd, t-inl, t-inr, t-case, t-done, t-arg}
+use Rattle.typing.proofs.Typing.{t-fst, t-snd, t-inl, t-inr, t-case, t-unit, t-done, t-arg}
 use Rattle.typing.proofs.InferTyped.{typed-infer}
 
 -- P of each member
@@ -119,6 +119,7 @@ module _ (tables : Tables) (ok : ℕ → Type 0) (P : ℕ → Type 0) (closed : 
         (value-listed v x c (closed .parts sum F A B tt o p .0))
     value-listed (right v) (t-inr {S = F} {A = A} {B = B} o x) c p = first-of F (typed-infer tables ok (t-inr o x)) p
         (value-listed v x c (closed .parts sum F A B tt o p .1))
+    value-listed the-unit (t-unit {U = F} o) c p = first-of F (typed-infer tables ok (t-unit o)) p (listed all-none)
 
     values-listed : {Γ : Context} {ts : Terms} {As : List ℕ} → NormalValues pure ts → TypedAll tables ok Γ ts As → Holds Γ → AllIn P As
         → Listed P (nodeTypesAll tables ts Γ)

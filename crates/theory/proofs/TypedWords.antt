@@ -16,7 +16,7 @@ use Rattle.typing.specs.Infer.{Context}
 use Rattle.typing.specs.TableChecks.{every}
 use Rattle.typing.specs.TermChecks.{wellFormedFields, wellFormedWord, wellFormedWords}
 use Rattle.typing.proofs.Typing.{Of, at-below, Typed, TypedAll, t-var, t-call, t-lam, t-app, t-bind, t-pair, t-fst, t-snd}
-use Rattle.typing.proofs.Typing.{t-inl, t-inr, t-case, t-done, t-arg}
+use Rattle.typing.proofs.Typing.{t-inl, t-inr, t-case, t-unit, t-done, t-arg}
 use Rattle.typing.proofs.ScopedNode.{every-append}
 use Rattle.theory.proofs.Fields.{known-type, known-call, Fitting}
 
@@ -98,6 +98,7 @@ module _ (tables : Tables) (fit : Fitting tables) (ok : ℕ → Type 0) where
         before _ _ (plain 10 (omega arith) tt)
         (both (encode s) (encode l ++ encode r) (words-formed x (omega (arith, h, i, j)))
         (both (encode l) (encode r) (words-formed y (omega (arith, h, i, j))) (words-formed z (omega (arith, h, i, j)))))
+    words-formed (t-unit o) h = before _ [] (of-type 11 (omega arith) o (λ l. l)) none
 
     all-formed : {Γ : Context} {ts : Terms} {As : List ℕ} → TypedAll tables ok Γ ts As → Below Γ (encodeAll ts) → Formed (encodeAll ts)
     all-formed t-done h = none

@@ -4,16 +4,16 @@ use mathlib.Core.Path.{_≡_, refl, subst}
 use mathlib.Core.List.{[], _∷_}
 use lib.Dec.{T}
 use Prim.Native.Nat.{ℕ, suc, _≤_}
-use Rattle.syntax.specs.Term.{Term, var, call, lam, app, bind, pair, fst, snd, inl, inr, case}
+use Rattle.syntax.specs.Term.{Term, var, call, lam, app, bind, pair, fst, snd, inl, inr, case, unit}
 use Rattle.syntax.specs.Substitution.{under, traverse, renaming, rename, weaken, weakenBody, only, _⟦_⟧}
 use Rattle.syntax.specs.Values.{isValue, uses}
 use Rattle.typing.specs.Infer.{Context}
-use Rattle.semantics.specs.Value.{Value, Values, closure, tuple, left, right, also, Trace}
+use Rattle.semantics.specs.Value.{Value, Values, closure, tuple, left, right, trivial, also, Trace}
 use Rattle.semantics.specs.Run.{answered, lookup}
 use Rattle.syntax.proofs.Options.{and-left, and-right}
 use Rattle.syntax.proofs.Algebra.{rename-id}
 use Rattle.typing.proofs.Typing.{At, here, there, Typed, t-var, t-pair, t-inl, t-inr}
-use Rattle.theory.proofs.Ends.{ends-var, ends-lam, ends-pair, ends-inl, ends-inr}
+use Rattle.theory.proofs.Ends.{ends-var, ends-lam, ends-pair, ends-inl, ends-inr, ends-unit}
 use Rattle.theory.proofs.Ends.{ends-one}
 use Rattle.theory.proofs.Relation.{Model, Rv, Runs, E}
 use Rattle.theory.proofs.Compatible.{Bound, past-left, past-right}
@@ -47,6 +47,7 @@ module _ (M : Model) where
   silent (inl S a) h (t-inl e x) o = let p = silent a h x o in record { v = left (p .v); ends = ends-inl (M .answer) (p .ends) }
   silent (inr S a) h (t-inr e x) o = let p = silent a h x o in record { v = right (p .v); ends = ends-inr (M .answer) (p .ends) }
   silent (case s l r) h x o = absurd h
+  silent (unit U) h x o = record { v = trivial; ends = ends-unit (M .answer) }
 
   -- two runs with no call
   pub record Calm (A : ℕ) (ρ : Values) (t : Term) (ρ′ : Values) (t′ : Term) : Type 0 where

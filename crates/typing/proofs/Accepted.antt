@@ -19,16 +19,16 @@ pub data Verdicts {X : Type 0} (P : X → Type 0) : Verdict X → Type 0 where
   passed : {x : X} → P x → Verdicts P (accepted x)
 
 -- what follows is asked of what passed
-after : {X Y : Type 0} {P : X → Type 0} {Q : Y → Type 0} {v : Verdict X} (f : X → Verdict Y) → Verdicts P v
+pub after : {X Y : Type 0} {P : X → Type 0} {Q : Y → Type 0} {v : Verdict X} (f : X → Verdict Y) → Verdicts P v
     → ((x : X) → P x → Verdicts Q (f x)) → Verdicts Q (v >>= f)
 after f (refusal n) h = refusal n
 after f (passed p) h = h _ p
 
-required : (n : ℕ) (b : Bool) → Verdicts (λ _. T b) (require (suc n) b)
+pub required : (n : ℕ) (b : Bool) → Verdicts (λ _. T b) (require (suc n) b)
 required n true = passed tt
 required n false = refusal n
 
-provided : {X : Type 0} (n : ℕ) (o : Option X) → Verdicts (λ x. o ≡ some x) (provide (suc n) o)
+pub provided : {X : Type 0} (n : ℕ) (o : Option X) → Verdicts (λ x. o ≡ some x) (provide (suc n) o)
 provided n none = refusal n
 provided n (some x) = passed refl
 

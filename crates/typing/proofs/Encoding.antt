@@ -9,7 +9,7 @@ use lib.ListN.{length, getElem?}
 use Rattle.syntax.specs.Maybe.{_>>=_}
 use Rattle.syntax.specs.Words.{pack, kindOf, numberOf, typeOf}
 use Rattle.syntax.specs.Tables.{Tables, arity}
-use Rattle.syntax.specs.Term.{Term, Terms, var, call, lam, app, bind, pair, fst, snd, inl, inr, case, done, arg, node}
+use Rattle.syntax.specs.Term.{Term, Terms, var, call, lam, app, bind, pair, fst, snd, inl, inr, case, unit, done, arg, node}
 use Rattle.syntax.specs.Encoding.{encode, encodeAll}
 use Rattle.syntax.specs.Decoding.{leaf, unary, binary, ternary, splitForest, callBuilder, builders, graft, decodeForest, single}
 use Rattle.syntax.specs.Decoding.{decode}
@@ -119,7 +119,9 @@ module _ (tables : Tables) where
   undone (suc (suc (suc (suc (suc (suc (suc (suc (suc (suc zero)))))))))) n A h ts us e = ternary-undone (λ n A. case) n A _ ts us e
       (λ a b c. ap₂ {C = List ℕ} (λ (x y : ℕ). pack 10 x y ∷ (encode a ++ (encode b ++ encode c)))
       (sym (zero-field n (and-left (eqb n 0) (eqb A 0) h))) (sym (zero-field A (and-right (eqb n 0) (eqb A 0) h))))
-  undone (suc (suc (suc (suc (suc (suc (suc (suc (suc (suc (suc k))))))))))) n A h ts us e = absurd (Option·none-ne-some us e)
+  undone (suc (suc (suc (suc (suc (suc (suc (suc (suc (suc (suc zero))))))))))) n A h ts us e = leaf-undone (λ n A. unit A) n A _ ts us e
+      (ap {B = List ℕ} (λ (x : ℕ). pack 11 x A ∷ []) (sym (zero-field n (and-left (eqb n 0) (ltb A (length (tables .types))) h))))
+  undone (suc (suc (suc (suc (suc (suc (suc (suc (suc (suc (suc (suc k)))))))))))) n A h ts us e = absurd (Option·none-ne-some us e)
 
   -- the words that decode to a forest are its words
   pub encode-decodeForest : (ws : List ℕ) → T (every (wellFormedWord tables) ws) → (us : Terms) → decodeForest (tables .calls) ws ≡ some us

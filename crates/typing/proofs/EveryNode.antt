@@ -7,7 +7,7 @@ use Prim.Native.Nat.{ℕ}
 use lib.Dec.{eqb}
 use Rattle.syntax.specs.Maybe.{_>>=_, given}
 use Rattle.syntax.specs.Tables.{Tables, arrow, product, sum, components, signature}
-use Rattle.syntax.specs.Term.{Term, Terms, var, call, lam, app, bind, pair, fst, snd, inl, inr, case, done, arg}
+use Rattle.syntax.specs.Term.{Term, Terms, var, call, lam, app, bind, pair, fst, snd, inl, inr, case, unit, done, arg}
 use Rattle.typing.specs.Infer.{Context, equal, infer, inferAll}
 use Rattle.typing.specs.NodeTypes.{_then_, _and_, nodeTypes, nodeTypesAll}
 
@@ -103,6 +103,7 @@ module _ (tables : Tables) where
         (p .one) (p .is)
         (joined (components tables sum (p .one)) (λ (A, B). nodeTypes tables l (A ∷ Γ) and nodeTypes tables r (B ∷ Γ)) (q .one) (q .is)
         (and-there _ _ (every-node l (q .one .0 ∷ Γ) (known (x .one) (x .is))) (every-node r (q .one .1 ∷ Γ) (known (y .one) (y .is)))))))
+    every-node (unit U) Γ h = then-there _ _ h (there [])
 
     pub every-nodeAll : (ts : Terms) (Γ : Context) → There (inferAll tables ts Γ) → There (nodeTypesAll tables ts Γ)
     every-nodeAll done Γ h = there []

@@ -7,15 +7,15 @@ use lib.Dec.{T, eqb, eqb→eq, eqb-refl}
 use lib.ListN.{getElem?}
 use Prim.Native.Nat.{ℕ, zero, suc}
 use Rattle.syntax.specs.Maybe.{_>>=_, given}
-use Rattle.syntax.specs.Tables.{Tables, arrow, product, sum, components, signature}
-use Rattle.syntax.specs.Term.{Term, Terms, var, call, lam, app, bind, pair, fst, snd, inl, inr, case, done, arg}
+use Rattle.syntax.specs.Tables.{Tables, arrow, product, sum, unitType, components, signature}
+use Rattle.syntax.specs.Term.{Term, Terms, var, call, lam, app, bind, pair, fst, snd, inl, inr, case, unit, done, arg}
 use Rattle.typing.specs.Infer.{Context, equal, infer, inferAll}
 use Rattle.syntax.specs.Lists.{_∈_}
 use Rattle.syntax.specs.Calls.{callsIn}
 use Rattle.syntax.proofs.Options.{Every, every-none, every-some, every-self, every-bind, every-given, every-to, every-at, and-left}
 use Rattle.syntax.proofs.Options.{and-right, both-true}
 use Rattle.typing.proofs.Typing.{At, here, there, Typed, TypedAll, t-var, t-call, t-lam, t-app, t-bind, t-pair, t-fst, t-snd, t-inl}
-use Rattle.typing.proofs.Typing.{t-inr, t-case, t-done, t-arg}
+use Rattle.typing.proofs.Typing.{t-inr, t-case, t-unit, t-done, t-arg}
 use Rattle.syntax.proofs.CallsIn.{callsInAll, of-call, of-arguments, of-lam, of-app₁, of-app₂, of-bind₁, of-bind₂, of-pair₁, of-pair₂}
 use Rattle.syntax.proofs.CallsIn.{of-fst, of-snd, of-inl, of-inr, of-case₁, of-case₂, of-case₃, of-first, of-rest}
 
@@ -98,6 +98,7 @@ module _ (tables : Tables) (ok : ℕ → Type 0) where
         every-bind _ (infer-typed l (p .0 ∷ Γ) (λ j i. h j (of-case₂ s l r i))) λ C y.
         every-bind _ (infer-typed r (p .1 ∷ Γ) (λ j i. h j (of-case₃ s l r i))) λ C′ z.
         every-given (eqb C′ C) C λ q. t-case (record { is = e }) x y (retype q z)
+    infer-typed (unit U) Γ h = every-bind _ (every-self (components tables unitType U)) λ p e. every-some (t-unit (record { is = e }))
 
     pub infer-typedAll : (ts : Terms) (Γ : Context) → ((k : ℕ) → k ∈ callsInAll ts → ok k)
         → Every (TypedAll tables ok Γ ts) (inferAll tables ts Γ)
@@ -143,6 +144,7 @@ module _ (tables : Tables) (ok : ℕ → Type 0) where
         (bind-is _ _ _ (e .is)
         (bind-is _ _ _ (typed-infer y)
         (bind-is _ _ _ (typed-infer z) (given-is (eqb C C) _ (eqb-refl C)))))
+    typed-infer (t-unit e) = bind-is _ _ _ (e .is) refl
 
     pub typed-inferAll : {Γ : Context} {ts : Terms} {As : List ℕ} → TypedAll tables ok Γ ts As → inferAll tables ts Γ ≡ some As
     typed-inferAll t-done = refl

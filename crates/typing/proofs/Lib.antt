@@ -10,3 +10,4 @@ pub mod Trees
 pub mod TypeNumbers
 pub mod ScopedNode
 pub mod TypedScoped
+pub mod BeforeUnits

@@ -6,7 +6,7 @@ use Prim.Native.Nat.{ℕ, suc, _+_}
 use lib.ListN.{length, length-append}
 use Rattle.syntax.specs.Maybe.{_>>=_}
 use Rattle.syntax.specs.Tables.{Tables, arrow, sum, components}
-use Rattle.syntax.specs.Term.{Term, Terms, var, call, lam, app, bind, pair, fst, snd, inl, inr, case, done, arg}
+use Rattle.syntax.specs.Term.{Term, Terms, var, call, lam, app, bind, pair, fst, snd, inl, inr, case, unit, done, arg}
 use Rattle.syntax.specs.Encoding.{encode, encodeAll}
 use Rattle.typing.specs.Infer.{Context, infer}
 use Rattle.typing.specs.NodeTypes.{_then_, _and_, nodeTypes, nodeTypesAll}
@@ -55,6 +55,7 @@ module _ (tables : Tables) where
         (bind-matches _ (infer tables s Γ) _
         (λ S. bind-matches _ (components tables sum S) _
         (λ (A, B). and-matches (encode l) (encode r) (node-types-match l (A ∷ Γ)) (node-types-match r (B ∷ Γ))))))
+    node-types-match (unit U) Γ = then-matches _ (infer tables (unit U) Γ) (matching refl)
 
     pub node-types-matchAll : (ts : Terms) (Γ : Context) → Matches (encodeAll ts) (nodeTypesAll tables ts Γ)
     node-types-matchAll done Γ = matching refl

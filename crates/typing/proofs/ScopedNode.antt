@@ -7,7 +7,7 @@ use native.Mathlib.Omega.{arith}
 use native.Mathlib.Nat.{zero-add, add-zero}
 use lib.Dec.{T, ltb}
 use Rattle.syntax.specs.Kinds.{bindersAt}
-use Rattle.syntax.specs.Term.{Term, Terms, var, call, lam, app, bind, pair, fst, snd, inl, inr, case, done, arg, node, asVar}
+use Rattle.syntax.specs.Term.{Term, Terms, var, call, lam, app, bind, pair, fst, snd, inl, inr, case, unit, done, arg, node, asVar}
 use Rattle.syntax.specs.Positions.{Position, within, bound, positions, positionsAll}
 use Rattle.syntax.specs.Lists.{_∈_, here, there}
 use Rattle.syntax.proofs.Options.{and-last, and-left, and-right}
@@ -88,3 +88,4 @@ scoped-node m (case s l r) =
     ∙ ap₂ {C = Bool} (λ x y. x && y) (plain m (λ x. case x l r) s)
     (both (test m) (map (bound (λ x. case s x r)) (positions l)) (map (bound (λ x. case s l x)) (positions r))
     (under m (λ x. case s x r) l) (under m (λ x. case s l x) r))
+scoped-node m (unit A) = refl

@@ -1,5 +1,5 @@
 -- A type's number as a tree, for recursion over types; parts are earlier entries (check 2), so enough depth is one more than the number.
-use mathlib.Core.Path.{_≡_, refl, _∙_, ap, ap₂, subst}
+use mathlib.Core.Path.{_≡_, refl, sym, _∙_, ap, ap₂, subst}
 use mathlib.Core.Bool.{Bool, true, false, _&&_, _||_}
 use mathlib.Core.List.{List, [], _∷_}
 use mathlib.Core.Option.{Option, some, none, Option·some-injective, Option·none-ne-some}
@@ -9,7 +9,7 @@ use Prim.Native.Nat.{ℕ, zero, suc, _+_, _≤_, _<_}
 use native.Mathlib.Omega.{arith}
 use Rattle.syntax.specs.Maybe.{_>>=_, given}
 use Rattle.syntax.specs.Words.{kindOf, leftOf, rightOf}
-use Rattle.syntax.specs.Tables.{Tables, base, sum, components}
+use Rattle.syntax.specs.Tables.{Tables, base, sum, unitType, isComposite, components}
 use Rattle.typing.specs.TableChecks.{wellFormedType, wellFormedTypes}
 use Rattle.syntax.proofs.Options.{and-left, and-right}
 
@@ -20,6 +20,7 @@ pub data Ty : Type 0 where
   function : Ty → Ty → Ty
   both : Ty → Ty → Ty
   either : Ty → Ty → Ty
+  unitary : Ty
 
 -- a type by its kind, its left field (a base type's name) and the trees of its parts
 unfoldable pub shape : ℕ → ℕ → Ty → Ty → Ty
@@ -27,7 +28,8 @@ shape zero n l r = number n
 shape (suc zero) n l r = function l r
 shape (suc (suc zero)) n l r = both l r
 shape (suc (suc (suc zero))) n l r = either l r
-shape (suc (suc (suc (suc k)))) n l r = void
+shape (suc (suc (suc (suc zero)))) n l r = unitary
+shape (suc (suc (suc (suc (suc k))))) n l r = void
 
 module _ (tables : Tables) where
   unfoldable pub tree : ℕ → ℕ → Ty
@@ -50,13 +52,17 @@ module _ (tables : Tables) where
 
   -- the parts of a composite type are earlier
   pub record Earlier : Type 0 where
-    pub parts : (A w k : ℕ) → getElem? (tables .types) A ≡ some w → kindOf w ≡ suc k → (leftOf w < A) × (rightOf w < A)
+    pub parts : (A w k : ℕ) → T (isComposite k) → getElem? (tables .types) A ≡ some w → kindOf w ≡ k → (leftOf w < A) × (rightOf w < A)
 
 module _ (tables : Tables) (wf : Earlier tables) where
-  shapes : (k n : ℕ) {l l′ r r′ : Ty} → (1 ≤ k → (l ≡ l′) × (r ≡ r′)) → shape k n l r ≡ shape k n l′ r′
+  shapes : (k n : ℕ) {l l′ r r′ : Ty} → (T (isComposite k) → (l ≡ l′) × (r ≡ r′)) → shape k n l r ≡ shape k n l′ r′
   unfolding shape
   shapes zero n h = refl
-  shapes (suc k) n {l} {l′} {r} {r′} h = let e = h (omega arith) in ap₂ (shape (suc k) n) (e .0) (e .1)
+  shapes (suc zero) n h = let e = h tt in ap₂ function (e .0) (e .1)
+  shapes (suc (suc zero)) n h = let e = h tt in ap₂ both (e .0) (e .1)
+  shapes (suc (suc (suc zero))) n h = let e = h tt in ap₂ either (e .0) (e .1)
+  shapes (suc (suc (suc (suc zero)))) n h = refl
+  shapes (suc (suc (suc (suc (suc k))))) n h = refl
 
   pub enough : (f g A : ℕ) → A < f → A < g → tree tables f A ≡ tree tables g A
   unfolding tree
@@ -64,17 +70,12 @@ module _ (tables : Tables) (wf : Earlier tables) where
   enough (suc f) zero A p q = absurd (omega arith)
   enough (suc f) (suc g) A p q = go (getElem? (tables .types) A) refl (λ B h. enough f g B (omega arith) (omega arith))
     where
-      positive : (n : ℕ) → 1 ≤ n → (k : ℕ) × (n ≡ suc k)
-      positive zero h = absurd (omega arith)
-      positive (suc k) h = (k, refl)
-
       go : (o : Option ℕ) → getElem? (tables .types) A ≡ o → ((B : ℕ) → B < A → tree tables f B ≡ tree tables g B)
           → _≡_ {A = Ty} (elim o [ none ↦ void | some w ↦ word-tree tables f (kindOf w) w ])
           (elim o [ none ↦ void | some w ↦ word-tree tables g (kindOf w) w ])
       go none e h = refl
-      go (some w) e h = shapes (kindOf w) (leftOf w) λ k.
-          let j = positive (kindOf w) k in
-          let p = wf .parts A w (j .0) e (j .1) in
+      go (some w) e h = shapes (kindOf w) (leftOf w) λ c.
+          let p = wf .parts A w (kindOf w) c e refl in
           (h (leftOf w) (p .0), h (rightOf w) (p .1))
 
   -- a type by its parts
@@ -100,10 +101,10 @@ module _ (tables : Tables) (wf : Earlier tables) where
       go none d q = absurd (Option·none-ne-some (l, r) q)
       go (some w) d q = fits w d (eqb (kindOf w) k) (eqb→eq (kindOf w) k) q
 
-  pub parts-below : (k A l r : ℕ) → components tables (suc k) A ≡ some (l, r) → (l < A) × (r < A)
-  parts-below k A l r e =
-      let w = word-of (suc k) A l r e in
-      let p = wf .parts A (w .word) k (w .is) (w .kind) in
+  pub parts-below : (k A l r : ℕ) → T (isComposite k) → components tables k A ≡ some (l, r) → (l < A) × (r < A)
+  parts-below k A l r c e =
+      let w = word-of k A l r e in
+      let p = wf .parts A (w .word) k c (w .is) (w .kind) in
       (subst (λ (x : ℕ). x < A) (w .left) (p .0), subst (λ (x : ℕ). x < A) (w .right) (p .1))
 
   pub tree-is : (f k A l r : ℕ) → components tables (suc k) A ≡ some (l, r)
@@ -116,8 +117,8 @@ module _ (tables : Tables) (wf : Earlier tables) where
 
   pub ty-is : (k A l r : ℕ) → components tables (suc k) A ≡ some (l, r) → ty tables A ≡ shape (suc k) l (ty tables l) (ty tables r)
   ty-is k A l r e =
-      let p = parts-below k A l r e in
-      tree-is A k A l r e ∙ ap₂ (shape (suc k) l) (enough A (suc l) l (p .0) (omega arith)) (enough A (suc r) r (p .1) (omega arith))
+      tree-is A k A l r e ∙ shapes (suc k) l λ c. let p = parts-below (suc k) A l r c e
+      in (enough A (suc l) l (p .0) (omega arith), enough A (suc r) r (p .1) (omega arith))
 
   pub ty-base : (A l r : ℕ) → components tables base A ≡ some (l, r) → ty tables A ≡ number l
   unfolding shape
@@ -139,9 +140,11 @@ entry i (x ∷ ws) h (suc j) w e = subst (λ (n : ℕ). T (wellFormedType n w)) 
 pub data Formed (i w : ℕ) : Type 0 where
   a-base : kindOf w ≡ 0 → rightOf w ≡ 0 → Formed i w
   a-composite : 1 ≤ kindOf w → kindOf w ≤ 3 → leftOf w < i → rightOf w < i → Formed i w
+  a-unit : kindOf w ≡ 4 → leftOf w ≡ 0 → rightOf w ≡ 0 → Formed i w
 
 formed : (i w : ℕ) → T (wellFormedType i w) → Formed i w
-formed i w h = either-holds (eqb k base && eqb r 0) (leb 1 k && leb k sum && ltb l i && ltb r i) from-base from-composite h
+formed i w h = either-holds ((eqb k base && eqb r 0) || (leb 1 k && leb k sum && ltb l i && ltb r i)) (eqb k unitType && eqb l 0 && eqb r 0)
+    (either-holds (eqb k base && eqb r 0) (leb 1 k && leb k sum && ltb l i && ltb r i) from-base from-composite) from-unit h
   where
     k : ℕ
     k = kindOf w
@@ -166,13 +169,20 @@ formed i w h = either-holds (eqb k base && eqb r 0) (leb 1 k && leb k sum && ltb
         a-composite (leb→le 1 k (and-left (leb 1 k) (leb k sum) x)) (leb→le k sum (and-right (leb 1 k) (leb k sum) x))
         (ltb→lt l i (and-right (leb 1 k && leb k sum) (ltb l i) y)) (ltb→lt r i (and-right (leb 1 k && leb k sum && ltb l i) (ltb r i) z))
 
+    from-unit : T (eqb k unitType && eqb l 0 && eqb r 0) → Formed i w
+    from-unit z =
+        let y = and-left (eqb k unitType && eqb l 0) (eqb r 0) z in
+        a-unit (eqb→eq k unitType (and-left (eqb k unitType) (eqb l 0) y)) (eqb→eq l 0 (and-right (eqb k unitType) (eqb l 0) y))
+        (eqb→eq r 0 (and-right (eqb k unitType && eqb l 0) (eqb r 0) z))
+
 -- each entry of a table that passes check 2
 pub entry-formed : (ws : List ℕ) → T (wellFormedTypes 0 ws) → (A w : ℕ) → getElem? ws A ≡ some w → Formed A w
 entry-formed ws h A w e = formed A w (subst (λ (n : ℕ). T (wellFormedType n w)) (omega arith) (entry 0 ws h A w e))
 
 pub earlier : (tables : Tables) → T (wellFormedTypes 0 (tables .types)) → Earlier tables
-earlier tables h = record { parts = λ A w k e q. below A w k q (entry-formed (tables .types) h A w e) }
+earlier tables h = record { parts = λ A w k c e q. below A w (subst (λ (j : ℕ). T (isComposite j)) (sym q) c) (entry-formed (tables .types) h A w e) }
   where
-    below : (A w k : ℕ) → kindOf w ≡ suc k → Formed A w → (leftOf w < A) × (rightOf w < A)
-    below A w k q (a-base z _) = absurd (omega (arith, q, z))
-    below A w k q (a-composite _ _ l r) = (l, r)
+    below : (A w : ℕ) → T (isComposite (kindOf w)) → Formed A w → (leftOf w < A) × (rightOf w < A)
+    below A w c (a-base z _) = absurd (subst (λ (k : ℕ). T (isComposite k)) z c)
+    below A w c (a-composite _ _ l r) = (l, r)
+    below A w c (a-unit z _ _) = absurd (subst (λ (k : ℕ). T (isComposite k)) z c)

@@ -14,23 +14,25 @@ use Rattle.syntax.proofs.Options.{and-left, and-right, not-both}
 use Rattle.typing.specs.TableChecks.{every, wellFormedTypes, distinct}
 use Rattle.typing.proofs.Encoding.{pack-fields}
 use Rattle.typing.proofs.Trees.{Ty, void, number, function, both, either, shape, tree, ty, word-tree, at-word, Formed, a-base}
-use Rattle.typing.proofs.Trees.{a-composite, entry-formed}
+use Rattle.typing.proofs.Trees.{a-composite, a-unit, unitary, entry-formed}
 
 -- the kind of a tree that has one
 kind : Ty → ℕ
-kind void = 4
+kind void = 5
 kind (number n) = 0
 kind (function l r) = 1
 kind (both l r) = 2
 kind (either l r) = 3
+kind unitary = 4
 
-kind-shape : (k n : ℕ) (l r : Ty) → k ≤ 3 → kind (shape k n l r) ≡ k
+kind-shape : (k n : ℕ) (l r : Ty) → k ≤ 4 → kind (shape k n l r) ≡ k
 unfolding shape kind
 kind-shape zero n l r h = refl
 kind-shape (suc zero) n l r h = refl
 kind-shape (suc (suc zero)) n l r h = refl
 kind-shape (suc (suc (suc zero))) n l r h = refl
-kind-shape (suc (suc (suc (suc k)))) n l r h = absurd (omega arith)
+kind-shape (suc (suc (suc (suc zero)))) n l r h = refl
+kind-shape (suc (suc (suc (suc (suc k))))) n l r h = absurd (omega arith)
 
 -- trees of one kind that are equal have one name, or the same parts
 base-name : (n n′ : ℕ) (l l′ r r′ : Ty) → shape 0 n l r ≡ shape 0 n′ l′ r′ → n ≡ n′
@@ -80,7 +82,7 @@ module _ (tables : Tables) (formed : T (wellFormedTypes 0 (tables .types))) (no-
       → ((C D : ℕ) → C < A → D < B → tree tables f C ≡ tree tables g D → C ≡ D) → w ≡ x
   words-same f g A B w x p q e ih = go p q
     where
-      kinds : kindOf w ≤ 3 → kindOf x ≤ 3 → kindOf w ≡ kindOf x
+      kinds : kindOf w ≤ 4 → kindOf x ≤ 4 → kindOf w ≡ kindOf x
       kinds h k = sym (kind-shape (kindOf w) _ _ _ h) ∙ ap kind e ∙ kind-shape (kindOf x) _ _ _ k
 
       at-kind : (k : ℕ) → kindOf w ≡ k → kindOf x ≡ k → word-tree tables f k w ≡ word-tree tables g k x
@@ -95,9 +97,14 @@ module _ (tables : Tables) (formed : T (wellFormedTypes 0 (tables .types))) (no-
 
       go : Formed A w → Formed B x → w ≡ x
       go (a-base h r) (a-base j s) = same-word w x (h ∙ sym j) (base-name _ _ _ _ _ _ (at-kind 0 h j)) (r ∙ sym s)
-      go (a-base h r) (a-composite j k _ _) = let z = kinds (omega arith) k in absurd (omega arith)
-      go (a-composite h k _ _) (a-base j s) = let z = kinds k (omega arith) in absurd (omega arith)
-      go (a-composite h k a b) (a-composite j m c d) = let z = kinds k m in composite (kindOf w) refl (sym z) h k a b c d
+      go (a-base h r) (a-composite j k _ _) = let z = kinds (omega arith) (omega arith) in absurd (omega arith)
+      go (a-composite h k _ _) (a-base j s) = let z = kinds (omega arith) (omega arith) in absurd (omega arith)
+      go (a-composite h k a b) (a-composite j m c d) = let z = kinds (omega arith) (omega arith) in composite (kindOf w) refl (sym z) h k a b c d
+      go (a-unit h l r) (a-unit j m s) = same-word w x (h ∙ sym j) (l ∙ sym m) (r ∙ sym s)
+      go (a-unit h _ _) (a-base j _) = let z = kinds (omega arith) (omega arith) in absurd (omega arith)
+      go (a-unit h _ _) (a-composite j k _ _) = let z = kinds (omega arith) (omega arith) in absurd (omega arith)
+      go (a-base h _) (a-unit j _ _) = let z = kinds (omega arith) (omega arith) in absurd (omega arith)
+      go (a-composite h k _ _) (a-unit j _ _) = let z = kinds (omega arith) (omega arith) in absurd (omega arith)
 
   same-number : (f g A B : ℕ) → A < f → B < g → A < length (tables .types) → B < length (tables .types)
       → tree tables f A ≡ tree tables g B → A ≡ B

@@ -15,7 +15,7 @@ use Rattle.syntax.specs.Term.{Term, Terms, node, asVar}
 use Rattle.typing.specs.Infer.{Context, infer}
 use Rattle.typing.specs.TermChecks.{scopedAt, scoped}
 use Rattle.typing.proofs.Typing.{at-below, Typed, TypedAll, t-var, t-call, t-lam, t-app, t-bind, t-pair, t-fst, t-snd, t-inl}
-use Rattle.typing.proofs.Typing.{t-inr, t-case, t-done, t-arg}
+use Rattle.typing.proofs.Typing.{t-inr, t-case, t-unit, t-done, t-arg}
 use Rattle.typing.proofs.InferTyped.{typing-of}
 use Rattle.typing.proofs.ScopedNode.{scopedParts, scoped-node}
 
@@ -35,6 +35,7 @@ module _ (tables : Tables) (ok : ℕ → Type 0) where
     typed-scoped {Γ} {t} (t-inl o x) = rw (scoped-node (length Γ) t) (simp (add-zero, typed-scoped x))
     typed-scoped {Γ} {t} (t-inr o x) = rw (scoped-node (length Γ) t) (simp (add-zero, typed-scoped x))
     typed-scoped {Γ} {t} (t-case o x y z) = rw (scoped-node (length Γ) t) (simp (add-zero, add-one, typed-scoped x, typed-scoped y, typed-scoped z))
+    typed-scoped {Γ} {t} (t-unit o) = scoped-node (length Γ) t
 
     typed-scopedAll : {Γ : Context} {ts : Terms} {As : List ℕ} → TypedAll tables ok Γ ts As → (j : ℕ) → scopedParts (length Γ) 1 j ts ≡ true
     typed-scopedAll t-done j = refl

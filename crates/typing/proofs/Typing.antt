@@ -9,8 +9,8 @@ use Prim.Native.Nat.{ℕ, zero, suc, _<_}
 use native.Mathlib.Omega.{arith}
 use Rattle.syntax.specs.Maybe.{_>>=_, given}
 use Rattle.syntax.specs.Words.{kindOf, leftOf, rightOf}
-use Rattle.syntax.specs.Tables.{Tables, arrow, product, sum, components, Signature, signature}
-use Rattle.syntax.specs.Term.{Term, Terms, var, call, lam, app, bind, pair, fst, snd, inl, inr, case, done, arg}
+use Rattle.syntax.specs.Tables.{Tables, arrow, product, sum, unitType, components, Signature, signature}
+use Rattle.syntax.specs.Term.{Term, Terms, var, call, lam, app, bind, pair, fst, snd, inl, inr, case, unit, done, arg}
 use Rattle.typing.specs.Infer.{Context}
 
 -- the n-th of the context is A
@@ -66,6 +66,7 @@ module _ (tables : Tables) (ok : ℕ → Type 0) where
       t-inr : {Γ : Context} {S A B : ℕ} {a : Term} → Of tables sum S A B → Typed Γ a B → Typed Γ (inr S a) S
       t-case : {Γ : Context} {S A B C : ℕ} {s l r : Term} → Of tables sum S A B → Typed Γ s S → Typed (A ∷ Γ) l C → Typed (B ∷ Γ) r C
           → Typed Γ (case s l r) C
+      t-unit : {Γ : Context} {U A B : ℕ} → Of tables unitType U A B → Typed Γ (unit U) U
 
     pub data TypedAll : Context → Terms → List ℕ → Type 0 where
       t-done : {Γ : Context} → TypedAll Γ done []

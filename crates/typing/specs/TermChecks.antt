@@ -17,10 +17,10 @@ abbrev pub fieldFits : Bool → ℕ → ℕ → Bool
 fieldFits true bound x = ltb x bound
 fieldFits false bound x = eqb x 0
 
--- 6: a kind up to 10; a number or type that the kind does not use is zero, and one that it does is known; a variable's number is left to 8
+-- 6: a kind up to 11; a number or type that the kind does not use is zero, and one that it does is known; a variable's number is left to 8
 abbrev pub wellFormedFields : Tables → ℕ → ℕ → ℕ → Bool
 wellFormedFields tables k n A =
-    leb k 10 && (eqb k 0 || fieldFits (usesNumber k) (length (tables .calls)) n) && fieldFits (usesType k) (length (tables .types)) A
+    leb k 11 && (eqb k 0 || fieldFits (usesNumber k) (length (tables .calls)) n) && fieldFits (usesType k) (length (tables .types)) A
 
 abbrev pub wellFormedWord : Tables → ℕ → Bool
 wellFormedWord tables w = wellFormedFields tables (kindOf w) (numberOf w) (typeOf w)
