@@ -1,16 +1,48 @@
--- Runs with units: the unit's run ends with the unit type's only value and no call, and a helper that takes nothing makes its call.
+-- The cases with the unit type, each table by one computation.
 use mathlib.Core.Path.{_≡_, refl}
-use mathlib.Core.List.{[], _∷_}
-use Prim.Native.Nat.{ℕ}
-use Rattle.syntax.specs.Term.{app, lam, unit}
-use Rattle.semantics.specs.Value.{Value, Values, trivial, empty}
-use Rattle.semantics.specs.Run.{ended, lookup, enter, runAll, evaluate, run}
-use Rattle.cases.specs.Table.{c}
+use mathlib.Core.List.{map}
+use Rattle.syntax.specs.Decoding.{leaf, unary, binary, ternary, splitForest, callBuilder, builders, graft, decodeForest, decode}
+use Rattle.syntax.specs.Encoding.{encode, size}
+use Rattle.syntax.specs.Positions.{positions}
+use Rattle.syntax.specs.Substitution.{traverse}
+use Rattle.syntax.specs.Term.{node, partsOf, asVar, asLam, asApp, asBind, asPair, asFst, asSnd, asInl, asInr, asCase}
+use Rattle.syntax.specs.Values.{isValue, isComputation, argumentsIn, operands, uses}
+use Rattle.typing.specs.Infer.{infer}
+use Rattle.typing.specs.Refusals.{elaborate}
+use Rattle.typing.specs.TableChecks.{lengthsFit, wellFormedTypes, distinct, wellFormedCalls, wellFormedInputs}
+use Rattle.typing.specs.TermChecks.{wellFormedWords, scopedAt, scoped}
+use Rattle.reduction.specs.NormalForm.{isNormal}
+use Rattle.reduction.specs.Redex.{contract, firstStep, step}
+use Rattle.reduction.specs.Reduction.{runPhase, thenPhase, reduce}
+use Rattle.reduction.specs.Rules.{nameFirst, letInsertion, letOfLet, letOfCase, apply, first, second, leftCase, rightCase, letValue}
+use Rattle.reduction.specs.MayDrop.{mayDrop}
+use Rattle.reduction.specs.Rules.{drop, fire, rules}
+use Rattle.semantics.specs.Run.{lookup, enter, firstHalf, secondHalf, choose, runAll, evaluate, run}
+use Rattle.outcomes.specs.Buffers.{overwrite, cleared}
+use Rattle.outcomes.specs.Check.{checkOutcome}
+use Rattle.outcomes.specs.IsNormal.{isNormalOutcome}
+use Rattle.outcomes.specs.Normalize.{reducedTo, checkedTo, normalizeWithin, capacityOf, normalizeOutcome}
+use Rattle.outcomes.specs.Marks.{mask, masks, howMany}
+use Rattle.outcomes.specs.FreeInputs.{reads, freeInputsOutcome}
+use Rattle.cases.specs.Table.{computed, expected}
+use Rattle.cases.specs.Further.{replied, awaited}
+use Rattle.cases.specs.Reading.{asked, told}
+use Rattle.cases.specs.Runs.{ran, foreseen}
+use Rattle.cases.specs.Units.{units, unitQuestions, unitReadings, unitRuns}
 
-pub record Runs (answer : ℕ → Values → Value) : Type 0 where
-  pub unit-ends : run answer 1 empty (unit 1) ≡ ended trivial []
-  pub helper-ends : run answer 2 empty (app (lam 2 c) (unit 1)) ≡ ended (answer 0 empty) (record { number = 0; arguments = empty } ∷ [])
+pub record Computed : Type 0 where
+  pub cases : map computed units ≡ map expected units
+  pub replies : map replied unitQuestions ≡ map awaited unitQuestions
+  pub inputs : map asked unitReadings ≡ map told unitReadings
+  pub runs : map ran unitRuns ≡ map foreseen unitRuns
 
-pub runs : (answer : ℕ → Values → Value) → Runs answer
-unfolding run evaluate enter lookup runAll
-runs answer = record { unit-ends = refl; helper-ends = refl }
+-- every definition on the way is opened
+pub computes : Computed
+unfolding leaf unary binary ternary splitForest callBuilder builders graft decodeForest decode encode size positions traverse node
+    partsOf asVar asLam asApp asBind asPair asFst asSnd asInl asInr asCase isValue isComputation argumentsIn operands uses infer
+    elaborate lengthsFit wellFormedTypes distinct wellFormedCalls wellFormedInputs wellFormedWords scopedAt scoped contract
+    firstStep step runPhase thenPhase reduce nameFirst letInsertion letOfLet letOfCase apply first second leftCase rightCase
+    letValue mayDrop drop fire rules isNormal lookup enter firstHalf secondHalf choose runAll evaluate run overwrite cleared
+    reducedTo checkedTo normalizeWithin capacityOf normalizeOutcome checkOutcome isNormalOutcome mask masks howMany reads
+    freeInputsOutcome computed expected replied awaited asked told ran foreseen units unitQuestions unitReadings unitRuns
+computes = record { cases = refl; replies = refl; inputs = refl; runs = refl }

@@ -6,7 +6,7 @@ use mathlib.Core.List.{List, [], _∷_, _++_}
 use lib.ListN.{replicate, take}
 use Rattle.syntax.specs.Words.{pack}
 use Rattle.syntax.specs.Tables.{Tables, over}
-use Rattle.syntax.specs.Term.{Term, var, lam, app, bind, pair, fst, snd, inr, case, unit}
+use Rattle.syntax.specs.Term.{Term, var, lam, bind, pair, fst, snd, inr, case}
 use Rattle.syntax.specs.Encoding.{encode}
 use Rattle.reduction.specs.Reduction.{Counts, zeroCounts}
 use Rattle.outcomes.specs.Check.{checkOutcome}
@@ -40,24 +40,6 @@ pairs inputs t u counts =
       buffers = roomy;
       refusal = 0;
       type = 2;
-      counts = counts;
-      result = encode u;
-    }
-
--- types 0 base, 1 unit, 2 function 1 to 0; the call c; an input of type 0
-abbrev withUnit : Tables
-withUnit = over (pack 0 0 0 ∷ pack 4 0 0 ∷ pack 1 1 0 ∷ []) (0 ∷ []) (0 ∷ [])
-
--- accepted over these tables with this type
-abbrev units : ℕ → Tables → Term → Term → Counts → Case
-units type tables t u counts =
-    record {
-      tables = tables;
-      words = encode t;
-      budget = 1000000;
-      capacity = 8192;
-      refusal = 0;
-      type = type;
       counts = counts;
       result = encode u;
     }
@@ -111,21 +93,6 @@ further =
     ∷ accepts (0 ∷ []) (bind (bind v0 (d v0)) (d v0)) (bind (d v0) (d v0)) (0 ∷ 0 ∷ 0 ∷ 0 ∷ 0 ∷ 0 ∷ 0 ∷ 0 ∷ 1 ∷ 0 ∷ [])
     -- a drop that frees an earlier let: both are dropped
     ∷ accepts (0 ∷ []) (bind c (bind (d v0) v2)) v0 (0 ∷ 0 ∷ 0 ∷ 0 ∷ 0 ∷ 0 ∷ 0 ∷ 0 ∷ 0 ∷ 2 ∷ [])
-    -- the unit type's word with either field set is 2, also where it stands twice; without, a second one is 3
-    ∷ refuses (typing (pack 0 0 0 ∷ pack 4 0 1 ∷ [])) (encode v0) 2
-    ∷ refuses (typing (pack 0 0 0 ∷ pack 4 1 0 ∷ pack 4 1 0 ∷ [])) (encode v0) 2
-    ∷ refuses (typing (pack 0 0 0 ∷ pack 4 0 0 ∷ pack 4 0 0 ∷ [])) (encode v0) 3
-    -- the unit node with its number set and with an unknown type is 6, with a part 7, of a base type and for a base value 9
-    ∷ refuses withUnit (pack 11 1 1 ∷ []) 6
-    ∷ refuses withUnit (pack 11 0 3 ∷ []) 6
-    ∷ refuses withUnit (encode (unit 1) ++ encode v0) 7
-    ∷ refuses withUnit (encode (unit 0)) 9
-    ∷ refuses withUnit (encode (app (lam 2 c) v0)) 9
-    -- accepted, also where the unit type is the first; a value, so a let of it goes and a helper that takes it is applied at once
-    ∷ units 0 (over (pack 4 0 0 ∷ []) [] []) (unit 0) (unit 0) zeroCounts
-    ∷ units 1 withUnit (unit 1) (unit 1) zeroCounts
-    ∷ units 1 withUnit (bind (unit 1) v0) (unit 1) (0 ∷ 0 ∷ 0 ∷ 0 ∷ 0 ∷ 0 ∷ 0 ∷ 0 ∷ 1 ∷ 0 ∷ [])
-    ∷ units 0 withUnit (app (lam 2 c) (unit 1)) c (0 ∷ 0 ∷ 0 ∷ 1 ∷ 0 ∷ 0 ∷ 0 ∷ 0 ∷ 0 ∷ 0 ∷ [])
     ∷ []
 
 -- The type check and the test for normal forms, asked of the same words: the expected refusal, type, and whether it is normal.
@@ -140,7 +107,7 @@ pub record Replies : Type 0 where
   pub check : Checked
   pub isNormal : Tested
 
-abbrev asks : Tables → List ℕ → ℕ → ℕ → Bool → Question
+abbrev pub asks : Tables → List ℕ → ℕ → ℕ → Bool → Question
 asks tables words refusal type normal =
     record { tables = tables; words = words; refusal = refusal; type = type; normal = normal }
 
@@ -159,8 +126,6 @@ questions =
     ∷ asks (tablesWith []) (encode A′) 0 0 true
     ∷ asks (tablesWith []) (encode (bind c (pair 2 v0 v0))) 0 2 true
     ∷ asks (tablesWith (0 ∷ [])) (encode (fst v0)) 9 0 false
-    ∷ asks withUnit (encode (unit 1)) 0 1 true
-    ∷ asks withUnit (encode (app (lam 2 c) (unit 1))) 0 0 false
     -- 8,192 term words are not too many, 8,193 are
     ∷ asks (tablesWith (0 ∷ [])) (replicate 8192 0) 7 0 false
     ∷ asks (tablesWith (0 ∷ [])) (replicate 8193 0) 1 0 false

@@ -4,3 +4,4 @@ pub mod Limits
 pub mod Further
 pub mod Runs
 pub mod Reading
+pub mod Units

@@ -22,7 +22,7 @@ unfoldable pub told : Reading → FreeInputs
 told x = x .answer
 
 -- no input
-abbrev none : List ℕ
+abbrev pub none : List ℕ
 none = 0 ∷ 0 ∷ 0 ∷ 0 ∷ []
 
 -- a term over so many inputs of type 0: its four words of marks, and how many are marked
@@ -42,7 +42,7 @@ refuse inputs words n = record {
 }
 
 -- the marks of input 0 alone, and of inputs 0 and 1
-abbrev first : List ℕ
+abbrev pub first : List ℕ
 first = 2 ^ 63 ∷ 0 ∷ 0 ∷ 0 ∷ []
 
 abbrev two : List ℕ

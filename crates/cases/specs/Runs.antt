@@ -3,7 +3,7 @@
 use Prim.Native.Nat.{ℕ, zero, suc, _+_, _-_}
 use mathlib.Core.List.{List, [], _∷_}
 use Rattle.syntax.specs.Term.{Term, var, call, lam, app, bind, pair, fst, snd, inl, inr, case, done, arg}
-use Rattle.semantics.specs.Value.{Value, Values, num, closure, tuple, left, right, empty, also, Call, Trace}
+use Rattle.semantics.specs.Value.{Value, Values, num, closure, tuple, left, right, trivial, empty, also, Call, Trace}
 use Rattle.semantics.specs.Run.{RunOutcome, ended, run}
 use Rattle.cases.specs.Table.{c, d, v0, v1, A, A′}
 
@@ -20,10 +20,10 @@ values [] = empty
 values (v ∷ vs) = also v (values vs)
 
 -- a call made, by its number and its arguments
-abbrev made : ℕ → List Value → Call
+abbrev pub made : ℕ → List Value → Call
 made k vs = record { number = k; arguments = values vs }
 
-abbrev trial : Term → List Value → (ℕ → Values → Value) → Value → Trace → Trial
+abbrev pub trial : Term → List Value → (ℕ → Values → Value) → Value → Trace → Trial
 trial t inputs answer v trace = record { term = t; inputs = values inputs; answer = answer; value = v; trace = trace }
 
 -- the number that argument i is
@@ -33,6 +33,7 @@ numberOf (closure ρ b) = 0
 numberOf (tuple a b) = 0
 numberOf (left a) = 0
 numberOf (right a) = 0
+numberOf trivial = 0
 
 abbrev argument : ℕ → Values → ℕ
 argument i empty = 0

@@ -19,12 +19,12 @@ use Rattle.typing.specs.TermChecks.{fieldFits, wellFormedWord, wellFormedWords}
 use Rattle.syntax.proofs.Options.{and-left, and-right}
 use Rattle.typing.proofs.Encoding.{encode-decode}
 
-kind-ok : (tables : Tables) (w : ℕ) → T (wellFormedWord tables w) → kindOf w ≤ 10
+kind-ok : (tables : Tables) (w : ℕ) → T (wellFormedWord tables w) → kindOf w ≤ 11
 kind-ok tables w h =
     let number-fits = eqb (kindOf w) 0 || fieldFits (usesNumber (kindOf w)) (length (tables .calls)) (numberOf w) in
     let type-fits = fieldFits (usesType (kindOf w)) (length (tables .types)) (typeOf w) in
-    let known = leb (kindOf w) 10 in
-    leb→le (kindOf w) 10 (and-left known number-fits (and-left (known && number-fits) type-fits h))
+    let known = leb (kindOf w) 11 in
+    leb→le (kindOf w) 11 (and-left known number-fits (and-left (known && number-fits) type-fits h))
 
 kinds-each : (tables : Tables) (ws : List ℕ) → T (every (wellFormedWord tables) ws) → Kinds (tables .calls) ws
 unfolding Kinds

@@ -1,20 +1,23 @@
 -- The type of a node from the types of its parts, whatever its kind.
-use mathlib.Core.Path.{_≡_, refl, ap}
-use mathlib.Core.Bool.{cond}
+use mathlib.Core.Path.{_≡_, refl, sym, _∙_, ap}
+use mathlib.Core.Bool.{Bool, cond}
 use mathlib.Core.List.{[], _∷_}
 use mathlib.Core.Option.{some, none}
 use Prim.Native.Nat.{ℕ, _≤_, _<_}
 use native.Mathlib.Omega.{arith}
+use native.Mathlib.Decide.{ℕ-discrete}
 use lib.Dec.{eqb}
+use borrow.Author.Tests.{ne-eqb}
 use lib.ListN.{getD, getElem?}
 use Rattle.syntax.specs.Maybe.{_>>=_, given}
 use Rattle.syntax.specs.Words.{leftOf, rightOf}
 use Rattle.syntax.specs.Tables.{Tables, arrow, product, sum, components}
-use Rattle.syntax.specs.Term.{Term, var, call, lam, app, bind, pair, fst, snd, inl, inr, case, done, arg, node}
+use Rattle.syntax.specs.Term.{Term, Terms, var, call, lam, app, bind, pair, fst, snd, inl, inr, case, unit, done, arg, node}
 use Rattle.syntax.specs.Kinds.{bindersAt}
 use Rattle.syntax.specs.Shaped.{count, Shaped}
+use Rattle.syntax.proofs.ByKind.{by-kind}
 use Rattle.typing.specs.Infer.{Context, infer}
-use Rattle.checker.specs.Nodes.{binderType, judge, callType, nodeType}
+use Rattle.checker.specs.Nodes.{binderType, judge, nodeType}
 use Rattle.checker.proofs.TypeParts.{parts-are}
 use Rattle.checker.proofs.PartTypes.{inferParts}
 use Rattle.checker.proofs.Clauses.{lam-law, app-law, bind-law, pair-law, one-law, in-law, case-law}
@@ -44,24 +47,33 @@ module _ (tables : Tables) where
       (λ S A B e.
       let (p, q) = parts-are tables sum S A B e in
       (ap (λ (x : ℕ). infer tables l (x ∷ Γ)) p, ap (λ (x : ℕ). infer tables r (x ∷ Γ)) q))
+  infer-node (unit U) Γ s h l = refl
 
-  -- only a variable and a call may have none
+  -- a node that has none: a variable, or else a node by no parts' types
   pub infer-leaf : (t : Term) (Γ : Context) → Shaped (tables .calls) t → count (node t .parts) ≡ 0
       → infer tables t Γ
-      ≡ cond (eqb (node t .kind) 0) (getElem? Γ (node t .number)) (callType tables (node t .number) (0 ∷ 0 ∷ 0 ∷ []))
-  unfolding infer nodeType inferParts count node Shaped
-  infer-leaf (var n) Γ s z = refl
-  infer-leaf (call k done) Γ s z = infer-call tables k done Γ (s .1) (omega arith)
-  infer-leaf (call k (arg t ts)) Γ s z = absurd (omega (arith, z))
-  infer-leaf (lam F b) Γ s z = absurd (omega (arith, z))
-  infer-leaf (app f a) Γ s z = absurd (omega (arith, z))
-  infer-leaf (bind e b) Γ s z = absurd (omega (arith, z))
-  infer-leaf (pair P a b) Γ s z = absurd (omega (arith, z))
-  infer-leaf (fst a) Γ s z = absurd (omega (arith, z))
-  infer-leaf (snd a) Γ s z = absurd (omega (arith, z))
-  infer-leaf (inl S a) Γ s z = absurd (omega (arith, z))
-  infer-leaf (inr S a) Γ s z = absurd (omega (arith, z))
-  infer-leaf (case c l r) Γ s z = absurd (omega (arith, z))
+      ≡ cond (eqb (node t .kind) 0) (getElem? Γ (node t .number))
+      (nodeType tables (node t .kind) (node t .number) (node t .type) (0 ∷ 0 ∷ 0 ∷ []))
+  unfolding infer inferParts count node
+  infer-leaf t Γ s z = by (ℕ-discrete (node t .kind) 0)
+    where
+      Answer : Term → Type 0
+      Answer x = infer tables x Γ ≡ cond (eqb (node x .kind) 0) (getElem? Γ (node x .number))
+          (nodeType tables (node x .kind) (node x .number) (node x .type) (0 ∷ 0 ∷ 0 ∷ []))
+
+      no-parts : (ts : Terms) → count ts ≡ 0 → ts ≡ done
+      no-parts done z = refl
+      no-parts (arg t ts) z = absurd (omega (arith, z))
+
+      by : Dec (node t .kind ≡ 0) → Answer t
+      by (yes e) = by-kind Answer 0 t e λ n. refl
+      by (no e) =
+          let n = node t in
+          infer-node t Γ s e (omega (arith, z))
+          ∙ ap (λ (ts : Terms). inferParts tables (n .kind) (n .type) Γ ts 0 (0 ∷ 0 ∷ 0 ∷ []) >>= nodeType tables (n .kind) (n .number) (n .type))
+          (no-parts (n .parts) z)
+          ∙ sym (ap (λ (b : Bool). cond b (getElem? Γ (n .number)) (nodeType tables (n .kind) (n .number) (n .type) (0 ∷ 0 ∷ 0 ∷ [])))
+          (ne-eqb (n .kind) 0 e))
 
   -- only a call has more than three parts
   pub infer-many : (t : Term) (Γ : Context) → 3 < count (node t .parts) → infer tables t Γ ≡ none
@@ -77,3 +89,4 @@ module _ (tables : Tables) where
   infer-many (inl A a) Γ h = absurd (omega arith)
   infer-many (inr A a) Γ h = absurd (omega arith)
   infer-many (case s l r) Γ h = absurd (omega arith)
+  infer-many (unit A) Γ h = absurd (omega arith)

@@ -115,9 +115,9 @@ module _ {types calls inputs words : List ℕ} where
 
     -- what `begin` answers of the slice that starts with the part
     module _ (r : PartStart) (e : r ≡ startOf (partCount calls (getD (from words at) 0 0))
-        (leafType (over [] calls []) (scope inputs stack depth) (getD (from words at) 0 0))) where
+        (leafType (over types calls []) (scope inputs stack depth) (getD (from words at) 0 0))) where
       answer : r ≡ startOf (partCount calls w) (leafType (over types calls inputs) (scope inputs stack depth) w)
-      unfolding leafType callType
+      unfolding leafType nodeType callType
       answer =
           e ∙ ap (λ (x : ℕ). startOf (partCount calls x) (leafType (over types calls inputs) (scope inputs stack depth) x))
           (first-from words at)

@@ -88,7 +88,7 @@ module _ (types calls inputs words : List ℕ) where
     unfolding leafType
     begin-leaf z =
         let f = found in
-        rw (← f .kind, ← f .number) at (infer-leaf tables (g .part) Γ (f .shaped) (omega (arith, z, f .parts)))
+        rw (← f .kind, ← f .number, ← f .type) at (infer-leaf tables (g .part) Γ (f .shaped) (omega (arith, z, f .parts)))
 
     pub begin-fail : partCount calls w ≡ 0 → leafType tables Γ w ≡ none → infer tables t inputs ≡ none
     begin-fail z e = g .same ∙ ap (climb tables words (g .around)) (begin-leaf z ∙ e) ∙ climb-none tables words (g .around)

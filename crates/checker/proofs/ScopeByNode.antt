@@ -11,7 +11,7 @@ use lib.Seq.{getD-set-same}
 use lib.Dec.{eqb}
 use Rattle.syntax.specs.Maybe.{given}
 use Rattle.syntax.specs.Kinds.{bindersAt}
-use Rattle.syntax.specs.Term.{Term, Terms, var, call, lam, app, bind, pair, fst, snd, inl, inr, case, done, arg, node, asVar}
+use Rattle.syntax.specs.Term.{Term, Terms, var, call, lam, app, bind, pair, fst, snd, inl, inr, case, unit, done, arg, node, asVar}
 use Rattle.syntax.specs.Parts.{partCount}
 use Rattle.syntax.specs.Shaped.{count}
 use Rattle.words.specs.Fronts.{Starts}
@@ -69,6 +69,7 @@ module _ (m : ℕ) where
   scoped-binding (inl A a) = scoped-node m (inl A a) ∙ simp (at-0 a, and-true)
   scoped-binding (inr A a) = scoped-node m (inr A a) ∙ simp (at-0 a, and-true)
   scoped-binding (case s l r) = scoped-node m (case s l r) ∙ simp (at-0 s, at-1 l, at-1 r, and-true)
+  scoped-binding (unit A) = scoped-node m (unit A)
 
 -- the row is in scope if the row ahead is
 abbrev pub Scoping : (p : List ℕ) (m : ℕ) → Terms → Terms → Type 0

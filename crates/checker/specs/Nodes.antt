@@ -8,7 +8,7 @@ use lib.Dec.{leb, eqb}
 use lib.ListN.{getD, getElem?, set, take}
 use Rattle.syntax.specs.Maybe.{_>>=_, given}
 use Rattle.syntax.specs.Words.{leftOf, rightOf, kindOf, numberOf, typeOf}
-use Rattle.syntax.specs.Tables.{Tables, arrow, product, sum, components, signature, arity}
+use Rattle.syntax.specs.Tables.{Tables, arrow, product, sum, unitType, components, signature, arity}
 use Rattle.syntax.specs.Kinds.{usesType, bindersAt}
 use Rattle.typing.specs.Infer.{Context, equal}
 use Rattle.checker.specs.declared.node_type.Components.{Components}
@@ -27,9 +27,9 @@ binderType types k A j F =
     (cond (eqb k 4) F
     (cond (leb j 1) (leftOf (getD types F 0)) (rightOf (getD types F 0))))
 
--- the kind of type that a node is about: function, product or sum
+-- the kind of type that a node is about: function, product, sum or unit
 abbrev pub formOf : ℕ → ℕ
-formOf k = cond (leb k 3) arrow (cond (leb k 7) product sum)
+formOf k = cond (leb k 3) arrow (cond (leb k 7) product (cond (leb k 10) sum unitType))
 
 -- the type that it is about: its own, or its first part's
 abbrev pub subjectOf : ℕ → ℕ → ℕ → ℕ
@@ -45,7 +45,8 @@ judge k A F X Y =
     (cond (eqb k 7) (some Y)
     (cond (eqb k 8) (given (eqb (getD F 0 0) X) A)
     (cond (eqb k 9) (given (eqb (getD F 0 0) Y) A)
-    (given (eqb (getD F 2 0) (getD F 1 0)) (getD F 1 0))))))))
+    (cond (eqb k 11) (some A)
+    (given (eqb (getD F 2 0) (getD F 1 0)) (getD F 1 0)))))))))
 
 -- a call's type: its arguments have the listed types
 unfoldable pub callType : Tables → ℕ → List ℕ → Option ℕ
@@ -60,9 +61,10 @@ nodeType tables k n A F =
     (cond (eqb k 4) (some (getD F 1 0))
     (components tables (formOf k) (subjectOf k A (getD F 0 0)) >>= λ (X, Y). judge k A F X Y))
 
--- the type of a node of word w that has no parts: a variable's in a context, or a call's
+-- the type of a node of word w that has no parts: a variable's in a context, or a node's by no parts' types
 unfoldable pub leafType : Tables → Context → ℕ → Option ℕ
-leafType tables Γ w = cond (eqb (kindOf w) 0) (getElem? Γ (numberOf w)) (callType tables (numberOf w) (0 ∷ 0 ∷ 0 ∷ []))
+leafType tables Γ w =
+    cond (eqb (kindOf w) 0) (getElem? Γ (numberOf w)) (nodeType tables (kindOf w) (numberOf w) (typeOf w) (0 ∷ 0 ∷ 0 ∷ []))
 
 -- the types of a node's parts up to part j, which stand from an index on, with zeros up to three
 abbrev pub typesTo : List ℕ → ℕ → ℕ → List ℕ

@@ -10,7 +10,7 @@ ghost use Rattle.checker.specs.Answers.{scope, inferredOf, startOf, Infe
 ghost use Rattle.checker.specs.Nodes.{leafType, Enters};
 use crate::node_type::Inferred;
 use crate::node_type::binder;
-use crate::node_type::call_type;
+use crate::node_type::node_type;
 use crate::node_type::type_from;
 use words::fields::kind;
 use words::fields::number;
@@ -44,18 +44,25 @@ fn enter(types: &[u64], w: u64, j: usize, first: u64, stack: &mut [u64], depth: 
     depth + binders(kind(w), j)
 }
 
-// the type of a node that has no parts: a variable, or a call with no arguments
-fn leaf(calls: &[u64], inputs: &[u64], stack: &[u64], depth: usize, w: u64) -> Inferred
+// the type of a node that has no parts: a variable, or else a node by no parts' types (a call with no arguments, a unit)
+fn leaf(
+    types: &[u64],
+    calls: &[u64],
+    inputs: &[u64],
+    stack: &[u64],
+    depth: usize,
+    w: u64,
+) -> Inferred
     requires { ⌜ depth ≤ length (now stack) ⌝ }
     ensures { λ r. ⌜
-        r ≡ inferredOf (leafType (over [] (now (calls .entry)) []) (scope (now (inputs .entry)) (now (stack .entry)) depth) w)
+        r ≡ inferredOf
+        (leafType (over (now (types .entry)) (now (calls .entry)) []) (scope (now (inputs .entry)) (now (stack .entry)) depth) w)
         ⌝ }
 {
-    let n = number(w);
     if kind(w) == 0 {
-        return variable(inputs, stack, depth, n);
+        return variable(inputs, stack, depth, number(w));
     }
-    call_type(calls, n, 0, 0, 0)
+    node_type(types, calls, w, 0, 0, 0)
 }
 
 // how a part starts: its type or the lack of one if it has no parts itself, or else a node to be opened
@@ -66,17 +73,25 @@ enum PartStart {
 }
 
 // begins to type a part, which is a slice that starts in the middle of the term's words
-fn begin(calls: &[u64], inputs: &[u64], stack: &[u64], depth: usize, part: &[u64]) -> PartStart
+fn begin(
+    types: &[u64],
+    calls: &[u64],
+    inputs: &[u64],
+    stack: &[u64],
+    depth: usize,
+    part: &[u64],
+) -> PartStart
     requires { ⌜ (depth ≤ length (now stack)) × (1 ≤ length (now part)) ⌝ }
     ensures { λ r. ⌜
         r ≡ startOf (partCount (now (calls .entry)) (getD (now (part .entry)) 0 0))
-        (leafType (over [] (now (calls .entry)) []) (scope (now (inputs .entry)) (now (stack .entry)) depth) (getD (now (part .entry)) 0 0))
+        (leafType (over (now (types .entry)) (now (calls .entry)) []) (scope (now (inputs .entry)) (now (stack .entry)) depth)
+        (getD (now (part .entry)) 0 0))
         ⌝ }
 {
     let w = part[0];
     let n = part_count(calls, w);
     if n == 0 {
-        let r = leaf(calls, inputs, stack, depth, w);
+        let r = leaf(types, calls, inputs, stack, depth, w);
         match r {
             Inferred::Typed(a) => {
                 return PartStart::Has(a);
@@ -150,7 +165,7 @@ pub fn infer(
             }
             continue;
         }
-        let start = begin(calls, inputs, stack, depth, &term[at..]);
+        let start = begin(types, calls, inputs, stack, depth, &term[at..]);
         match start {
             PartStart::Fails => {
                 return Inferred::Untyped;

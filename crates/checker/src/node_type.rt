@@ -99,7 +99,8 @@ fn form(k: u64) -> u64
     match k {
         0..=3 => 1,
         4..=7 => 2,
-        _ => 3,
+        8..=10 => 3,
+        _ => 4,
     }
 }
 
@@ -127,7 +128,7 @@ fn arguments_agree(w: u64, a: u64, b: u64, c: u64) -> bool
 }
 
 // a call's type, from the types of its arguments
-pub fn call_type(calls: &[u64], n: u64, a: u64, b: u64, c: u64) -> Inferred
+fn call_type(calls: &[u64], n: u64, a: u64, b: u64, c: u64) -> Inferred
     ensures { λ r. ⌜ r ≡ inferredOf (callType (over [] (now (calls .entry)) []) n (a ∷ b ∷ c ∷ [])) ⌝ }
 {
     let i = n as usize;
@@ -156,12 +157,13 @@ fn judge(k: u64, own: u64, a: u64, b: u64, c: u64, x: u64, y: u64) -> Inferred
         7 => Inferred::Typed(y),
         8 => given(a == x, own),
         9 => given(a == y, own),
+        11 => Inferred::Typed(own),
         _ => given(c == b, b),
     }
 }
 
 // a node's type from its parts' types, variables apart
-fn node_type(types: &[u64], calls: &[u64], w: u64, a: u64, b: u64, c: u64) -> Inferred
+pub fn node_type(types: &[u64], calls: &[u64], w: u64, a: u64, b: u64, c: u64) -> Inferred
     ensures { λ r. ⌜
         r ≡ inferredOf
         (nodeType (over (now (types .entry)) (now (calls .entry)) []) (kindOf w) (numberOf w) (typeOf w) (a ∷ b ∷ c ∷ []))

@@ -44,10 +44,16 @@ fn type_fits(i: usize, w: u64) -> bool
     if k == 0 {
         return right == 0;
     }
-    if 3 < k {
+    if 4 < k {
         return false;
     }
     let left = number(w) as usize;
+    if k == 4 {
+        if left == 0 {
+            return right == 0;
+        }
+        return false;
+    }
     if left < i {
         return right < i;
     }

@@ -20,7 +20,7 @@ fn word_fits(types: &[u64], calls: &[u64], w: u64) -> bool
     ensures { λ r. ⌜ r ≡ wellFormedWord (over (now (types .entry)) (now (calls .entry)) []) w ⌝ }
 {
     let k = kind(w);
-    if 10 < k {
+    if 11 < k {
         return false;
     }
     let s = shape_of(k);

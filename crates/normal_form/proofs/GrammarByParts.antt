@@ -7,7 +7,7 @@ use mathlib.Core.List.{List}
 use Prim.Native.Nat.{ℕ, suc}
 use lib.Dec.{eqb, leb}
 use Rattle.syntax.specs.Maybe.{isSome}
-use Rattle.syntax.specs.Term.{Term, Terms, var, call, lam, app, bind, pair, fst, snd, inl, inr, case, done, arg, node, asVar}
+use Rattle.syntax.specs.Term.{Term, Terms, var, call, lam, app, bind, pair, fst, snd, inl, inr, case, unit, done, arg, node, asVar}
 use Rattle.syntax.specs.Values.{uses}
 use Rattle.syntax.proofs.Options.{and-last}
 use Rattle.reduction.specs.MayDrop.{mayDrop}
@@ -103,6 +103,7 @@ module _ (calls : List ℕ) where
   value-kind (inl A a) = value-provided (isAValue (class pure a))
   value-kind (inr A a) = value-provided (isAValue (class pure a))
   value-kind (case s l r) = no-value-block (isSome (asVar s) && isInGrammar (class pure l) && isInGrammar (class pure r))
+  value-kind (unit A) = refl
 
   operation-kind : (t : Term) → isAnOperation (class pure t) ≡ (operationKind (node t .kind) && inGrammar pure t)
   unfolding inGrammar class operationKind node
@@ -117,6 +118,7 @@ module _ (calls : List ℕ) where
   operation-kind (inl A a) = no-operation (isAValue (class pure a))
   operation-kind (inr A a) = no-operation (isAValue (class pure a))
   operation-kind (case s l r) = no-operation-block (isSome (asVar s) && isInGrammar (class pure l) && isInGrammar (class pure r))
+  operation-kind (unit A) = refl
 
   -- a part by its role
   variable-part : (t : Term) → isSome (asVar t) ≡ (suits Variable (node t .kind) && inGrammar pure t && true)
@@ -132,6 +134,7 @@ module _ (calls : List ℕ) where
   variable-part (inl A a) = refl
   variable-part (inr A a) = refl
   variable-part (case s l r) = refl
+  variable-part (unit A) = refl
 
   value-part : (t : Term) → isAValue (class pure t) ≡ (suits Value (node t .kind) && inGrammar pure t && true)
   unfolding isNormalValue suits
@@ -171,8 +174,9 @@ module _ (calls : List ℕ) where
   grammar-parts (inl A a) h = absurd (true≢false h)
   grammar-parts (inr A a) h = absurd (true≢false h)
   grammar-parts (case s l r) h = passes _ aBlock refl ∙ case-parts (variable-part s) (inGrammar pure l) (inGrammar pure r)
+  grammar-parts (unit A) h = absurd (true≢false h)
 
-  -- a pair and an injection
+  -- a pair, an injection and a unit
   pub value-parts : (t : Term) → valueKind (node t .kind) ≡ true → (node t .kind ≡ 0 → ⊥) → (node t .kind ≡ 2 → ⊥)
       → isNormalValue calls t ≡ allPass (λ j. isNormalValue calls) 0 (node t .parts)
   unfolding isNormalValue class node allPass valueKind
@@ -188,6 +192,7 @@ module _ (calls : List ℕ) where
   value-parts (inl A a) h z l = value-passes (isNormalValue calls a) ∙ sym (and-true (isNormalValue calls a))
   value-parts (inr A a) h z l = value-passes (isNormalValue calls a) ∙ sym (and-true (isNormalValue calls a))
   value-parts (case s l r) h z l′ = absurd (true≢false (sym h))
+  value-parts (unit A) h z l = refl
 
   -- a function
   pub function-parts : (t : Term) → node t .kind ≡ 2 → isNormalValue calls t ≡ allPass (λ j. inGrammar pure) 0 (node t .parts)

@@ -13,7 +13,7 @@ use borrow.Author.Tests.{eqb-true, eqb-false}
 use Rattle.syntax.specs.Maybe.{given}
 use Rattle.syntax.specs.Words.{kindOf}
 use Rattle.syntax.specs.Substitution.{rename}
-use Rattle.syntax.specs.Term.{Term, var, call, lam, app, bind, pair, fst, snd, inl, inr, case, node, asBind, partsOf}
+use Rattle.syntax.specs.Term.{Term, var, call, lam, app, bind, pair, fst, snd, inl, inr, case, unit, node, asBind, partsOf}
 use Rattle.syntax.specs.Encoding.{encode, size}
 use Rattle.syntax.specs.Shaped.{count, Shaped}
 use Rattle.syntax.specs.Values.{isValue, isComputation, uses}
@@ -98,6 +98,7 @@ flat-mark p (snd a) e = omega arith
 flat-mark p (inl A a) e = omega arith
 flat-mark p (inr A a) e = omega arith
 flat-mark p (case s l r) e = absurd (omega (arith, e))
+flat-mark p (unit A) e = omega arith
 
 -- whether a node is a let that can be dropped, and its mark
 data Judged (calls : List ℕ) (p : ℕ) (t : Term) : Type 0 where
@@ -129,6 +130,7 @@ judge calls p (snd a) = stays refl (omega arith)
 judge calls p (inl A a) = stays refl (omega arith)
 judge calls p (inr A a) = stays refl (omega arith)
 judge calls p (case s l r) = stays refl (omega arith)
+judge calls p (unit A) = stays refl (omega arith)
 
 -- the subterm at an index begins at its word
 subterm-at : {calls words : List ℕ} (t : Term) (s : Shaped calls t) (w : words ≡ encode t) (j : ℕ) (p : Position Term)

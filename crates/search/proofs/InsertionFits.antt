@@ -5,7 +5,7 @@ use mathlib.Core.Bool.{Bool, true, false, _&&_, not}
 use mathlib.Core.Option.{Option, some, none}
 use native.Mathlib.Omega.{arith}
 use Rattle.syntax.specs.Maybe.{isSome}
-use Rattle.syntax.specs.Term.{Term, Terms, var, call, lam, app, bind, pair, fst, snd, inl, inr, case, done, arg, node}
+use Rattle.syntax.specs.Term.{Term, Terms, var, call, lam, app, bind, pair, fst, snd, inl, inr, case, unit, done, arg, node}
 use Rattle.syntax.specs.Shaped.{count}
 use Rattle.syntax.specs.Substitution.{traverse, traverseAll, renaming, weaken}
 use Rattle.syntax.specs.Values.{isValue, argumentsIn, operands}
@@ -50,6 +50,7 @@ inserts-is (snd a) = first-or (isValue a) true none _ refl
 inserts-is (inl A a) = first-or (isValue a) true none _ refl
 inserts-is (inr A a) = first-or (isValue a) true none _ refl
 inserts-is (case s l r) = first-or (isValue s) true none _ refl
+inserts-is (unit A) = refl
 
 pub operands-are-parts : (t : Term) → operandsOf t ≤ count (node t .parts)
 unfolding operandCount count node
@@ -64,6 +65,7 @@ operands-are-parts (snd a) = omega arith
 operands-are-parts (inl A a) = omega arith
 operands-are-parts (inr A a) = omega arith
 operands-are-parts (case s l r) = omega arith
+operands-are-parts (unit A) = omega arith
 
 -- one test behind another that holds
 pub behind : (b x y : Bool) → (x ≡ true → y ≡ true) → (b && x) ≡ true → (b && y) ≡ true

@@ -11,7 +11,7 @@ use lib.ListN.{length, getD, set, length-set}
 use lib.Seq.{getD-set-same, getD-set-other}
 use borrow.Author.Tests.{ne-eqb, le-ltb, eqb-true, eqb-false}
 use Rattle.syntax.specs.Kinds.{bindersAt}
-use Rattle.syntax.specs.Term.{Term, Terms, var, call, lam, app, bind, pair, fst, snd, inl, inr, case, done, arg, node}
+use Rattle.syntax.specs.Term.{Term, Terms, var, call, lam, app, bind, pair, fst, snd, inl, inr, case, unit, done, arg, node}
 use Rattle.syntax.specs.Encoding.{size}
 use Rattle.syntax.specs.PartsUnder.{usesParts}
 use Rattle.syntax.specs.Values.{counts, uses, usesAll}
@@ -38,6 +38,7 @@ mutual
   uses-size (inl A a) n = omega (arith, uses-size a n, size-inl A a)
   uses-size (inr A a) n = omega (arith, uses-size a n, size-inr A a)
   uses-size (case s l r) n = omega (arith, uses-size s n, uses-size l (suc n), uses-size r (suc n), size-case s l r)
+  uses-size (unit A) n = omega arith
 
   uses-sizes : (ts : Terms) (n : ℕ) → usesAll ts n ≤ sizeAll ts
   uses-sizes done n = omega (arith, size-done)

@@ -6,7 +6,7 @@ use mathlib.Core.Bool.{Bool, true, false, cond}
 use mathlib.Core.List.{List}
 use lib.ListN.{getD}
 use Rattle.syntax.specs.Words.{kindOf}
-use Rattle.syntax.specs.Term.{Term, var, call, lam, app, bind, pair, fst, snd, inl, inr, case, node}
+use Rattle.syntax.specs.Term.{Term, var, call, lam, app, bind, pair, fst, snd, inl, inr, case, unit, node}
 use Rattle.words.specs.Fronts.{Holds, Starts, from}
 use Rattle.words.proofs.Traversal.{front-of}
 use Rattle.words.proofs.PartsAt.{first-from, parts-of, part-here}
@@ -31,6 +31,7 @@ other-mark p (snd a) h = refl
 other-mark p (inl A a) h = refl
 other-mark p (inr A a) h = refl
 other-mark p (case s l r) h = refl
+other-mark p (unit A) h = refl
 
 module _ {calls words : List ℕ} where
   -- what a let binds begins at the next word

@@ -6,7 +6,7 @@ use mathlib.Core.List.{List}
 use native.Mathlib.Omega.{arith}
 use lib.ListN.{getD}
 use Rattle.syntax.specs.Words.{kindOf}
-use Rattle.syntax.specs.Term.{Term, Terms, var, call, lam, app, bind, pair, fst, snd, inl, inr, case, done, arg, node}
+use Rattle.syntax.specs.Term.{Term, Terms, var, call, lam, app, bind, pair, fst, snd, inl, inr, case, unit, done, arg, node}
 use Rattle.syntax.specs.Parts.{partCount}
 use Rattle.syntax.specs.Values.{isValue}
 use Rattle.reduction.specs.FitByKinds.{valueKind}
@@ -42,6 +42,7 @@ value-parts (snd a) h k = apart h refl
 value-parts (inl A a) h k = sym (and-true (isValue a))
 value-parts (inr A a) h k = sym (and-true (isValue a))
 value-parts (case s l r) h k = apart h refl
+value-parts (unit A) h k = refl
 
 function-value : (t : Term) → node t .kind ≡ 2 → isValue t ≡ true
 unfolding isValue
@@ -60,6 +61,7 @@ other-kind (snd a) h = refl
 other-kind (inl A a) h = apart refl h
 other-kind (inr A a) h = apart refl h
 other-kind (case s l r) h = refl
+other-kind (unit A) h = apart refl h
 
 values-joined : (ts us : Terms) → allValues (joined ts us) ≡ (allValues ts && allValues us)
 unfolding allValues joined

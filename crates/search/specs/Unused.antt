@@ -7,7 +7,7 @@ use mathlib.Core.List.{List, [], _∷_}
 use lib.Dec.{eqb}
 use lib.ListN.{length, getD}
 use Rattle.syntax.specs.Words.{kindOf}
-use Rattle.syntax.specs.Term.{Term, var, call, lam, app, bind, pair, fst, snd, inl, inr, case}
+use Rattle.syntax.specs.Term.{Term, var, call, lam, app, bind, pair, fst, snd, inl, inr, case, unit}
 use Rattle.syntax.specs.Encoding.{encode, size}
 use Rattle.syntax.specs.Shaped.{Shaped}
 use Rattle.syntax.specs.Values.{isValue, usesAll}
@@ -38,6 +38,7 @@ openMark p (snd a) = 65536
 openMark p (inl A a) = 65536
 openMark p (inr A a) = 65536
 openMark p (case s l r) = 65536
+openMark p (unit A) = 65536
 
 -- and after all uses, for a node at the place p
 unfoldable pub finalMark : ℕ → Term → ℕ

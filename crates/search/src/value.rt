@@ -17,8 +17,8 @@ pub struct ValueEnd {
     pub value: bool,
 }
 
-// the kinds of values: the variable, and those that carry their type (function, pair, left and right injection); the shape of a kind tells
-// which do
+// the kinds of values: the variable, and those that carry their type (function, pair, left and right injection, unit); the shape of a
+// kind tells which do
 pub fn value_kind(k: u64) -> bool
     ensures { λ r. ⌜ r ≡ valueKind k ⌝ }
 {

@@ -9,7 +9,7 @@ use mathlib.Core.Bool.{Bool, _&&_}
 use mathlib.Core.List.{List, _∷_, _++_, append-nil}
 use lib.Dec.{eqb}
 use borrow.Author.Tests.{ne-eqb}
-use Rattle.syntax.specs.Term.{Term, var, call, lam, app, bind, pair, fst, snd, inl, inr, case, node}
+use Rattle.syntax.specs.Term.{Term, var, call, lam, app, bind, pair, fst, snd, inl, inr, case, unit, node}
 use Rattle.syntax.specs.Encoding.{wordOf, encode, encodeAll}
 use Rattle.syntax.specs.Shaped.{count}
 use Rattle.syntax.specs.Substitution.{Kit, under, traverse, traverseAll}
@@ -32,6 +32,7 @@ node-parts (snd a) = refl
 node-parts (inl A a) = refl
 node-parts (inr A a) = refl
 node-parts (case s l r) = refl
+node-parts (unit A) = refl
 
 pub outer-many : (t : Term) → outerCount (node t .kind) (count (node t .parts)) ≡ count (outer t)
 unfolding node outer outerCount count
@@ -46,6 +47,7 @@ outer-many (snd a) = refl
 outer-many (inl A a) = refl
 outer-many (inr A a) = refl
 outer-many (case s l r) = refl
+outer-many (unit A) = refl
 
 -- uses
 pub uses-binding : (t : Term) (n : ℕ) → node t .kind ≢ 0 → uses t n ≡ usesAll (outer t) n + usesAll (inner t) (suc n)
@@ -61,6 +63,7 @@ uses-binding (snd a) n h = omega arith
 uses-binding (inl A a) n h = omega arith
 uses-binding (inr A a) n h = omega arith
 uses-binding (case s l r) n h = omega arith
+uses-binding (unit A) n h = refl
 
 -- with the node's own use, if it is the variable
 pub uses-of-node : (t : Term) (n : ℕ)
@@ -92,3 +95,4 @@ module _ {X : Type 0} (kit : Kit X) (f : ℕ → X) where
   encode-binding (inl A a) h = rw (append-nil (encode (traverse kit a f)), append-nil (encode (traverse kit a f)))
   encode-binding (inr A a) h = rw (append-nil (encode (traverse kit a f)), append-nil (encode (traverse kit a f)))
   encode-binding (case s l r) h = rw (append-nil (encode (traverse kit s f)), append-nil (encode (traverse kit r (under kit f))))
+  encode-binding (unit A) h = refl

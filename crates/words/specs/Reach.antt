@@ -2,7 +2,7 @@
 use Prim.Native.Nat.{ℕ}
 use mathlib.Core.Bool.{cond}
 use Rattle.syntax.specs.Kinds.{bindsOf, freeOf}
-use Rattle.syntax.specs.Term.{Term, Terms, var, call, lam, app, bind, pair, fst, snd, inl, inr, case, done, arg}
+use Rattle.syntax.specs.Term.{Term, Terms, var, call, lam, app, bind, pair, fst, snd, inl, inr, case, unit, done, arg}
 
 unfoldable pub outer : Term → Terms
 outer (var n) = done
@@ -16,6 +16,7 @@ outer (snd a) = arg a done
 outer (inl A a) = arg a done
 outer (inr A a) = arg a done
 outer (case s l r) = arg s done
+outer (unit A) = done
 
 unfoldable pub inner : Term → Terms
 inner (var n) = done
@@ -29,6 +30,7 @@ inner (snd a) = done
 inner (inl A a) = done
 inner (inr A a) = done
 inner (case s l r) = arg l (arg r done)
+inner (unit A) = done
 
 -- how many of the n parts of a node of kind k are outer: the first ones
 unfoldable pub outerCount : ℕ → ℕ → ℕ

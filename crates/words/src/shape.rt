@@ -45,6 +45,7 @@ pub fn shape_of(k: u64) -> Shape
         6..=7 => shaped(1, false, false, false, 0),
         8..=9 => shaped(1, false, true, false, 0),
         10 => shaped(3, false, false, true, 1),
+        11 => shaped(0, false, true, false, 0),
         _ => shaped(0, false, false, false, 0),
     }
 }
@@ -122,7 +123,7 @@ pub const FUNCTION: usize = 4;
 pub fn value_parts() -> [u8; 16]
     ensures { λ r. ⌜ Tabled valueParts r ⌝ }
 {
-    [0, 5, 4, 5, 5, 2, 5, 5, 1, 1, 5, 5, 5, 5, 5, 5]
+    [0, 5, 4, 5, 5, 2, 5, 5, 1, 1, 5, 0, 5, 5, 5, 5]
 }
 
 // how many arguments a call takes, 0 past the table

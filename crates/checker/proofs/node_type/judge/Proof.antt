@@ -39,10 +39,10 @@ module _ (s : tie.Start) where
   pair-no e = simp (ne-eqb a x e)
 
   other : (k : ℕ) (r : Inferred) → (k ≡ 2 → ⊥) → (k ≡ 3 → ⊥) → (k ≡ 5 → ⊥) → (k ≡ 6 → ⊥) → (k ≡ 7 → ⊥) → (k ≡ 8 → ⊥) → (k ≡ 9 → ⊥)
-      → r ≡ inferredOf (given (eqb (s .args .c) b) b) → r ≡ answer k
+      → (k ≡ 11 → ⊥) → r ≡ inferredOf (given (eqb (s .args .c) b) b) → r ≡ answer k
   unfolding judge
-  other k r h2 h3 h5 h6 h7 h8 h9 h =
-      h ∙ simp (ne-eqb k 2 h2, ne-eqb k 3 h3, ne-eqb k 5 h5, ne-eqb k 6 h6, ne-eqb k 7 h7, ne-eqb k 8 h8, ne-eqb k 9 h9)
+  other k r h2 h3 h5 h6 h7 h8 h9 h11 h =
+      h ∙ simp (ne-eqb k 2 h2, ne-eqb k 3 h3, ne-eqb k 5 h5, ne-eqb k 6 h6, ne-eqb k 7 h7, ne-eqb k 8 h8, ne-eqb k 9 h9, ne-eqb k 11 h11)
 
 pub judge-spec : {M : Type 1} → statement M
 unfolding judge
@@ -65,7 +65,9 @@ judge-spec =
     (λ c. at (c .before) 7 _ (c .match .keys5) refl)
     (λ c. at (c .before .before) 8 _ (c .before .match .keys6) (c .given4 .ensures))
     (λ c. at (c .before .before) 9 _ (c .before .match .keys7) (c .given5 .ensures))
+    (λ c. at (c .before) 11 _ (c .match .keys8) refl)
     (λ c.
     let n = c .before .match .rest in
-    let m = n .0 .0 .0 in
-    other (c .before .before) _ _ (m .0 .0 .0 .1) (m .0 .0 .1) (m .0 .1) (m .1) (n .0 .0 .1) (n .0 .1) (n .1) (c .given6 .ensures)))
+    let m = n .0 .0 .0 .0 in
+    other (c .before .before) _ _ (m .0 .0 .0 .1) (m .0 .0 .1) (m .0 .1) (m .1) (n .0 .0 .0 .1) (n .0 .0 .1) (n .0 .1) (n .1)
+    (c .given6 .ensures)))

@@ -18,22 +18,22 @@ module _ (tables : Tables) (w k : ℕ) (e : k ≡ kindOf w) where
   of-kind : (b : Bool) → b ≡ wellFormedFields tables k (numberOf w) (typeOf w) → b ≡ wellFormedWord tables w
   of-kind b h = h ∙ ap (λ (x : ℕ). wellFormedFields tables x (numberOf w) (typeOf w)) e
 
-  past : 10 < k → false ≡ wellFormedWord tables w
-  past h = of-kind _ (simp (lt-leb k 10 h))
+  past : 11 < k → false ≡ wellFormedWord tables w
+  past h = of-kind _ (simp (lt-leb k 11 h))
 
   -- the type field's test f, by whether the kind uses it
   record Typed (f : Bool) : Type 0 where
-    known : k ≤ 10
+    known : k ≤ 11
     told : f ≡ fieldFits (usesType k) (length (tables .types)) (typeOf w)
 
-  typed : (u f : Bool) (A : ℕ) → k ≤ 10 → u ≡ usesType k → A ≡ typeOf w → f ≡ fieldFits u (length (tables .types)) A → Typed f
+  typed : (u f : Bool) (A : ℕ) → k ≤ 11 → u ≡ usesType k → A ≡ typeOf w → f ≡ fieldFits u (length (tables .types)) A → Typed f
   typed u f A h ue Ae fe = record {
     known = h;
     told = fe ∙ ap (λ (x : Bool). fieldFits x (length (tables .types)) A) ue ∙ ap (fieldFits (usesType k) (length (tables .types))) Ae;
   }
 
   variable : {f : Bool} → Typed f → k ≡ 0 → f ≡ wellFormedWord tables w
-  variable t z = of-kind _ (t .told ∙ simp (le-leb k 10 (t .known), eq-eqb k 0 z))
+  variable t z = of-kind _ (t .told ∙ simp (le-leb k 11 (t .known), eq-eqb k 0 z))
 
   module _ {f : Bool} (t : Typed f) (z : k ≡ 0 → ⊥) (u g : Bool) (n : ℕ) (ue : u ≡ usesNumber k) (ne : n ≡ numberOf w)
       (ge : g ≡ fieldFits u (length (tables .calls)) n) where
@@ -41,10 +41,10 @@ module _ (tables : Tables) (w k : ℕ) (e : k ≡ kindOf w) where
     numbered = ge ∙ ap (λ (x : Bool). fieldFits x (length (tables .calls)) n) ue ∙ ap (fieldFits (usesNumber k) (length (tables .calls))) ne
 
     fits : g ≡ true → f ≡ wellFormedWord tables w
-    fits p = of-kind _ (t .told ∙ simp (le-leb k 10 (t .known), ne-eqb k 0 z, sym numbered ∙ p))
+    fits p = of-kind _ (t .told ∙ simp (le-leb k 11 (t .known), ne-eqb k 0 z, sym numbered ∙ p))
 
     fails : g ≡ false → false ≡ wellFormedWord tables w
-    fails p = of-kind _ (simp (le-leb k 10 (t .known), ne-eqb k 0 z, sym numbered ∙ p))
+    fails p = of-kind _ (simp (le-leb k 11 (t .known), ne-eqb k 0 z, sym numbered ∙ p))
 
 -- the places: the kind is known, and then whether the type field fits
 abbrev Kinded : Type 0

@@ -1,5 +1,6 @@
 -- Each arm of the match is the definition at its kinds.
 use mathlib.Core.Path.{_≡_, refl, sym, _∙_, ap, subst}
+use mathlib.Core.Logic.{_≢_}
 use mathlib.Core.Bool.{Bool, true, false}
 use Prim.Native.Nat.{ℕ, zero, suc, _≤_, _<_}
 use native.Mathlib.Omega.{arith}
@@ -36,19 +37,11 @@ either j k s h g l u = go (eqb k j) refl
     go true e = h (eqb-true k j e)
     go false e = g (omega (arith, eqb-false k j e))
 
-six : (k : ℕ) → 6 ≤ suc (suc (suc (suc (suc (suc k)))))
-six k = omega arith
+-- a kind from j on that is not j
+on : (j k : ℕ) → j ≤ k → k ≢ j → suc j ≤ k
+on j k l d = omega (arith, l, d)
 
-from-6 : (k : ℕ) → 2 ≤ k → (k ≡ 2 → ⊥) → (k ≡ 3 → ⊥) → (k ≡ 4 → ⊥) → (k ≡ 5 → ⊥) → 6 ≤ k
-from-6 zero l a b c d = absurd (omega arith)
-from-6 (suc zero) l a b c d = absurd (omega arith)
-from-6 (suc (suc zero)) l a b c d = absurd (a refl)
-from-6 (suc (suc (suc zero))) l a b c d = absurd (b refl)
-from-6 (suc (suc (suc (suc zero)))) l a b c d = absurd (c refl)
-from-6 (suc (suc (suc (suc (suc zero))))) l a b c d = absurd (d refl)
-from-6 (suc (suc (suc (suc (suc (suc k)))))) l a b c d = six k
-
-past : (k : ℕ) (s : Shape) → 10 < k → s ≡ record { parts = 0; number = false; ty = false; binds = false; free = 0 } → Shaping k s
+past : (k : ℕ) (s : Shape) → 11 < k → s ≡ record { parts = 0; number = false; ty = false; binds = false; free = 0 } → Shaping k s
 past k s h e = record {
   parts =
       ap (λ (x : Shape). x .parts) e
@@ -58,15 +51,17 @@ past k s h e = record {
         lt-leb k 2 (omega arith),
         lt-leb k 5 (omega arith),
         lt-leb k 9 (omega arith),
-        lt-leb k 10 h,
+        lt-leb k 10 (omega arith),
       );
   number = ap (λ (x : Shape). x .number) e ∙ simp (lt-leb k 1 (omega arith));
-  ty = ap (λ (x : Shape). x .ty) e ∙ simp (other 2 (omega arith), other 5 (omega arith), other 8 (omega arith), other 9 (omega arith));
+  ty =
+      ap (λ (x : Shape). x .ty) e
+      ∙ simp (other 2 (omega arith), other 5 (omega arith), other 8 (omega arith), other 9 (omega arith), other 11 (omega arith));
   binds = ap (λ (x : Shape). x .binds) e ∙ simp (other 2 (omega arith), other 4 (omega arith), other 10 (omega arith));
   free = ap (λ (x : Shape). x .free) e ∙ simp (other 4 (omega arith), other 10 (omega arith));
 }
   where
-    other : (j : ℕ) → j ≤ 10 → eqb k j ≡ false
+    other : (j : ℕ) → j ≤ 11 → eqb k j ≡ false
     other j l = ne-eqb k j (λ d. omega (arith, h, l, d))
 
 pub shape-of-spec : {M : Type 1} → statement M
@@ -82,16 +77,20 @@ shape-of-spec =
     (λ c κs. search needs)
     (λ c κs. search needs)
     (λ c κs. search needs)
+    (λ c κs. search needs)
     (λ c. exact 2 _ (c .shaped .ensures) (c .before .match .keys1))
     (λ c. exact 3 _ (c .shaped2 .ensures) (c .before .match .keys2))
     (λ c. exact 4 _ (c .shaped3 .ensures) (c .before .match .keys3))
     (λ c. exact 5 _ (c .shaped4 .ensures) (c .before .match .keys4))
     (λ c. exact 10 _ (c .shaped5 .ensures) (c .before .match .keys5))
-    (λ c. either 0 _ _ (exact 0 _ (c .shaped6 .ensures)) (exact 1 _ (c .shaped6 .ensures)) (omega arith) (c .before .if1 .taken))
+    (λ c. exact 11 _ (c .shaped6 .ensures) (c .before .match .keys6))
+    (λ c. either 0 _ _ (exact 0 _ (c .shaped7 .ensures)) (exact 1 _ (c .shaped7 .ensures)) (omega arith) (c .before .if1 .taken))
     (λ c.
-    let n = c .before .before .before .match .rest in
-    either 6 _ _ (exact 6 _ (c .shaped7 .ensures)) (exact 7 _ (c .shaped7 .ensures))
-    (from-6 _ (c .before .before .if1 .left) (n .0 .0 .0 .0 .1) (n .0 .0 .0 .1) (n .0 .0 .1) (n .0 .1)) (c .before .if2 .taken))
-    (λ c. either 8 _ _ (exact 8 _ (c .shaped8 .ensures)) (exact 9 _ (c .shaped8 .ensures)) (c .before .before .if2 .left)
+    let n = c .before .before .before .match .rest .0 .0 in
+    either 6 _ _ (exact 6 _ (c .shaped8 .ensures)) (exact 7 _ (c .shaped8 .ensures))
+    (on 5 _ (on 4 _ (on 3 _ (on 2 _ (c .before .before .if1 .left) (n .0 .0 .0 .1)) (n .0 .0 .1)) (n .0 .1)) (n .1)) (c .before .if2 .taken))
+    (λ c. either 8 _ _ (exact 8 _ (c .shaped9 .ensures)) (exact 9 _ (c .shaped9 .ensures)) (c .before .before .if2 .left)
     (c .before .if3 .taken))
-    (λ c. past _ _ (omega (arith, c .before .before .before .before .match .rest .1)) (c .shaped9 .ensures)))
+    (λ c.
+    let n = c .before .before .before .before .match .rest in
+    past _ _ (on 11 _ (on 10 _ (c .before .if3 .left) (n .0 .1)) (n .1)) (c .shaped10 .ensures)))
