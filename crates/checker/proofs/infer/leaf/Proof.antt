@@ -4,6 +4,7 @@ use mathlib.Core.Bool.{Bool, cond}
 use mathlib.Core.List.{[], _∷_}
 use Prim.Native.Nat.{ℕ}
 use lib.ListN.{getElem?}
+use native.Mathlib.Omega.{arith}
 use borrow.Author.Needs.{needs}
 use borrow.Author.Tests.{eq-eqb, ne-eqb}
 use Rattle.syntax.specs.Words.{kindOf, numberOf, typeOf}
@@ -37,6 +38,7 @@ leaf-spec =
     (λ c κs. search needs)
     (λ c.
     let k : tie.After-kind = search in
-    of-variable _ _ _ _ (k .kind .ensures) _ (c .before .before .if1 .taken) _ (c .before .number .ensures) (c .variable .ensures))
+    of-variable _ _ _ _ (k .kind .ensures) _ (omega (arith, c .before .before .if1 .taken)) _ (c .before .number .ensures)
+    (c .variable .ensures))
     (λ c κs. search needs)
     (λ c. let k : tie.After-kind = search in of-node _ _ _ _ (k .kind .ensures) _ (c .before .if1 .left) (c .node-type .ensures)))

@@ -4,6 +4,7 @@ use mathlib.Core.List.{List, []}
 use mathlib.Core.Option.{Option, some}
 use Prim.Native.Nat.{ℕ, _≤_, _<_}
 use lib.ListN.{length, getD, getElem?}
+use native.Mathlib.Omega.{arith}
 use borrow.Author.Needs.{needs}
 use borrow.Author.Tests.{eq-eqb, ne-eqb}
 use Rattle.syntax.specs.Words.{kindOf, numberOf, typeOf, leftOf, rightOf}
@@ -53,8 +54,8 @@ parts-of-type-spec =
     let s : tie.Start = search in
     let k : tie.After-kind = search in
     let d : tie.Then1 = search in
-    of-kind (s .args .types .now) (s .args .wanted) (s .args .a) (d .if1 .taken) _ (k .kind .ensures) _ _ (c .before .before .if2 .taken)
-    (c .before .number .ensures) (c .ty .ensures))
+    of-kind (s .args .types .now) (s .args .wanted) (s .args .a) (d .if1 .taken) _ (k .kind .ensures) _ _
+    (omega (arith, c .before .before .if2 .taken)) (c .before .number .ensures) (c .ty .ensures))
     (λ c.
     let s : tie.Start = search in
     let d : tie.Then1 = search in

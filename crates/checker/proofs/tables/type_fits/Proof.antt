@@ -58,12 +58,13 @@ type-fits-spec =
     (λ c κs. search needs)
     (λ c κs. search needs)
     (λ c. let f : Right = search in base _ (word f) _ _ (f .before .kind .ensures) (f .ty .ensures) (c .if1 .taken))
-    (λ c. let f : Right = search in unknown _ (word f) _ _ (f .before .kind .ensures) (f .ty .ensures) (c .if2 .taken))
+    (λ c. let f : Right = search in unknown _ (word f) _ _ (f .before .kind .ensures) (f .ty .ensures) (omega (arith, c .if2 .taken)))
     (λ c κs. search needs)
     (λ c.
     let f : Right = search in
     let n : Left = search in
-    unit _ (word f) _ _ (f .before .kind .ensures) (f .ty .ensures) _ (n .number .ensures) (c .before .if3 .taken) (c .if4 .taken))
+    unit _ (word f) _ _ (f .before .kind .ensures) (f .ty .ensures) _ (n .number .ensures) (c .before .if3 .taken)
+    (omega (arith, c .if4 .taken)))
     (λ c.
     let f : Right = search in
     let n : Left = search in

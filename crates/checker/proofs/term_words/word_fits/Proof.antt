@@ -5,6 +5,7 @@ use mathlib.Core.Bool.{Bool, true, false}
 use mathlib.Core.List.{[]}
 use Prim.Native.Nat.{ℕ, _≤_, _<_}
 use lib.ListN.{length}
+use native.Mathlib.Omega.{arith}
 use borrow.Author.Needs.{needs}
 use borrow.Author.Tests.{le-leb, lt-leb, eq-eqb, ne-eqb}
 use Rattle.syntax.specs.Words.{kindOf, numberOf, typeOf}
@@ -70,7 +71,7 @@ typing c =
     let k = kinded c in
     let e : tie.Else1 = search in
     let s : tie.After-shape-of = search in
-    typed (tables k) (word k) _ (k .kind .ensures) _ _ _ (e .if1 .left) (s .shape-of .ensures .ty) (c .before .ty .ensures)
+    typed (tables k) (word k) _ (k .kind .ensures) _ _ _ (omega (arith, e .if1 .left)) (s .shape-of .ensures .ty) (c .before .ty .ensures)
     (c .field-fits .ensures)
 
 pub word-fits-spec : {M : Type 1} → statement M
@@ -78,7 +79,7 @@ word-fits-spec =
     tie.close
     (tie.spec
     (λ c κs. search needs)
-    (λ c. let k : Kinded = search in past (tables k) (word k) _ (k .kind .ensures) (c .if1 .taken))
+    (λ c. let k : Kinded = search in past (tables k) (word k) _ (k .kind .ensures) (omega (arith, c .if1 .taken)))
     (λ c κs. search needs)
     (λ c κs. search needs)
     (λ c κs. search needs)
