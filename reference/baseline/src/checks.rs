@@ -46,6 +46,7 @@ fn type_fits(word: u64, index: usize) -> bool {
     match kind {
         BASE => right == 0,
         FUNCTION_TYPE | PRODUCT | SUM => left < index as u64 && right < index as u64,
+        UNIT_TYPE => left == 0 && right == 0,
         _ => false,
     }
 }
@@ -74,7 +75,7 @@ fn term_word_fits(word: u64, type_count: usize, call_count: usize) -> bool {
     match kind {
         VARIABLE => type_number == 0,
         CALL => number < call_count as u64 && type_number == 0,
-        FUNCTION | PAIR | LEFT | RIGHT => number == 0 && type_number < type_count as u64,
+        FUNCTION | PAIR | LEFT | RIGHT | UNIT => number == 0 && type_number < type_count as u64,
         APPLICATION | LET | FIRST | SECOND | CASE => number == 0 && type_number == 0,
         _ => false,
     }

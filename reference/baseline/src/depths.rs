@@ -19,7 +19,8 @@ const fn parts(count: u8, binders: [u8; 3]) -> Parts {
     Parts { count, binders }
 }
 
-/// The parts by kind; a call's count is in its signature, and the kinds over 10 do not occur.
+/// The parts by kind, none unless said; a call's count is in its signature, and the kinds over 11 do
+/// not occur.
 const PARTS: [Parts; 16] = {
     let mut table = [parts(0, [0, 0, 0]); 16];
     table[FUNCTION as usize] = parts(1, [1, 0, 0]);

@@ -19,7 +19,7 @@ pub fn number(word: u64) -> usize {
     (word >> 30 & NUMBER_MASK) as usize
 }
 
-/// The type of a function, pair or injection.
+/// The type of a function, pair, injection or unit.
 pub fn type_number(word: u64) -> usize {
     (word & NUMBER_MASK) as usize
 }
@@ -55,21 +55,16 @@ pub fn value_end(words: &[u64], start: usize, calls: &[u64]) -> Option<usize> {
     let mut at = start;
     let mut open = 1;
     while open > 0 {
-        match kind(words[at]) {
-            VARIABLE => {
-                open -= 1;
-                at += 1;
-            }
-            FUNCTION => {
-                open -= 1;
-                at = part_end(words, at, calls);
-            }
-            PAIR => {
-                open += 1;
-                at += 1;
-            }
-            LEFT | RIGHT => at += 1,
-            _ => return None,
+        let word = words[at];
+        if !is_value_kind(word) {
+            return None;
+        }
+        if kind(word) == FUNCTION {
+            open -= 1;
+            at = part_end(words, at, calls);
+        } else {
+            open = open + part_count(word, calls) - 1;
+            at += 1;
         }
     }
     Some(at)
@@ -77,5 +72,5 @@ pub fn value_end(words: &[u64], start: usize, calls: &[u64]) -> Option<usize> {
 
 /// Whether a part that starts with this word is a value, if each operand in it is one.
 pub fn is_value_kind(word: u64) -> bool {
-    matches!(kind(word), VARIABLE | FUNCTION | PAIR | LEFT | RIGHT)
+    matches!(kind(word), VARIABLE | FUNCTION | PAIR | LEFT | RIGHT | UNIT)
 }

@@ -65,6 +65,10 @@ impl Typing<'_> {
                 let (domain, _) = self.parts(type_number(word), FUNCTION_TYPE)?;
                 self.scope.push(domain);
             }
+            UNIT => {
+                self.parts(type_number(word), UNIT_TYPE)?;
+                return Some(Progress::Typed(type_number(word)));
+            }
             _ => {}
         }
         self.open.push(Open {
@@ -152,7 +156,7 @@ impl Typing<'_> {
         }
     }
 
-    /// Left and right part of a type of this kind.
+    /// Left and right field of a type of this kind.
     fn parts(&self, number: usize, kind: u64) -> Option<(usize, usize)> {
         let (actual, left, right) = unpack_type(self.types[number]);
         (actual == kind).then_some((left as usize, right as usize))

@@ -61,6 +61,7 @@ impl Usage {
                         self.pending.push(scope);
                     }
                 }
+                UNIT => {}
                 FUNCTION => self.pending.push(inside),
                 APPLICATION | PAIR => self.pending.extend([scope, scope]),
                 LET => self.pending.extend([inside, scope]),

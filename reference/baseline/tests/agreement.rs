@@ -4,7 +4,7 @@ use oracle::api::{self, Answer, Normalize};
 use oracle::listing;
 use tools::generate::boundaries::*;
 use tools::generate::bundles::BUNDLE_DAMAGES;
-use tools::generate::damage::{apply_damages, DAMAGES};
+use tools::generate::damage::{apply_damages, damages};
 use tools::generate::deep::*;
 use tools::generate::each::each_random_sample;
 use tools::generate::ill_typed::broken_samples;
@@ -74,7 +74,7 @@ fn budgets_and_capacities_at_their_edge() {
 #[test]
 fn damaged_tables() {
     each_random_sample(23, 4000, 40, |random, mut sample| {
-        let damage = random.pick(DAMAGES);
+        let damage = *random.pick(&damages());
         let refusal = apply_damages(random, &mut sample, &[damage]);
         let limits = Limits::with_capacity(random, 100, 100);
         assert_eq!(agree(&sample, limits, damage.name).refusal, refusal);
@@ -173,7 +173,7 @@ fn shapes_take_the_steps_they_are_named_for() {
 fn listings() {
     each_random_sample(24, 1000, 60, |random, mut sample| {
         if random.chance(30) {
-            let damage = random.pick(DAMAGES);
+            let damage = *random.pick(&damages());
             if damage.is_small {
                 apply_damages(random, &mut sample, &[damage]);
             }

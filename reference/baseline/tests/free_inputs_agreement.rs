@@ -2,7 +2,7 @@
 
 use oracle::free_inputs::{free_inputs, FreeInputs};
 use tools::generate::boundaries::*;
-use tools::generate::damage::{apply_damages, flip_a_bit, DAMAGES};
+use tools::generate::damage::{apply_damages, damages, flip_a_bit};
 use tools::generate::deep::{moderate_deep_shapes, named_deep_shapes};
 use tools::generate::each::{each_random_sample, each_sample_of_inputs};
 use tools::generate::examples::examples;
@@ -52,7 +52,7 @@ fn readings() {
 #[test]
 fn damaged_tables() {
     each_random_sample(23, 4000, 40, |random, mut sample| {
-        let damage = random.pick(DAMAGES);
+        let damage = *random.pick(&damages());
         let refusal = apply_damages(random, &mut sample, &[damage]);
         assert_eq!(agree(&sample, damage.name).refusal, refusal);
     });

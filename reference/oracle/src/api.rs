@@ -1,9 +1,10 @@
 //! The public calls on lent word slices: check, is_normal and normalize. `free_inputs.rs` has one
 //! more.
 
-use crate::checks::{examine, Refusal, LONGEST_TO_EXAMINE, LONGEST_TO_NORMALIZE};
+use crate::checks::{examine_in, Checked, Refusal, LONGEST_TO_EXAMINE, LONGEST_TO_NORMALIZE};
 use crate::coding::encode;
 use crate::deep_stack::with_deep_stack;
+use crate::dialect::Dialect;
 use crate::normal_form::no_rule_fits;
 use crate::reduction::{walk, Counts};
 
@@ -51,34 +52,12 @@ pub type Normalize =
 
 /// The type check.
 pub fn check(types: &[u64], calls: &[u64], inputs: &[u64], term: &[u64]) -> CheckAnswer {
-    with_deep_stack(
-        || match examine(types, calls, inputs, term, LONGEST_TO_EXAMINE) {
-            Ok(checked) => CheckAnswer {
-                refusal: 0,
-                type_number: checked.type_number,
-            },
-            Err(refusal) => CheckAnswer {
-                refusal: refusal.number(),
-                type_number: 0,
-            },
-        },
-    )
+    Dialect::CURRENT.check(types, calls, inputs, term)
 }
 
 /// The test for normal forms (the paper's flat test).
 pub fn is_normal(types: &[u64], calls: &[u64], inputs: &[u64], term: &[u64]) -> NormalAnswer {
-    with_deep_stack(
-        || match examine(types, calls, inputs, term, LONGEST_TO_EXAMINE) {
-            Ok(checked) => NormalAnswer {
-                refusal: 0,
-                normal: no_rule_fits(&checked.term),
-            },
-            Err(refusal) => NormalAnswer {
-                refusal: refusal.number(),
-                normal: false,
-            },
-        },
-    )
+    Dialect::CURRENT.is_normal(types, calls, inputs, term)
 }
 
 /// Normalizes (the paper's flattens). The normal form fills the front of `output`, which is left
@@ -94,35 +73,85 @@ pub fn normalize(
     first_scratch: &mut [u64],
     second_scratch: &mut [u64],
 ) -> Answer {
-    let capacity = output
-        .len()
-        .min(first_scratch.len())
-        .min(second_scratch.len())
-        .min(LARGEST_CAPACITY);
-    let result =
-        with_deep_stack(|| normal_form_words(types, calls, inputs, term, budget, capacity));
-    first_scratch.fill(0);
-    second_scratch.fill(0);
-    match result {
-        Ok((answer, words)) => {
-            output[..words.len()].copy_from_slice(&words);
-            answer
+    let buffers = [output, first_scratch, second_scratch];
+    Dialect::CURRENT.normalize(types, calls, inputs, term, budget, buffers)
+}
+
+/// The calls in any dialect.
+impl Dialect {
+    pub fn check(self, types: &[u64], calls: &[u64], inputs: &[u64], term: &[u64]) -> CheckAnswer {
+        with_deep_stack(
+            || match examine_in(self, types, calls, inputs, term, LONGEST_TO_EXAMINE) {
+                Ok(checked) => CheckAnswer {
+                    refusal: 0,
+                    type_number: checked.type_number,
+                },
+                Err(refusal) => CheckAnswer {
+                    refusal: refusal.number(),
+                    type_number: 0,
+                },
+            },
+        )
+    }
+
+    pub fn is_normal(
+        self,
+        types: &[u64],
+        calls: &[u64],
+        inputs: &[u64],
+        term: &[u64],
+    ) -> NormalAnswer {
+        with_deep_stack(
+            || match examine_in(self, types, calls, inputs, term, LONGEST_TO_EXAMINE) {
+                Ok(checked) => NormalAnswer {
+                    refusal: 0,
+                    normal: no_rule_fits(&checked.term),
+                },
+                Err(refusal) => NormalAnswer {
+                    refusal: refusal.number(),
+                    normal: false,
+                },
+            },
+        )
+    }
+
+    pub fn normalize(
+        self,
+        types: &[u64],
+        calls: &[u64],
+        inputs: &[u64],
+        term: &[u64],
+        budget: u32,
+        [output, first_scratch, second_scratch]: [&mut [u64]; 3],
+    ) -> Answer {
+        let capacity = output
+            .len()
+            .min(first_scratch.len())
+            .min(second_scratch.len())
+            .min(LARGEST_CAPACITY);
+        let result = with_deep_stack(|| {
+            let checked = examine_in(self, types, calls, inputs, term, LONGEST_TO_NORMALIZE);
+            normal_form_words(checked, budget, capacity)
+        });
+        first_scratch.fill(0);
+        second_scratch.fill(0);
+        match result {
+            Ok((answer, words)) => {
+                output[..words.len()].copy_from_slice(&words);
+                answer
+            }
+            Err(answer) => answer,
         }
-        Err(answer) => answer,
     }
 }
 
 /// The answer with the normal form's words, or the refusing answer.
 fn normal_form_words(
-    types: &[u64],
-    calls: &[u64],
-    inputs: &[u64],
-    term: &[u64],
+    checked: Result<Checked, Refusal>,
     budget: u32,
     capacity: usize,
 ) -> Result<(Answer, Vec<u64>), Answer> {
-    let checked = examine(types, calls, inputs, term, LONGEST_TO_NORMALIZE)
-        .map_err(|refusal| Answer::refused(refusal, [0; 10]))?;
+    let checked = checked.map_err(|refusal| Answer::refused(refusal, [0; 10]))?;
     let (normal_form, counts) = walk(checked.term, budget, capacity)
         .map_err(|stopped| Answer::refused(stopped.refusal, stopped.counts))?;
     let words = encode(&normal_form);

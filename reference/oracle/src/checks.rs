@@ -1,6 +1,7 @@
 //! The checks 1 to 9 in their order: each place over its whole table before the next.
 
 use crate::coding::decode;
+use crate::dialect::Dialect;
 use crate::tables::{decode_calls, decode_inputs, decode_types, Tables};
 use crate::term::Term;
 use crate::typing::node_types;
@@ -47,8 +48,20 @@ pub struct Checked {
     pub type_number: u32,
 }
 
-/// Runs all checks; the first place with a fault gives the refusal.
+/// Runs all checks in the current dialect; the first place with a fault gives the refusal.
 pub fn examine(
+    types: &[u64],
+    calls: &[u64],
+    inputs: &[u64],
+    term: &[u64],
+    longest: usize,
+) -> Result<Checked, Refusal> {
+    examine_in(Dialect::CURRENT, types, calls, inputs, term, longest)
+}
+
+/// The same in any dialect.
+pub fn examine_in(
+    dialect: Dialect,
     types: &[u64],
     calls: &[u64],
     inputs: &[u64],
@@ -61,6 +74,9 @@ pub fn examine(
         && (1..=longest).contains(&term.len());
     require(lengths_fit, Refusal::Lengths)?;
 
+    let mut type_kinds = types.iter().map(|&word| unpack_type(word).0);
+    let kinds_known = type_kinds.all(|kind| dialect.has_type_kind(kind));
+    require(kinds_known, Refusal::TypeTable)?;
     let decoded_types = decode_types(types).ok_or(Refusal::TypeTable)?;
     let distinct: HashSet<&u64> = types.iter().collect();
     require(distinct.len() == types.len(), Refusal::DuplicateType)?;
@@ -71,6 +87,9 @@ pub fn examine(
         inputs: decode_inputs(inputs, types.len()).ok_or(Refusal::InputTable)?,
     };
 
+    let mut term_kinds = term.iter().map(|&word| unpack_term(word).0);
+    let kinds_known = term_kinds.all(|kind| dialect.has_term_kind(kind));
+    require(kinds_known, Refusal::TermWords)?;
     let words_known = term
         .iter()
         .all(|&word| term_word_is_known(word, types.len(), calls.len()));
@@ -98,7 +117,7 @@ fn term_word_is_known(word: u64, type_count: usize, call_count: usize) -> bool {
     match kind {
         VARIABLE => type_number == 0,
         CALL => number < call_count as u64 && type_number == 0,
-        FUNCTION | PAIR | LEFT | RIGHT => number == 0 && type_number < type_count as u64,
+        FUNCTION | PAIR | LEFT | RIGHT | UNIT => number == 0 && type_number < type_count as u64,
         APPLICATION | LET | FIRST | SECOND | CASE => number == 0 && type_number == 0,
         _ => false,
     }

@@ -31,6 +31,7 @@ fn decode_node(words: &mut std::slice::Iter<u64>, signatures: &[Signature]) -> O
         LEFT => Term::Left(type_number, Box::new(part()?)),
         RIGHT => Term::Right(type_number, Box::new(part()?)),
         CASE => Term::Case(Box::new(part()?), Box::new(part()?), Box::new(part()?)),
+        UNIT => Term::Unit(type_number),
         _ => panic!("a word of kind {kind} was refused before"),
     };
     Some(term)
@@ -56,6 +57,7 @@ fn encode_onto(term: &Term, words: &mut Vec<u64>) {
         Term::Left(type_number, _) => pack_term(LEFT, 0, type_number.into()),
         Term::Right(type_number, _) => pack_term(RIGHT, 0, type_number.into()),
         Term::Case(..) => pack_term(CASE, 0, 0),
+        Term::Unit(type_number) => pack_term(UNIT, 0, type_number.into()),
     });
     for (_, part) in term.parts() {
         encode_onto(part, words);

@@ -1,7 +1,8 @@
 //! Which inputs occur free in a term: an input has a mark exactly if some variable names it.
 
-use crate::checks::{examine, Refusal, LONGEST_TO_EXAMINE};
+use crate::checks::{examine_in, Refusal, LONGEST_TO_EXAMINE};
 use crate::deep_stack::with_deep_stack;
+use crate::dialect::Dialect;
 use crate::term::Term;
 use std::collections::BTreeSet;
 
@@ -34,19 +35,32 @@ pub type FindFreeInputs = fn(&[u64], &[u64], &[u64], &[u64]) -> FreeInputs;
 
 /// The inputs that occur free in the term.
 pub fn free_inputs(types: &[u64], calls: &[u64], inputs: &[u64], term: &[u64]) -> FreeInputs {
-    with_deep_stack(
-        || match examine(types, calls, inputs, term, LONGEST_TO_EXAMINE) {
-            Ok(checked) => {
-                let read = inputs_read(&checked.term);
-                FreeInputs {
-                    refusal: 0,
-                    marks: marks(&read),
-                    count: read.len() as u32,
+    Dialect::CURRENT.free_inputs(types, calls, inputs, term)
+}
+
+impl Dialect {
+    /// The same in any dialect.
+    pub fn free_inputs(
+        self,
+        types: &[u64],
+        calls: &[u64],
+        inputs: &[u64],
+        term: &[u64],
+    ) -> FreeInputs {
+        with_deep_stack(
+            || match examine_in(self, types, calls, inputs, term, LONGEST_TO_EXAMINE) {
+                Ok(checked) => {
+                    let read = inputs_read(&checked.term);
+                    FreeInputs {
+                        refusal: 0,
+                        marks: marks(&read),
+                        count: read.len() as u32,
+                    }
                 }
-            }
-            Err(refusal) => FreeInputs::refused(refusal),
-        },
-    )
+                Err(refusal) => FreeInputs::refused(refusal),
+            },
+        )
+    }
 }
 
 /// The inputs that some variable of the term names, whether or not a run gets there.

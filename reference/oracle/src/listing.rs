@@ -1,8 +1,9 @@
 //! The program: a bundle's bytes in, the listing's bytes out.
 
-use crate::api::{normalize, Answer, LARGEST_CAPACITY};
+use crate::api::{Answer, LARGEST_CAPACITY};
 use crate::bundle::read_bundle;
 use crate::checks::Refusal;
+use crate::dialect::Dialect;
 
 /// The budget of the program.
 pub const BUDGET: u32 = 1_000_000;
@@ -43,31 +44,30 @@ fn listing_lines(answer: &Answer, words: &[u64]) -> Option<String> {
 
 /// The program's output for these bytes of standard input.
 pub fn respond(bytes: &[u8]) -> Vec<u8> {
-    let mut words = vec![0; LARGEST_CAPACITY];
-    let mut output = vec![0; LARGEST_CAPACITY];
-    let lengths = read_bundle(bytes, &mut words);
-    let answer = if lengths.refusal == 0 {
-        let (types, rest) = words.split_at(lengths.types);
-        let (calls, rest) = rest.split_at(lengths.calls);
-        let (inputs, rest) = rest.split_at(lengths.inputs);
-        let term = &rest[..lengths.term];
-        let mut first_scratch = vec![0; LARGEST_CAPACITY];
-        let mut second_scratch = vec![0; LARGEST_CAPACITY];
-        normalize(
-            types,
-            calls,
-            inputs,
-            term,
-            BUDGET,
-            &mut output,
-            &mut first_scratch,
-            &mut second_scratch,
-        )
-    } else {
-        Answer::refused(Refusal::Bundle, [0; 10])
-    };
-    let lines = listing_lines(&answer, &output);
-    lines
-        .expect("the output holds the normal form")
-        .into_bytes()
+    Dialect::CURRENT.respond(bytes)
+}
+
+impl Dialect {
+    /// The same in any dialect.
+    pub fn respond(self, bytes: &[u8]) -> Vec<u8> {
+        let mut words = vec![0; LARGEST_CAPACITY];
+        let mut output = vec![0; LARGEST_CAPACITY];
+        let lengths = read_bundle(bytes, &mut words);
+        let answer = if lengths.refusal == 0 {
+            let (types, rest) = words.split_at(lengths.types);
+            let (calls, rest) = rest.split_at(lengths.calls);
+            let (inputs, rest) = rest.split_at(lengths.inputs);
+            let term = &rest[..lengths.term];
+            let mut first_scratch = vec![0; LARGEST_CAPACITY];
+            let mut second_scratch = vec![0; LARGEST_CAPACITY];
+            let buffers = [&mut output[..], &mut first_scratch, &mut second_scratch];
+            self.normalize(types, calls, inputs, term, BUDGET, buffers)
+        } else {
+            Answer::refused(Refusal::Bundle, [0; 10])
+        };
+        let lines = listing_lines(&answer, &output);
+        lines
+            .expect("the output holds the normal form")
+            .into_bytes()
+    }
 }

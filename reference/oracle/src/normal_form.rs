@@ -2,7 +2,7 @@
 
 use crate::rules::{rule_at, PHASES};
 use crate::substitution::occurrences;
-use crate::term::Term;
+use crate::term::{Role, Term};
 
 /// No rule of any phase fits anywhere.
 pub fn no_rule_fits(term: &Term) -> bool {
@@ -25,13 +25,12 @@ pub fn in_grammar(term: &Term) -> bool {
 
 /// A value whose function bodies are normal forms.
 fn is_normal_value(term: &Term) -> bool {
-    match term {
-        Term::Variable(_) => true,
-        Term::Function(_, body) => in_grammar(body),
-        Term::Pair(_, left, right) => is_normal_value(left) && is_normal_value(right),
-        Term::Left(_, operand) | Term::Right(_, operand) => is_normal_value(operand),
-        _ => false,
-    }
+    let mut parts = term.parts();
+    term.has_value_kind()
+        && parts.all(|(role, part)| match role {
+            Role::Scope => in_grammar(part),
+            _ => is_normal_value(part),
+        })
 }
 
 /// An application of a variable, or a call, on normal values; first or second of a variable.

@@ -11,6 +11,8 @@ pub enum Value<'t> {
     Left(Rc<Value<'t>>),
     Right(Rc<Value<'t>>),
     Closure(&'t Term, Environment<'t>),
+    /// The only value of the unit type.
+    Unit,
 }
 
 /// The values in scope, the innermost binder's first, then the inputs'.
@@ -164,6 +166,7 @@ impl<'t, A: Answering> Machine<'_, 't, A> {
                 Value::Right(value) => self.evaluate(right, &scope.with((*value).clone())),
                 other => panic!("a case on {other:?}"),
             },
+            Term::Unit(_) => Ok(Value::Unit),
         }
     }
 }

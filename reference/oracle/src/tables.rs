@@ -1,6 +1,6 @@
 //! The type, call and input tables in decoded form.
 
-use crate::words::{unpack_call, unpack_type, BASE, FUNCTION_TYPE, PRODUCT, SUM};
+use crate::words::*;
 
 /// A type table entry; parts are numbers of earlier entries.
 #[derive(Clone, Copy, Debug, PartialEq, Eq)]
@@ -9,6 +9,7 @@ pub enum Type {
     Function(u32, u32),
     Product(u32, u32),
     Sum(u32, u32),
+    Unit,
 }
 
 impl Type {
@@ -21,14 +22,15 @@ impl Type {
             FUNCTION_TYPE => Some(Type::Function(left, right)),
             PRODUCT => Some(Type::Product(left, right)),
             SUM => Some(Type::Sum(left, right)),
+            UNIT_TYPE if left == 0 && right == 0 => Some(Type::Unit),
             _ => None,
         }
     }
 
-    /// The two parts, unless this is a base type.
+    /// The two parts; base types and the unit type have none.
     pub fn parts(self) -> Option<(u32, u32)> {
         match self {
-            Type::Base(_) => None,
+            Type::Base(_) | Type::Unit => None,
             Type::Function(left, right) | Type::Product(left, right) | Type::Sum(left, right) => {
                 Some((left, right))
             }

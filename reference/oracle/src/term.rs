@@ -1,6 +1,7 @@
 //! Terms (the paper's recipes) as trees; variables are de Bruijn numbers.
 
-/// A node with its parts. Calls carry their number; functions, pairs and injections their type.
+/// A node with its parts. Calls carry their number; functions, pairs, injections and units their
+/// type.
 #[derive(Clone, Debug, PartialEq, Eq)]
 pub enum Term {
     Variable(u32),
@@ -14,6 +15,7 @@ pub enum Term {
     Left(u32, Box<Term>),
     Right(u32, Box<Term>),
     Case(Box<Term>, Box<Term>, Box<Term>),
+    Unit(u32),
 }
 
 /// How a part stands to its node.
@@ -34,14 +36,15 @@ impl Role {
     }
 }
 
-impl Term {
-    /// The parts in order, each with its role.
-    pub fn parts(&self) -> impl Iterator<Item = (Role, &Term)> {
-        let parts: [Option<&Term>; 3] = match self {
-            Term::Variable(_) => [None, None, None],
+/// The parts of a node by its kind, said once for both ways to borrow them: `$iter` is how a call's
+/// arguments are borrowed.
+macro_rules! parts {
+    ($term:expr, $iter:ident) => {
+        match $term {
+            Term::Variable(_) | Term::Unit(_) => [None, None, None],
             Term::Call(_, arguments) => {
                 assert!(arguments.len() <= 3, "a call has at most three arguments");
-                let mut arguments = arguments.iter();
+                let mut arguments = arguments.$iter();
                 [arguments.next(), arguments.next(), arguments.next()]
             }
             Term::Function(_, part)
@@ -53,30 +56,21 @@ impl Term {
                 [Some(one), Some(two), None]
             }
             Term::Case(subject, left, right) => [Some(subject), Some(left), Some(right)],
-        };
+        }
+    };
+}
+
+impl Term {
+    /// The parts in order, each with its role.
+    pub fn parts(&self) -> impl Iterator<Item = (Role, &Term)> {
+        let parts: [Option<&Term>; 3] = parts!(self, iter);
         self.roles().into_iter().zip(parts.into_iter().flatten())
     }
 
     /// The parts in order, each with its role, to be changed in place.
     pub fn parts_mut(&mut self) -> impl Iterator<Item = (Role, &mut Term)> {
         let roles = self.roles();
-        let parts: [Option<&mut Term>; 3] = match self {
-            Term::Variable(_) => [None, None, None],
-            Term::Call(_, arguments) => {
-                assert!(arguments.len() <= 3, "a call has at most three arguments");
-                let mut arguments = arguments.iter_mut();
-                [arguments.next(), arguments.next(), arguments.next()]
-            }
-            Term::Function(_, part)
-            | Term::First(part)
-            | Term::Second(part)
-            | Term::Left(_, part)
-            | Term::Right(_, part) => [Some(part), None, None],
-            Term::Application(one, two) | Term::Let(one, two) | Term::Pair(_, one, two) => {
-                [Some(one), Some(two), None]
-            }
-            Term::Case(subject, left, right) => [Some(subject), Some(left), Some(right)],
-        };
+        let parts: [Option<&mut Term>; 3] = parts!(self, iter_mut);
         roles.into_iter().zip(parts.into_iter().flatten())
     }
 
@@ -95,15 +89,20 @@ impl Term {
         1 + self.parts().map(|(_, part)| part.size()).sum::<usize>()
     }
 
-    /// A value (the paper's V): variables and functions; pairs and injections whose parts are values.
-    /// Everything else is a computation (the paper's P).
+    /// Whether a node of this kind is a value if its operands are.
+    pub fn has_value_kind(&self) -> bool {
+        use Term::*;
+        matches!(
+            self,
+            Variable(_) | Function(..) | Pair(..) | Left(..) | Right(..) | Unit(_)
+        )
+    }
+
+    /// A value (the paper's V): variables, functions and units; pairs and injections whose parts are
+    /// values. Everything else is a computation (the paper's P).
     pub fn is_value(&self) -> bool {
-        match self {
-            Term::Variable(_) | Term::Function(..) => true,
-            Term::Pair(_, left, right) => left.is_value() && right.is_value(),
-            Term::Left(_, operand) | Term::Right(_, operand) => operand.is_value(),
-            _ => false,
-        }
+        let mut parts = self.parts();
+        self.has_value_kind() && parts.all(|(role, part)| role != Role::Operand || part.is_value())
     }
 
     /// The number of operand positions in the whole term that hold a computation.

@@ -93,6 +93,10 @@ impl Typing<'_> {
                 require(self.infer_under(right, right_branch)? == type_number)?;
                 type_number
             }
+            Term::Unit(whole) => {
+                require(self.tables.type_at(*whole) == Type::Unit)?;
+                *whole
+            }
         };
         self.types[index] = type_number;
         Some(type_number)

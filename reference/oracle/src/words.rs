@@ -5,6 +5,7 @@ pub const BASE: u64 = 0;
 pub const FUNCTION_TYPE: u64 = 1;
 pub const PRODUCT: u64 = 2;
 pub const SUM: u64 = 3;
+pub const UNIT_TYPE: u64 = 4;
 
 /// Kinds of term words.
 pub const VARIABLE: u64 = 0;
@@ -18,6 +19,7 @@ pub const SECOND: u64 = 7;
 pub const LEFT: u64 = 8;
 pub const RIGHT: u64 = 9;
 pub const CASE: u64 = 10;
+pub const UNIT: u64 = 11;
 
 /// The value of the `width` bits of `word` which start at bit `low`.
 fn field(word: u64, low: u32, width: u32) -> u64 {

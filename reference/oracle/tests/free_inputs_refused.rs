@@ -3,7 +3,7 @@
 use oracle::free_inputs::free_inputs;
 use std::collections::BTreeSet;
 use tools::generate::boundaries::*;
-use tools::generate::damage::{apply_damages, Damage, DAMAGES};
+use tools::generate::damage::{apply_damages, damages};
 use tools::generate::each::{each_random_sample, each_sample_of_inputs};
 use tools::generate::ill_typed::broken_samples;
 use tools::generate::long_readings::longest_readings;
@@ -21,7 +21,7 @@ fn check_refusal(sample: &Sample, why: &str) -> u32 {
 
 #[test]
 fn refusals_are_those_of_check() {
-    for damage in DAMAGES {
+    for damage in damages() {
         let count = if damage.is_small { 100 } else { 5 };
         each_random_sample(44, count, 40, |random, mut sample| {
             let refusal = apply_damages(random, &mut sample, &[damage]);
@@ -32,8 +32,9 @@ fn refusals_are_those_of_check() {
         assert_eq!(check_refusal(&sample, "a broken typing rule"), 9);
     }
     let mut seen = BTreeSet::new();
+    let mut small = damages();
+    small.retain(|damage| damage.is_small);
     each_sample_of_inputs(45, 5000, 40, |random, mut sample| {
-        let small: Vec<&Damage> = DAMAGES.iter().filter(|damage| damage.is_small).collect();
         let (one, other) = (*random.pick(&small), *random.pick(&small));
         if one.refusal != other.refusal {
             apply_damages(random, &mut sample, &[one, other]);

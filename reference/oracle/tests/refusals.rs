@@ -3,8 +3,9 @@
 use oracle::api::{normalize, Answer};
 use oracle::bundle::{read_bundle, Lengths};
 use oracle::listing::respond;
+use std::collections::BTreeSet;
 use tools::generate::bundles::BUNDLE_DAMAGES;
-use tools::generate::damage::{apply_damages, flip_a_bit, Damage, DAMAGES};
+use tools::generate::damage::{apply_damages, damages, flip_a_bit, Damage};
 use tools::generate::each::each_random_sample;
 use tools::generate::ill_typed::broken_samples;
 use tools::generate::Sample;
@@ -38,24 +39,24 @@ fn random_samples(seed: u64, count: usize, test: impl FnMut(&mut Random, Sample)
 
 #[test]
 fn each_damage_gives_its_number() {
-    for damage in DAMAGES {
+    for damage in damages() {
         let count = if damage.is_small { 200 } else { 5 };
         random_samples(11, count, |random, mut sample| {
             let refusal = apply_damages(random, &mut sample, &[damage]);
             refused(&sample, refusal, damage.name);
         });
     }
-    let mut numbers: Vec<u32> = DAMAGES.iter().map(|damage| damage.refusal).collect();
-    numbers.dedup();
-    assert_eq!(numbers, [1, 2, 3, 4, 5, 6, 7, 8, 9]);
+    let numbers: BTreeSet<u32> = damages().iter().map(|damage| damage.refusal).collect();
+    assert_eq!(numbers, (1..10).collect());
 }
 
 #[test]
 fn the_lower_of_several_numbers_wins() {
+    let all = self::damages();
     random_samples(12, 5000, |random, mut sample| {
         let mut damages: Vec<&Damage> = Vec::new();
         for _ in 0..random.between(2, 4) {
-            let damage = random.pick(DAMAGES);
+            let damage = *random.pick(&all);
             let is_new = damages.iter().all(|other| other.refusal != damage.refusal);
             if damage.is_small && is_new {
                 damages.push(damage);
@@ -85,11 +86,11 @@ fn order_traps() {
         inputs: vec![0],
         term: term.to_vec(),
     };
-    let bad_kind = 4 << 60;
+    let bad_kind = 5 << 60;
     refused(&empty(&[0, 0, bad_kind], &[0]), 2, "2 after a duplicate");
     refused(&empty(&[bad_kind, bad_kind], &[0]), 2, "a bad word twice");
     refused(&empty(&[0, 0], &[0]), 3, "a duplicate");
-    let bad_word = 11 << 60;
+    let bad_word = 12 << 60;
     refused(&empty(&[0], &[0, bad_word]), 6, "6 in a word left over");
     let unbound = 5 << 30;
     refused(&empty(&[0], &[unbound, 0]), 7, "7 before 8");
@@ -160,7 +161,8 @@ fn the_reader_needs_a_slice_as_long_as_the_tables() {
 fn respond_lists_what_normalize_answers() {
     random_samples(15, 300, |random, mut sample| {
         if random.chance(50) {
-            let small: Vec<&Damage> = DAMAGES.iter().filter(|damage| damage.is_small).collect();
+            let mut small = damages();
+            small.retain(|damage| damage.is_small);
             let damage = *random.pick(&small);
             apply_damages(random, &mut sample, &[damage]);
         }

@@ -1,9 +1,12 @@
-//! Faults for the refusals 1 to 9: one for each reason in the paper's table.
+//! Faults for the refusals 1 to 9: one for each reason in the paper's table. `unit_damage.rs` has
+//! those of the unit type.
 
 use super::ill_typed::broken_sample;
+use super::unit_damage::UNIT_DAMAGES;
 use super::Sample;
 use crate::random::Random;
 use oracle::coding::{decode, encode};
+use oracle::dialect::Dialect;
 use oracle::tables::decode_calls;
 use oracle::term::Term;
 use oracle::words::*;
@@ -15,15 +18,40 @@ pub struct Damage {
     pub refusal: u32,
     /// The damaged sample is not much larger.
     pub is_small: bool,
-    pub apply: fn(&mut Random, &mut Sample),
+    /// The dialect, if any, from which on what was put in may be no fault.
+    pub until: Option<Dialect>,
+    pub apply: Apply,
 }
 
-const fn damage(refusal: u32, name: &'static str, apply: fn(&mut Random, &mut Sample)) -> Damage {
+type Apply = fn(&mut Random, &mut Sample);
+
+impl Damage {
+    /// Whether it is a fault in the dialect of the public calls.
+    fn is_current(&self) -> bool {
+        self.until.is_none_or(|known| Dialect::CURRENT < known)
+    }
+}
+
+/// All faults in the dialect of the public calls.
+pub fn damages() -> Vec<&'static Damage> {
+    let all = DAMAGES.iter().chain(UNIT_DAMAGES);
+    all.filter(|damage| damage.is_current()).collect()
+}
+
+pub const fn damage(refusal: u32, name: &'static str, apply: Apply) -> Damage {
     Damage {
         name,
         refusal,
         is_small: true,
+        until: None,
         apply,
+    }
+}
+
+const fn damage_until(known: Dialect, refusal: u32, name: &'static str, apply: Apply) -> Damage {
+    Damage {
+        until: Some(known),
+        ..damage(refusal, name, apply)
     }
 }
 
@@ -34,13 +62,14 @@ const fn large_damage(name: &'static str, apply: fn(&mut Random, &mut Sample)) -
     }
 }
 
+/// The faults of the base dialect.
 pub const DAMAGES: &[Damage] = &[
     large_damage("1,025 types", |_, sample| sample.types.resize(1025, 0)),
     large_damage("1,025 calls", |_, sample| sample.calls.resize(1025, 0)),
     large_damage("257 inputs", |_, sample| sample.inputs.resize(257, 0)),
     large_damage("8,193 term words", |_, sample| sample.term.resize(8193, 0)),
     damage(1, "no term word", |_, sample| sample.term.clear()),
-    damage(2, "type kind over 3", |random, sample| {
+    damage_until(Dialect::Units, 2, "type kind over 3", |random, sample| {
         let word = pack_type(random.between(4, 15) as u64, 0, 0);
         random.insert(&mut sample.types, word);
     }),
@@ -57,11 +86,16 @@ pub const DAMAGES: &[Damage] = &[
     damage(2, "both parts not earlier", |random, sample| {
         insert_type_with_late_part(random, sample, |late, _| (late, late));
     }),
-    damage(2, "bad kind after a duplicate", |random, sample| {
-        sample.types.insert(0, sample.types[0]);
-        let kind = random.between(4, 15) as u64;
-        sample.types.push(pack_type(kind, 0, 0));
-    }),
+    damage_until(
+        Dialect::Units,
+        2,
+        "bad kind after a duplicate",
+        |random, sample| {
+            sample.types.insert(0, sample.types[0]);
+            let kind = random.between(4, 15) as u64;
+            sample.types.push(pack_type(kind, 0, 0));
+        },
+    ),
     damage(3, "a type word is duplicated", |random, sample| {
         let original = random.below(sample.types.len());
         let copy = random.between(original + 1, sample.types.len());
@@ -98,7 +132,7 @@ pub const DAMAGES: &[Damage] = &[
         let high_bit = 1 << random.between(30, 63);
         random.insert(&mut sample.inputs, high_bit);
     }),
-    damage(6, "term kind over 10", |random, sample| {
+    damage_until(Dialect::Units, 6, "term kind over 10", |random, sample| {
         let word = pack_term(random.between(11, 15) as u64, 0, 0);
         insert_or_replace(random, &mut sample.term, word);
     }),
@@ -185,7 +219,7 @@ pub fn apply_damages(random: &mut Random, sample: &mut Sample, damages: &[&Damag
     damages.last().map_or(0, |damage| damage.refusal)
 }
 
-fn insert_or_replace(random: &mut Random, words: &mut Vec<u64>, word: u64) {
+pub fn insert_or_replace(random: &mut Random, words: &mut Vec<u64>, word: u64) {
     if random.chance(50) {
         random.insert(words, word);
     } else {
@@ -195,7 +229,7 @@ fn insert_or_replace(random: &mut Random, words: &mut Vec<u64>, word: u64) {
 }
 
 /// A number of this width at or past a table's end, often the first one.
-fn unknown_number(random: &mut Random, table_length: usize, width: u32) -> u64 {
+pub fn unknown_number(random: &mut Random, table_length: usize, width: u32) -> u64 {
     let last = (1 << width) - 1;
     let number = match random.below(3) {
         0 => table_length,

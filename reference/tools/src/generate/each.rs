@@ -39,3 +39,24 @@ pub fn each_sample_of_inputs(
         }
     });
 }
+
+/// The same with the unit type, in half of the cases with demand 3's premise.
+pub fn each_unit_sample(
+    seed: u64,
+    count: usize,
+    most_fuel: usize,
+    mut test: impl FnMut(&mut Random, Sample) + Send,
+) {
+    with_deep_stack(|| {
+        let mut random = Random::new(seed);
+        for turn in 0..count {
+            let profile = Profile::of_size(random.between(1, most_fuel)).with_units();
+            let profile = match turn % 2 {
+                0 => profile,
+                _ => profile.first_order(),
+            };
+            let sample = random_sample(&mut random, &profile);
+            test(&mut random, sample);
+        }
+    });
+}

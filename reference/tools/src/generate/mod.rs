@@ -16,6 +16,9 @@ pub mod places;
 pub mod shapes;
 pub mod tables;
 pub mod terms;
+pub mod unit_damage;
+pub mod unit_shapes;
+pub mod units;
 pub mod values;
 
 use oracle::bundle::{read_bundle, write_bundle};
@@ -81,6 +84,8 @@ pub struct Profile {
     pub fuel: usize,
     /// No function in the types of inputs, result and calls: demand 3's premise.
     pub first_order: bool,
+    /// With the unit type.
+    pub units: bool,
 }
 
 impl Profile {
@@ -91,6 +96,7 @@ impl Profile {
         most_inputs: 4,
         fuel: 20,
         first_order: false,
+        units: false,
     };
 
     /// The same with space for the words that damages insert.
@@ -109,6 +115,7 @@ impl Profile {
             most_inputs: 6,
             fuel,
             first_order: false,
+            units: false,
         }
     }
 
@@ -116,6 +123,14 @@ impl Profile {
     pub fn first_order(self) -> Profile {
         Profile {
             first_order: true,
+            ..self
+        }
+    }
+
+    /// The same with the unit type.
+    pub fn with_units(self) -> Profile {
+        Profile {
+            units: true,
             ..self
         }
     }

@@ -56,3 +56,7 @@ pub fn right(type_number: u64, operand: &Phrase) -> Phrase {
 pub fn case(subject: &Phrase, left: &Phrase, right: &Phrase) -> Phrase {
     node(pack_term(CASE, 0, 0), &[subject, left, right])
 }
+
+pub fn unit(type_number: u64) -> Phrase {
+    node(pack_term(UNIT, 0, type_number), &[])
+}

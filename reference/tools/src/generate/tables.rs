@@ -19,7 +19,7 @@ pub struct TableWords {
 
 /// Random tables; for each base type there is an input or a call without arguments.
 pub fn random_tables(random: &mut Random, profile: &Profile) -> TableWords {
-    let types = random_types(random, profile.most_types);
+    let types = random_types(random, profile.most_types, profile.units);
     let usable = usable_types(&types, profile.first_order);
     let mut calls = Vec::new();
     let mut inputs = Vec::new();
@@ -62,11 +62,21 @@ pub fn usable_types(types: &[u64], first_order: bool) -> Vec<u64> {
         .collect()
 }
 
-fn random_types(random: &mut Random, most: usize) -> Vec<u64> {
+fn random_types(random: &mut Random, most: usize, units: bool) -> Vec<u64> {
     let count = random.between(1, most);
-    let mut words: Vec<u64> = vec![random_base(random)];
+    // The unit type is one of the first, so that later ones have it as a part.
+    let unit_place = units.then(|| random.below(count.min(4)));
+    let mut words: Vec<u64> = match unit_place {
+        Some(0) => vec![pack_type(UNIT_TYPE, 0, 0)],
+        _ => vec![random_base(random)],
+    };
     let mut sizes = vec![1];
     while words.len() < count {
+        if unit_place == Some(words.len()) {
+            words.push(pack_type(UNIT_TYPE, 0, 0));
+            sizes.push(1);
+            continue;
+        }
         let kind = *random.pick(&[BASE, FUNCTION_TYPE, FUNCTION_TYPE, PRODUCT, SUM]);
         let left = random.below(words.len());
         let right = random.below(words.len());

@@ -148,10 +148,11 @@ impl Builder<'_> {
         Some(Term::Call(number, Vec::new()))
     }
 
-    /// A function, pair or injection; none for a base type.
+    /// A function, pair, injection or unit; none for a base type.
     fn introduction(&mut self, goal: u32, fuel: usize) -> Option<Term> {
         match self.tables.type_at(goal) {
             Type::Base(_) => None,
+            Type::Unit => (fuel < LEAF_FUEL).then_some(Term::Unit(goal)),
             Type::Function(domain, codomain) => {
                 let body = self.under(domain, codomain, fuel);
                 Some(Term::Function(goal, body))

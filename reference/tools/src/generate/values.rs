@@ -21,6 +21,7 @@ pub fn random_value<'t>(random: &mut Random, tables: &Tables, type_number: u32) 
             }
         }
         Type::Base(_) => Value::Number(random.below(10) as u64),
+        Type::Unit => Value::Unit,
         Type::Function(..) => panic!("values of function types are not generated"),
     }
 }
@@ -57,6 +58,7 @@ fn hash_value(hash: u64, value: &Value) -> u64 {
         Value::Left(value) => hash_value(mix(hash, 3), value),
         Value::Right(value) => hash_value(mix(hash, 4), value),
         Value::Closure(..) => mix(hash, 5),
+        Value::Unit => mix(hash, 6),
     }
 }
 
@@ -91,19 +93,21 @@ impl FixedAnswers<'_> {
                 _ => Value::Right(Rc::new(self.spread(number, right))),
             },
             Type::Base(_) => Value::Number(number),
+            Type::Unit => Value::Unit,
             Type::Function(..) => panic!("no call answers a function"),
         }
     }
 }
 
-/// The sum of all numbers in a value, with 1 for each left and 2 for each right injection; each
-/// number counts modulo 5, which is all that matters to the answer.
+/// The sum of all numbers in a value, with 1 for each left and 2 for each right injection, and 3 for
+/// each unit; each number counts modulo 5, which is all that matters to the answer.
 fn digit_sum(value: &Value) -> u64 {
     match value {
         Value::Number(number) => number % 5,
         Value::Pair(halves) => digit_sum(&halves.0) + digit_sum(&halves.1),
         Value::Left(value) => 1 + digit_sum(value),
         Value::Right(value) => 2 + digit_sum(value),
+        Value::Unit => 3,
         Value::Closure(..) => panic!("no call takes a function"),
     }
 }

@@ -65,5 +65,6 @@ fn value_text(value: &Value) -> String {
         Value::Left(value) => format!("l {}", value_text(value)),
         Value::Right(value) => format!("r {}", value_text(value)),
         Value::Closure(..) => String::from("f"),
+        Value::Unit => String::from("u"),
     }
 }

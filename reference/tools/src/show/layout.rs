@@ -103,6 +103,7 @@ impl Layout {
             Term::Left(..) => "left".into(),
             Term::Right(..) => "right".into(),
             Term::Case(..) => "case".into(),
+            Term::Unit(_) => "()".into(),
         }
     }
 }

@@ -143,6 +143,7 @@ impl Writer<'_> {
             Term::Second(operand) => self.prefixed("second", operand),
             Term::Left(_, operand) => self.prefixed("left", operand),
             Term::Right(_, operand) => self.prefixed("right", operand),
+            Term::Unit(_) => self.push("()"),
             Term::Let(..) | Term::Case(..) => self.block(term),
         }
     }
@@ -154,7 +155,11 @@ impl Writer<'_> {
 
     /// An operand, in parentheses unless it needs none.
     fn part(&mut self, term: &Term) {
-        if matches!(term, Term::Variable(_) | Term::Call(..) | Term::Pair(..)) {
+        let needs_none = matches!(
+            term,
+            Term::Variable(_) | Term::Call(..) | Term::Pair(..) | Term::Unit(_)
+        );
+        if needs_none {
             self.line(term);
         } else {
             self.push("(");

@@ -1,4 +1,4 @@
-//! Types as formulas: `b0`, `b0 → b1`, `b0 × b1`, `b0 + b1`.
+//! Types as formulas: `b0`, `unit`, `b0 → b1`, `b0 × b1`, `b0 + b1`.
 
 use super::legend::Legend;
 use oracle::tables::{Tables, Type};
@@ -34,7 +34,7 @@ impl Formulas<'_> {
         *nodes = nodes.checked_sub(1)?;
         let entry = self.tables.type_at(number);
         let Some((left, right)) = entry.parts() else {
-            return Some(self.base(entry));
+            return Some(self.without_parts(entry));
         };
         let left = self.within(left, true, nodes)?;
         let right = self.within(right, true, nodes)?;
@@ -48,14 +48,15 @@ impl Formulas<'_> {
             Some((left, right)) => {
                 compound(entry, &format!("t{left}"), &format!("t{right}"), false)
             }
-            None => self.base(entry),
+            None => self.without_parts(entry),
         }
     }
 
-    fn base(&self, entry: Type) -> String {
+    fn without_parts(&self, entry: Type) -> String {
         match entry {
             Type::Base(name) => self.legend.base(name as usize),
-            other => panic!("{other:?} is no base type"),
+            Type::Unit => String::from("unit"),
+            other => panic!("{other:?} has parts"),
         }
     }
 }
