@@ -5,7 +5,9 @@ use tools::corpus::answers::{answer, free_inputs_line, normalize_line};
 use tools::corpus::contents::records;
 use tools::corpus::corpus;
 use tools::corpus::records::Record;
+use tools::generate::Sample;
 
+use oracle::words::{pack_type, UNIT_TYPE};
 use std::collections::BTreeSet;
 use std::fs::read;
 use std::path::Path;
@@ -61,6 +63,48 @@ fn every_refusal_of_every_call_is_covered() {
 
 fn number(text: &str) -> u32 {
     text.parse().expect("a refusal number")
+}
+
+/// The tables and the term of a record, unless it is a damaged bundle.
+fn sample_of(record: &Record) -> Option<Sample> {
+    match record {
+        Record::Respond(bundle) => Sample::from_bundle(bundle).ok(),
+        Record::Check(sample)
+        | Record::IsNormal(sample)
+        | Record::Normalize(sample, _)
+        | Record::FreeInputs(sample) => Some(sample.clone()),
+    }
+}
+
+#[test]
+fn every_refusal_of_units_is_covered() {
+    let mut seen = BTreeSet::new();
+    for record in records() {
+        let Some(sample) = sample_of(&record) else {
+            continue;
+        };
+        if !sample.types.contains(&pack_type(UNIT_TYPE, 0, 0)) {
+            continue;
+        }
+        let line = String::from_utf8(answer(&record)).expect("answers are text");
+        let fields: Vec<&str> = line.split_whitespace().collect();
+        match fields[0] {
+            "ok" => seen.insert((String::from("respond"), 0)),
+            "no" => seen.insert((String::from("respond"), number(fields[1]))),
+            call => seen.insert((call.to_owned(), number(fields[1]))),
+        };
+    }
+    for call in ["respond", "check", "normal", "normalize", "inputs"] {
+        for refusal in [0, 2, 3, 6, 7, 9] {
+            assert!(
+                seen.contains(&(call.to_owned(), refusal)),
+                "{call} {refusal}"
+            );
+        }
+    }
+    for refusal in [10, 11] {
+        assert!(seen.contains(&(String::from("normalize"), refusal)));
+    }
 }
 
 #[test]

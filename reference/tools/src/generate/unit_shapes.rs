@@ -6,20 +6,46 @@ use super::units::*;
 use super::Sample;
 use oracle::words::*;
 
+/// Adds the types of trees of pairs of units; answers their numbers from height 0, which is U.
+fn add_tree_types(sample: &mut Sample, height: usize) -> Vec<u64> {
+    let mut numbers = vec![U, U_AND_U];
+    for level in 1..height {
+        let part = numbers[level];
+        numbers.push(sample.types.len() as u64);
+        sample.types.push(pack_type(PRODUCT, part, part));
+    }
+    numbers
+}
+
+/// A tree of pairs of these types over equal leaves: the last type is that of the whole.
+fn tree(types: &[u64], leaf: &Phrase) -> Phrase {
+    let levels = types.iter();
+    levels.fold(leaf.clone(), |part, &whole| pair(whole, &part, &part))
+}
+
 /// `first` of a tree of pairs of this height, 1 or more, whose leaves are units: 2^(height + 1)
 /// words.
 pub fn unit_pairs(height: usize) -> Sample {
     let mut sample = sample(&[], Phrase::new());
-    let mut tree = pair(U_AND_U, &u(), &u());
-    let mut type_number = U_AND_U;
-    for _ in 1..height {
-        sample
-            .types
-            .push(pack_type(PRODUCT, type_number, type_number));
-        type_number = sample.types.len() as u64 - 1;
-        tree = pair(type_number, &tree, &tree);
+    let types = add_tree_types(&mut sample, height);
+    sample.term = first(&tree(&types[1..], &u()));
+    sample
+}
+
+/// `let (a tree of units), left (… left (a tree of it))`, two trees of this height, 1 or more, and
+/// so many injections: one step makes one tree of twice the height, of 2^(2 height + 1) - 1 words.
+pub fn copied_units(height: usize, injections: usize) -> Sample {
+    let mut sample = sample(&[], Phrase::new());
+    let types = add_tree_types(&mut sample, 2 * height);
+    let (lower, upper) = types[1..].split_at(height);
+    let mut body = tree(upper, &variable(0));
+    let mut whole = types[2 * height];
+    for _ in 0..injections {
+        sample.types.push(pack_type(SUM, whole, U));
+        whole = sample.types.len() as u64 - 1;
+        body = left(whole, &body);
     }
-    sample.term = first(&tree);
+    sample.term = let_in(&tree(lower, &u()), &body);
     sample
 }
 
@@ -78,10 +104,11 @@ pub fn moderate_unit_shapes() -> Vec<Shape> {
     vec![
         shape("a pair of units taken apart", unit_pairs(1)),
         shape("a tree of units", unit_pairs(5)),
-        shape("lets of units", unit_lets(60)),
-        shape("helpers that take nothing", unit_helpers(60)),
-        shape("calls on units", unit_arguments(40)),
-        shape("a normal chain with units", unit_chain(40)),
+        shape("lets of units", unit_lets(30)),
+        shape("helpers that take nothing", unit_helpers(20)),
+        shape("calls on units", unit_arguments(20)),
+        shape("a normal chain with units", unit_chain(20)),
+        shape("a tree of copies", copied_units(2, 1)),
         shape("branches with units", unit_branches(5, 0)),
         shape("branches with units behind lets", unit_branches(3, 10)),
     ]

@@ -3,7 +3,7 @@
 
 use super::{Contents, MOST_STEPS};
 use crate::generate::deep::moderate_deep_shapes;
-use crate::generate::examples::examples;
+use crate::generate::examples::base_examples;
 use crate::generate::limits::{needs, Limits, Needs};
 use crate::generate::shapes::{moderate_shapes, typical};
 use crate::generate::Sample;
@@ -32,7 +32,7 @@ impl Contents {
         for shape in moderate_shapes().into_iter().chain(moderate_deep_shapes()) {
             self.all_calls(&shape.sample, Limits::OF_PROGRAM);
         }
-        for example in examples() {
+        for example in base_examples() {
             self.all_calls(&example.sample, Limits::OF_PROGRAM);
         }
     }

@@ -5,7 +5,7 @@ use super::Contents;
 use crate::generate::boundaries::*;
 use crate::generate::damage::{apply_damages, Damage, DAMAGES};
 use crate::generate::deep::moderate_deep_shapes;
-use crate::generate::examples::examples;
+use crate::generate::examples::base_examples;
 use crate::generate::ill_typed::broken_samples;
 use crate::generate::inputs::*;
 use crate::generate::long_readings::*;
@@ -55,7 +55,7 @@ impl Contents {
         ] {
             self.free_inputs_of(&sample);
         }
-        for example in examples() {
+        for example in base_examples() {
             self.free_inputs_of(&example.sample);
         }
     }

@@ -5,6 +5,7 @@ mod boundaries;
 mod free_inputs;
 mod limits;
 mod refused;
+mod units;
 
 use super::records::Record;
 use crate::generate::limits::{needs, Limits, Needs};
@@ -32,6 +33,8 @@ pub fn records() -> Vec<Record> {
         // What comes later draws numbers of its own, and the records above stay as they are.
         contents.random = Random::new(2027);
         contents.free_inputs();
+        contents.random = Random::new(2028);
+        contents.units();
         contents.records
     })
 }

@@ -1,0 +1,110 @@
+//! Samples with units: accepted ones, buffers that just suffice and that do not, each refusal, and
+//! terms at their limits.
+
+use super::{Contents, LONGEST_BUFFER, MOST_STEPS};
+use crate::generate::examples::plate;
+use crate::generate::limits::{needs, Limits, Needs};
+use crate::generate::terms::random_sample;
+use crate::generate::unit_damage::{broken_unit_samples, UNIT_DAMAGES};
+use crate::generate::unit_shapes::*;
+use crate::generate::units::small_units;
+use crate::generate::{Profile, Sample};
+use oracle::checks::LONGEST_TO_NORMALIZE;
+use oracle::words::*;
+
+impl Contents {
+    pub fn units(&mut self) {
+        self.five_calls(&plate().sample, Limits::OF_PROGRAM);
+        for (turn, shape) in small_units().iter().enumerate() {
+            if turn % 4 == 1 {
+                self.respond(shape.sample.bundle());
+            }
+            self.near_what_is_needed(turn, &shape.sample);
+            self.another_call(turn / 4, &shape.sample);
+        }
+        for turn in 0..7 {
+            let sample = self.unit_sample();
+            self.near_what_is_needed(turn, &sample);
+            self.another_call(turn, &sample);
+        }
+        for (turn, shape) in moderate_unit_shapes().iter().enumerate() {
+            self.another_call(turn, &shape.sample);
+        }
+        self.refused_units();
+        self.units_at_their_limits();
+    }
+
+    fn five_calls(&mut self, sample: &Sample, limits: Limits) {
+        self.all_calls(sample, limits);
+        self.free_inputs_of(sample);
+    }
+
+    /// One of the calls that do not normalize, by turns.
+    fn another_call(&mut self, turn: usize, sample: &Sample) {
+        match turn % 3 {
+            0 => self.check(sample),
+            1 => self.is_normal(sample),
+            _ => self.free_inputs_of(sample),
+        }
+    }
+
+    /// Buffers of the length that the walk needs, one word shorter, or longer, or one step less, by
+    /// turns.
+    fn near_what_is_needed(&mut self, turn: usize, sample: &Sample) {
+        let Some(needs) = needs(sample, MOST_STEPS) else {
+            return;
+        };
+        let Needs { steps, capacity } = needs;
+        let (steps, capacity) = match turn % 4 {
+            0 => (steps, capacity),
+            1 => (steps, capacity - 1),
+            2 => (steps, capacity + 40),
+            _ => (steps.saturating_sub(1), capacity),
+        };
+        let limits = Limits::with_capacity(&mut self.random, steps, capacity);
+        self.normalize(sample, limits);
+    }
+
+    /// A random term with units, of 10 to 30 words, whose walk is not long.
+    fn unit_sample(&mut self) -> Sample {
+        loop {
+            let sample = random_sample(&mut self.random, &Profile::SMALL.with_units());
+            let mut nodes = sample.term.iter().map(|&word| unpack_term(word).0);
+            let has_unit = nodes.any(|kind| kind == UNIT);
+            if has_unit && (10..=30).contains(&sample.term.len()) {
+                return sample;
+            }
+        }
+    }
+
+    /// Each reason of the refusals that units have, for each call.
+    fn refused_units(&mut self) {
+        for damage in UNIT_DAMAGES {
+            let mut sample = Sample {
+                types: vec![pack_type(BASE, 0, 0), pack_type(UNIT_TYPE, 0, 0)],
+                calls: vec![],
+                inputs: vec![],
+                term: vec![pack_term(UNIT, 0, 1)],
+            };
+            (damage.apply)(&mut self.random, &mut sample);
+            let limits = Limits::with_capacity(&mut self.random, 1, 5);
+            self.five_calls(&sample, limits);
+        }
+        for (turn, sample) in broken_unit_samples().iter().step_by(3).enumerate() {
+            self.another_call(turn, sample);
+        }
+    }
+
+    /// A term as long as it may be, and short ones that become as long as they may, and one longer.
+    fn units_at_their_limits(&mut self) {
+        let longest = unit_lets((LONGEST_TO_NORMALIZE - 2) / 2);
+        self.normalize(&longest, Limits::OF_PROGRAM);
+        for (length, injections) in [(8192, 1), (8191, 1), (LONGEST_BUFFER, 2)] {
+            let limits = Limits {
+                budget: 1,
+                lengths: [length, 8192, LONGEST_BUFFER],
+            };
+            self.normalize(&copied_units(6, injections), limits);
+        }
+    }
+}
