@@ -74,7 +74,7 @@ pub fn unit_arguments(levels: usize) -> Sample {
     sample(&[], term)
 }
 
-/// `let take (), … v0`: a normal form. 3k + 1 words for k lets, each of which uses the one before.
+/// `let take (), … v0`: a normal form. 4k words for k lets, each of which uses the one before.
 pub fn unit_chain(lets: usize) -> Sample {
     let mut term = let_in(&call(TAKE, &[&u()]), &Phrase::new());
     for _ in 1..lets {
@@ -122,6 +122,6 @@ pub fn unit_shapes_of(words: usize) -> Vec<Shape> {
         shape("lets of units", unit_lets((words - 2) / 2)),
         shape("helpers that take nothing", unit_helpers((words - 2) / 3)),
         shape("calls on units", unit_arguments((words - 1) / 2)),
-        shape("a normal chain with units", unit_chain((words - 1) / 3)),
+        shape("a normal chain with units", unit_chain(words / 4)),
     ]
 }
