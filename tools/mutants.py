@@ -69,6 +69,16 @@ MUTANTS = [
         (FREE, "{ℕ}", "{ℕ, zero, suc, _+_}"), (FREE, ANSWER, TOTAL + ANSWER),
         (FREE, "howMany 256 (reads (x .term))", "total 256 (uses (x .term))")]),
     ("a refusal that answers marks", "theory", [(FREE, "replicate 4 0", "replicate 4 1")]),
+    ("a unit is a computation", "theory", [(VALUES, "isValue (unit A) = true", "isValue (unit A) = false")]),
+    ("a unit has a part", "syntax", [("syntax/specs/Decoding", "leaf (λ n A. unit A)", "unary (λ n A a. unit A)")]),
+    ("a unit is of any type", "typing", [("typing/specs/Infer", "components tables unitType U >>= λ _. some U", "some U")]),
+    ("a unit type word with its right field set", "typing", [
+        ("typing/specs/TableChecks", "eqb (leftOf w) 0 && eqb (rightOf w) 0)", "eqb (leftOf w) 0)")]),
+    ("the unit type has two parts", "typing", [("syntax/specs/Tables", "leb arrow k && leb k sum", "leb arrow k && leb k unitType")]),
+    ("a unit's run gives a number", "theory", [
+        (RUN, "evaluate run ρ (unit A) = answered trivial", "evaluate run ρ (unit A) = answered (num 0)")]),
+    ("the unit type has no value, so nothing can be fed", "theory", [
+        (VALUE_TYPES, "product, sum, unitType,", "arrow, product, sum,"), (VALUE_TYPES, "components tables unitType A", "components tables arrow A")]),
 ]
 
 def refusal(edits):
