@@ -100,7 +100,7 @@ fn refused_by_each_check() {
         (3, types(&[0, 0]), &TERM),
         (4, calls(&[4 << 60]), &TERM),
         (5, inputs(&[2]), &TERM),
-        (6, TABLES, &[11 << 60]),
+        (6, TABLES, &[12 << 60]),
         (7, TABLES, &TERM[..4]),
         (8, TABLES, &[0]),
         (9, TABLES, &[6 << 60, 1 << 60]),

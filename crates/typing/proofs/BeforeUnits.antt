@@ -62,7 +62,7 @@ elaborateBy check₂ check₆ limit tables words = do
 abbrev pub formerElaborate : ℕ → Tables → List ℕ → Verdict TypedTerm
 formerElaborate limit tables words = elaborateBy (formerTypes 0 (tables .types)) (every (formerWord tables) words) limit tables words
 
-elaborate-by : (limit : ℕ) (tables : Tables) (words : List ℕ)
+pub elaborate-by : (limit : ℕ) (tables : Tables) (words : List ℕ)
     → elaborate limit tables words ≡ elaborateBy (wellFormedTypes 0 (tables .types)) (every (wellFormedWord tables) words) limit tables words
 unfolding elaborate elaborateBy
 elaborate-by limit tables words = refl
@@ -83,7 +83,7 @@ not-and : (a b c : Bool) → T (not a) → T (not (a && b && c))
 not-and true b c h = absurd h
 not-and false b c h = tt
 
-types-same : (i : ℕ) (ws : List ℕ) → NoUnitType ws → wellFormedTypes i ws ≡ formerTypes i ws
+pub types-same : (i : ℕ) (ws : List ℕ) → NoUnitType ws → wellFormedTypes i ws ≡ formerTypes i ws
 unfolding wellFormedTypes formerTypes
 types-same i [] h = refl
 types-same i (w ∷ ws) h =
@@ -104,7 +104,7 @@ other-kind : (k m : ℕ) → k ≤ m → T (not (eqb k (suc m)))
 other-kind k m h = not-T (eqb k (suc m)) (λ q. absurd (omega (arith, h, eqb→eq k (suc m) q)))
 
 module _ (tables : Tables) where
-  words-same : (ws : List ℕ) → NoUnitNode ws → every (wellFormedWord tables) ws ≡ every (formerWord tables) ws
+  pub words-same : (ws : List ℕ) → NoUnitNode ws → every (wellFormedWord tables) ws ≡ every (formerWord tables) ws
   words-same [] h = refl
   words-same (w ∷ ws) h =
       let u = not (eqb (kindOf w) 11) in
@@ -122,7 +122,7 @@ module _ (tables : Tables) where
       ∙ ap₂ (λ (a b : Bool). elaborateBy a b limit tables words) (types-same 0 (tables .types) h) (words-same words j)
 
 -- what the former checks 2 and 6 passed has no unit
-types-without : (i : ℕ) (ws : List ℕ) → T (formerTypes i ws) → NoUnitType ws
+pub types-without : (i : ℕ) (ws : List ℕ) → T (formerTypes i ws) → NoUnitType ws
 unfolding formerTypes
 types-without i [] h = tt
 types-without i (w ∷ ws) h = both-true (not (eqb (kindOf w) unitType)) _
@@ -136,7 +136,7 @@ types-without i (w ∷ ws) h = both-true (not (eqb (kindOf w) unitType)) _
     up-to false b true false e f g k h = absurd h
     up-to false b false d e f g k h = absurd h
 
-words-without : (tables : Tables) (ws : List ℕ) → T (every (formerWord tables) ws) → NoUnitNode ws
+pub words-without : (tables : Tables) (ws : List ℕ) → T (every (formerWord tables) ws) → NoUnitNode ws
 words-without tables [] h = tt
 words-without tables (w ∷ ws) h =
     let k = kindOf w in

@@ -11,3 +11,4 @@ pub mod TypeNumbers
 pub mod ScopedNode
 pub mod TypedScoped
 pub mod BeforeUnits
+pub mod RefusedBeforeUnits
