@@ -13,11 +13,6 @@ use tools::generate::unit_shapes::moderate_unit_shapes;
 use tools::generate::units::small_units;
 use tools::generate::Sample;
 
-fn has_unit(sample: &Sample) -> bool {
-    let mut nodes = sample.term.iter().map(|&word| unpack_term(word).0);
-    nodes.any(|kind| kind == UNIT)
-}
-
 /// The sample over the base dialect: the unit type is a base type of its own, and each unit one
 /// further input of it.
 fn with_an_input_for_units(sample: &Sample) -> Option<Sample> {
@@ -75,11 +70,11 @@ fn check_as_input(sample: &Sample, limits: Limits) -> Option<bool> {
     let mut read = base.free_inputs(free_inputs);
     let further = sample.inputs.len();
     let mark = 1 << (63 - further % 64);
-    assert_eq!(read.marks[further / 64] & mark != 0, has_unit(sample));
+    assert_eq!(read.marks[further / 64] & mark != 0, sample.has_unit());
     read.marks[further / 64] &= !mark;
-    read.count -= u32::from(has_unit(sample));
+    read.count -= u32::from(sample.has_unit());
     assert_eq!(sample.free_inputs(free_inputs), read);
-    Some(has_unit(&later))
+    Some(later.has_unit())
 }
 
 #[test]

@@ -20,7 +20,7 @@ use tools::lines::bundles::bundle_line;
 use tools::lines::cases::case_line;
 use tools::lines::inputs::inputs_line;
 use tools::lines::runs::run_line;
-use tools::random::Random;
+use tools::lines::{lines, Line};
 use tools::show::legend::Legend;
 use tools::show::report::{show, Shown};
 
@@ -34,6 +34,7 @@ const USAGE: &str = "usage: reference SUBCOMMAND
   bundles SEED COUNT  lines of small bundles with their listings
   runs SEED COUNT     lines of small terms with a run of each
   inputs SEED COUNT   lines of short terms over up to 256 inputs, with those they read
+                      (the last fifth of all these lines has the unit type in its tables)
   definitions REPOSITORY DIR SEED COUNT
                       the definitions of REPOSITORY/crates checked against such lines by rt, in a
                       repository written into DIR: COUNT cases, a fifth as many bundles, a quarter
@@ -127,14 +128,13 @@ fn write_drawings(shown: Shown, before_file: &str, after_file: &str) -> io::Resu
     print_text(shown)
 }
 
-fn print_lines(seed: &str, count: &str, line: fn(&mut Random) -> String) -> io::Result<bool> {
-    let (Ok(seed), Ok(count)) = (seed.parse(), count.parse::<u64>()) else {
+fn print_lines(seed: &str, count: &str, line: Line) -> io::Result<bool> {
+    let (Ok(seed), Ok(count)) = (seed.parse(), count.parse()) else {
         return Ok(false);
     };
-    let mut random = Random::new(seed);
     let mut output = BufWriter::new(io::stdout().lock());
-    for _ in 0..count {
-        writeln!(output, "{}", line(&mut random))?;
+    for line in lines(line, seed, count) {
+        writeln!(output, "{line}")?;
     }
     output.flush()?;
     Ok(true)

@@ -140,6 +140,32 @@ fn inputs_are_few_and_many() {
 }
 
 #[test]
+fn the_last_lines_have_units() {
+    for subcommand in ["cases", "runs", "inputs"] {
+        let lines = lines(&[subcommand, "1", "500"]);
+        let words_of_kind = |line: &str, table: usize, kind: u64| {
+            let words = line.split(';').nth(table).expect("a table");
+            let mut words = words.split_whitespace();
+            words.any(|word| word.parse::<u64>().expect("a word") >> 60 == kind)
+        };
+        let (others, last) = lines.split_at(400);
+        let with_types = last.iter().filter(|line| words_of_kind(line, 0, 4)).count();
+        let with_units = last
+            .iter()
+            .filter(|line| words_of_kind(line, 3, 11))
+            .count();
+        assert!(with_types > 70, "{subcommand}: {with_types}");
+        assert!(with_units > 25, "{subcommand}: {with_units}");
+        // The old lines keep the faults that unit words were.
+        let with_units = others
+            .iter()
+            .filter(|line| words_of_kind(line, 3, 11))
+            .count();
+        assert!(with_units < 20, "{subcommand}: {with_units}");
+    }
+}
+
+#[test]
 fn anything_else_prints_the_usage() {
     for arguments in [
         &[][..],

@@ -106,4 +106,12 @@ fn a_row_has_what_the_line_says() {
     ] {
         assert!(row.contains(field), "{field}");
     }
+    let row = runs::row("0;0;0;0;u p u n 1;l u;2:u");
+    for field in [
+        "values = (also trivial (also (tuple trivial (num 1)) empty));",
+        "answer = (left trivial);",
+        "trace = record { number = 2; arguments = (also trivial empty) } ∷ [];",
+    ] {
+        assert!(row.contains(field), "{field}");
+    }
 }

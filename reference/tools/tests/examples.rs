@@ -111,6 +111,38 @@ fn the_tithe_map_keeps_one_case() {
 }
 
 #[test]
+fn the_plate_has_no_helper_and_one_case() {
+    let plate = example("plate");
+    let source = &plate.sample.term;
+    let kinds = [FUNCTION, APPLICATION, UNIT, CASE];
+    assert_eq!(kinds.map(|kind| nodes(source, kind)), [1; 4]);
+    let (words, counts) = normal_form(&plate);
+    assert_eq!(counts, [2, 2, 1, 1, 0, 0, 0, 0, 1, 0]);
+    assert_eq!(kinds.map(|kind| nodes(&words, kind)), [0, 0, 0, 1]);
+    // The case is the body of the let that binds its subject.
+    assert_eq!(words[..3], source_of_choice());
+    assert_eq!(unpack_term(words[3]).0, CASE);
+    for (call, times) in [
+        ("caption", 1),
+        ("recognise", 1),
+        ("title", 1),
+        ("number", 1),
+        ("file", 2),
+    ] {
+        assert_eq!(calls(&words, call, &plate), times, "{call}");
+    }
+}
+
+/// `let caption(plate)`.
+fn source_of_choice() -> [u64; 3] {
+    [
+        pack_term(LET, 0, 0),
+        pack_term(CALL, 0, 0),
+        pack_term(VARIABLE, 0, 0),
+    ]
+}
+
+#[test]
 fn only_the_listed_terms_are_normal() {
     for example in examples() {
         let source = &example.sample;

@@ -64,6 +64,43 @@ steps: 0
 }
 
 #[test]
+fn units_and_their_type() {
+    use phrases::*;
+    use tools::generate::units::{self, B_AND_U, GIVE, TAKE, U, U_TO_B};
+    let helper = function(U_TO_B, &call(TAKE, &[&unit(U)]));
+    let pair = pair(B_AND_U, &apply(&variable(0), &unit(U)), &call(GIVE, &[]));
+    let sample = units::sample(&[U], let_in(&helper, &pair));
+    let expected = "\
+before: 9 words of type b0 × unit
+  let x1 = λx0: unit. c3(()) in
+  (x1 (), c2())
+steps: 4
+  let 2
+  apply 1
+  let value 1
+after: 8 words
+  let x0 = c3(()) in
+  let x1 = c2() in
+  (x0, x1)
+";
+    assert_eq!(lines_of_terms(&sample), expected);
+    let text = shown(&sample).text();
+    for line in [
+        "  t1 = unit\n",
+        "  t3 = b0 + unit\n",
+        "  c3(unit): b0\n",
+        "  i0: unit\n",
+    ] {
+        assert!(text.contains(line), "{line}");
+    }
+    let words = shown(&sample).words();
+    assert!(words.contains("4000000000000000     4     0      0  t1 = unit\n"));
+    assert!(words.contains("b000000000000001    11       0     1        ()\n"));
+    let (drawing, _) = shown(&sample).drawings();
+    assert_eq!(drawing.matches(">()</text>").count(), 2);
+}
+
+#[test]
 fn tables() {
     let text = shown(&branching(1)).text();
     let expected = "\

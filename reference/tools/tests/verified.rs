@@ -4,8 +4,13 @@ use oracle::deep_stack::with_deep_stack;
 use tools::corpus::answers::{answer, free_inputs_line};
 use tools::corpus::contents::records;
 use tools::corpus::records::Record;
+use tools::generate::damage::flip_a_bit;
+use tools::generate::each::each_unit_sample;
 use tools::generate::long_readings::longest_readings;
 use tools::generate::shapes::{largest_shapes, typical};
+use tools::generate::unit_shapes::{copied_units, unit_shapes_of};
+use tools::generate::units::small_units;
+use tools::generate::Sample;
 
 use tools::verified::{FREE_INPUTS, RESPOND};
 
@@ -58,6 +63,33 @@ fn it_finds_the_free_inputs_of_long_terms() {
             let expected = shape.sample.free_inputs(baseline::free_inputs);
             let found = shape.sample.free_inputs(free_inputs);
             assert_eq!(found, expected, "{}", shape.name);
+        }
+    });
+}
+
+#[test]
+fn it_answers_terms_with_units() {
+    let (Some(respond), Some(free_inputs)) = (RESPOND, FREE_INPUTS) else {
+        return;
+    };
+    let agrees = |sample: &Sample, name: &str| {
+        let bundle = sample.bundle();
+        assert_eq!(respond(&bundle), baseline::respond(&bundle), "{name}");
+        let expected = sample.free_inputs(baseline::free_inputs);
+        assert_eq!(sample.free_inputs(free_inputs), expected, "{name}");
+    };
+    each_unit_sample(32, 2000, 60, |random, mut sample| {
+        agrees(&sample, "random");
+        flip_a_bit(random, &mut sample);
+        agrees(&sample, "a flipped bit");
+    });
+    with_deep_stack(|| {
+        let long = unit_shapes_of(4096).into_iter().chain(unit_shapes_of(8192));
+        for shape in small_units().into_iter().chain(long) {
+            agrees(&shape.sample, shape.name);
+        }
+        for injections in 0..3 {
+            agrees(&copied_units(6, injections), "copies");
         }
     });
 }

@@ -9,7 +9,7 @@ use crate::lines::bundles::bundle_line;
 use crate::lines::cases::case_line;
 use crate::lines::inputs::inputs_line;
 use crate::lines::runs::run_line;
-use crate::random::Random;
+use crate::lines::{lines, Line};
 use std::fs;
 use std::io;
 use std::path::Path;
@@ -56,9 +56,8 @@ pub fn write_repository(
     .concat())
 }
 
-fn lines_of(line: fn(&mut Random) -> String, seed: u64, count: usize) -> Vec<String> {
-    let mut random = Random::new(seed);
-    (0..count).map(|_| line(&mut random)).collect()
+fn lines_of(line: Line, seed: u64, count: usize) -> Vec<String> {
+    lines(line, seed, count).collect()
 }
 
 /// The lines of crates.txt that list the copied crates, and one for the further crate.

@@ -11,10 +11,10 @@ use Prim.Native.Nat.{ℕ, zero, suc, _+_, _*_, _%_}
 use mathlib.Core.List.{List}
 use mathlib.Core.Option.{Option, some, none}
 use lib.ListN.{length}
-use Rattle.syntax.specs.Tables.{Tables, over, product, sum, components, Signature, signature}
+use Rattle.syntax.specs.Tables.{Tables, over, product, sum, unitType, components, Signature, signature}
 use Rattle.syntax.specs.Term.{Term}
 use Rattle.syntax.specs.Decoding.{decode}
-use Rattle.semantics.specs.Value.{Value, Values, num, closure, tuple, left, right, empty, also, Trace}
+use Rattle.semantics.specs.Value.{Value, Values, num, closure, tuple, left, right, trivial, empty, also, Trace}
 use Rattle.semantics.specs.Run.{RunOutcome, ended, stuck, run}
 
 pub record Row : Type 0 where
@@ -26,13 +26,14 @@ pub record Row : Type 0 where
   pub answer : Value
   pub trace : Trace
 
--- the sum of all numbers in a value, with 1 for each left and 2 for each right injection
+-- the sum of all numbers in a value, with 1 for each left and 2 for each right injection, and 3 for each unit
 unfoldable pub weight : Value → ℕ
 weight (num n) = n
 weight (closure ρ b) = 0
 weight (tuple v w) = weight v + weight w
 weight (left v) = 1 + weight v
 weight (right v) = 2 + weight v
+weight trivial = 3
 
 unfoldable pub weights : Values → ℕ
 unfolding weight
@@ -44,14 +45,17 @@ abbrev pub side : ℕ → Value → Value → Value
 side zero v w = left v
 side (suc n) v w = right w
 
--- a number spread over a type: itself at a base type, in both parts of a product, in one part of a sum; parts go so many levels down
+-- a number spread over a type: itself at a base type, in both parts of a product, in one part of a sum, nowhere at the unit type; parts go so many levels down
 unfoldable pub spread : Tables → ℕ → ℕ → ℕ → Value
 spread tables zero n A = num n
 spread tables (suc levels) n A = elim (components tables product A) [
   | some p ↦ tuple (spread tables levels n (p .0)) (spread tables levels n (p .1))
   | none ↦ elim (components tables sum A) [
     | some p ↦ side (n % 2) (spread tables levels n (p .0)) (spread tables levels n (p .1))
-    | none ↦ num n
+    | none ↦ elim (components tables unitType A) [
+      | some p ↦ trivial
+      | none ↦ num n
+    ]
   ]
 ]
 
@@ -130,7 +134,7 @@ fn values(text: &str) -> String {
         .rfold(empty, |rest, item| format!("(also {item} {rest})"))
 }
 
-/// The value that the next tokens stand for, in parentheses.
+/// The value that the next tokens stand for, in parentheses if it needs them.
 fn value(tokens: &mut SplitWhitespace) -> String {
     match tokens.next() {
         Some("n") => format!("(num {})", tokens.next().expect("a number")),
@@ -140,6 +144,7 @@ fn value(tokens: &mut SplitWhitespace) -> String {
         }
         Some("l") => format!("(left {})", value(tokens)),
         Some("r") => format!("(right {})", value(tokens)),
+        Some("u") => String::from("trivial"),
         token => panic!("no value starts with {token:?}"),
     }
 }

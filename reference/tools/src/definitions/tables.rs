@@ -52,7 +52,7 @@ use mathlib.Core.Path.{{_≡_, refl}}
 use mathlib.Core.Bool.{{Bool, true, false}}
 use mathlib.Core.List.{{List, [], _∷_, map}}
 use mathlib.Core.Option.{{some, none}}
-use Rattle.semantics.specs.Value.{{num, tuple, left, right, empty, also}}
+use Rattle.semantics.specs.Value.{{num, tuple, left, right, trivial, empty, also}}
 {uses}use Rattle.crosscheck.specs.{name}.{{Row, computed, expected{own}}}
 
 unfoldable pub rows : List Row

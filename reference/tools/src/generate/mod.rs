@@ -23,6 +23,7 @@ pub mod values;
 
 use oracle::bundle::{read_bundle, write_bundle};
 use oracle::checks::{examine, Checked, Refusal, LONGEST_TO_EXAMINE};
+use oracle::words::{unpack_term, UNIT};
 
 /// Three tables and a term as words.
 #[derive(Clone, Debug, PartialEq, Eq)]
@@ -43,6 +44,11 @@ impl Sample {
             &self.term,
             LONGEST_TO_EXAMINE,
         )
+    }
+
+    /// Whether some node is a unit.
+    pub fn has_unit(&self) -> bool {
+        self.term.iter().any(|&word| unpack_term(word).0 == UNIT)
     }
 
     /// The number of words in all four tables.

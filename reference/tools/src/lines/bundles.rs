@@ -13,12 +13,12 @@ use oracle::listing::respond;
 const MOST_WORDS: usize = 30;
 
 /// The line of one random bundle.
-pub fn bundle_line(random: &mut Random) -> String {
+pub fn bundle_line(random: &mut Random, units: bool) -> String {
     let bytes = match random.below(3) {
-        0 => short(random, small_sample).bundle(),
-        1 => short(random, damaged_sample).bundle(),
+        0 => short(random, units, small_sample).bundle(),
+        1 => short(random, units, damaged_sample).bundle(),
         _ => {
-            let mut bytes = short(random, small_sample).bundle();
+            let mut bytes = short(random, units, small_sample).bundle();
             let small: Vec<&BundleDamage> = BUNDLE_DAMAGES.iter().filter(|d| d.is_small).collect();
             (random.pick(&small).apply)(random, &mut bytes);
             bytes
@@ -28,9 +28,9 @@ pub fn bundle_line(random: &mut Random) -> String {
 }
 
 /// A sample of at most 30 words.
-fn short(random: &mut Random, generate: fn(&mut Random) -> Sample) -> Sample {
+fn short(random: &mut Random, units: bool, generate: fn(&mut Random, bool) -> Sample) -> Sample {
     loop {
-        let sample = generate(random);
+        let sample = generate(random, units);
         if sample.words() <= MOST_WORDS {
             return sample;
         }

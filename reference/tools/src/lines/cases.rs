@@ -14,7 +14,7 @@
 //! fills the output's front.
 
 use super::{spaced, LONGEST_TERM};
-use crate::generate::damage::{apply_damages, Damage, DAMAGES};
+use crate::generate::damage::{apply_damages, damages, Damage, DAMAGES};
 use crate::generate::terms::random_sample;
 use crate::generate::{Profile, Sample};
 use crate::random::Random;
@@ -34,20 +34,20 @@ struct Limits {
 }
 
 /// The line of one random case.
-pub fn case_line(random: &mut Random) -> String {
+pub fn case_line(random: &mut Random, units: bool) -> String {
     let (sample, limits) = match random.below(12) {
         0..4 => {
-            let sample = small_sample(random);
+            let sample = small_sample(random, units);
             let limits = ample_limits(random);
             (sample, limits)
         }
         4..7 => {
-            let sample = small_sample(random);
+            let sample = small_sample(random, units);
             let limits = tight_limits(random, &sample);
             (sample, limits)
         }
         _ => {
-            let sample = damaged_sample(random);
+            let sample = damaged_sample(random, units);
             let limits = if random.chance(50) {
                 ample_limits(random)
             } else {
@@ -60,8 +60,9 @@ pub fn case_line(random: &mut Random) -> String {
 }
 
 /// A well-typed small sample.
-pub fn small_sample(random: &mut Random) -> Sample {
-    sample_within(random, Profile::SMALL)
+pub fn small_sample(random: &mut Random, units: bool) -> Sample {
+    let small = Profile::SMALL;
+    sample_within(random, Profile { units, ..small })
 }
 
 /// A well-typed sample with a short term, in half of the cases with demand 3's premise.
@@ -80,10 +81,11 @@ fn sample_within(random: &mut Random, profile: Profile) -> Sample {
 }
 
 /// A small sample with one fault, or two under different numbers.
-pub fn damaged_sample(random: &mut Random) -> Sample {
-    let first = random_damage(random);
-    let second = random_damage(random);
-    let mut sample = sample_within(random, Profile::SMALLER);
+pub fn damaged_sample(random: &mut Random, units: bool) -> Sample {
+    let first = random_damage(random, units);
+    let second = random_damage(random, units);
+    let smaller = Profile::SMALLER;
+    let mut sample = sample_within(random, Profile { units, ..smaller });
     if first.refusal != second.refusal && random.chance(25) {
         apply_damages(random, &mut sample, &[first, second]);
     } else {
@@ -92,13 +94,15 @@ pub fn damaged_sample(random: &mut Random) -> Sample {
     sample
 }
 
-/// A fault that leaves samples small; all numbers are equally likely.
-fn random_damage(random: &mut Random) -> &'static Damage {
+/// A fault that leaves samples small, of the base dialect or of any; all numbers are equally likely.
+fn random_damage(random: &mut Random, units: bool) -> &'static Damage {
     let refusal = random.between(1, 9) as u32;
-    let candidates: Vec<&'static Damage> = DAMAGES
-        .iter()
-        .filter(|damage| damage.is_small && damage.refusal == refusal)
-        .collect();
+    let mut candidates = if units {
+        damages()
+    } else {
+        DAMAGES.iter().collect()
+    };
+    candidates.retain(|damage| damage.is_small && damage.refusal == refusal);
     candidates[random.below(candidates.len())]
 }
 

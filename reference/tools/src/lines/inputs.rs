@@ -15,8 +15,8 @@ use oracle::free_inputs::free_inputs;
 const LONGEST_TERM: usize = 40;
 
 /// The line of one random term.
-pub fn inputs_line(random: &mut Random) -> String {
-    let sample = short(random);
+pub fn inputs_line(random: &mut Random, units: bool) -> String {
+    let sample = short(random, units);
     let answer = sample.free_inputs(free_inputs);
     [
         spaced(&sample.types),
@@ -31,16 +31,17 @@ pub fn inputs_line(random: &mut Random) -> String {
 }
 
 /// A sample with a term of at most 40 words.
-fn short(random: &mut Random) -> Sample {
+fn short(random: &mut Random, units: bool) -> Sample {
     loop {
         let sample = match random.below(8) {
+            0..6 if units => with_units(random),
             0..3 => {
                 let count = random_count(random);
                 sample_of_inputs(random, &Profile::SMALL, count)
             }
             3..6 => random_reading(random, 4, 5).sample,
-            6 => damaged_sample(random),
-            _ => with_a_wrong_variable(random),
+            6 => damaged_sample(random, units),
+            _ => with_a_wrong_variable(random, units),
         };
         if sample.term.len() <= LONGEST_TERM {
             return sample;
@@ -48,9 +49,24 @@ fn short(random: &mut Random) -> Sample {
     }
 }
 
+/// A random term with a unit.
+fn with_units(random: &mut Random) -> Sample {
+    loop {
+        let count = random_count(random);
+        let sample = sample_of_inputs(random, &Profile::SMALL.with_units(), count);
+        if sample.has_unit() {
+            return sample;
+        }
+    }
+}
+
 /// A sample with many inputs, one of which is taken away: a variable may name none then.
-fn with_a_wrong_variable(random: &mut Random) -> Sample {
-    let mut sample = random_reading(random, 4, 5).sample;
+fn with_a_wrong_variable(random: &mut Random, units: bool) -> Sample {
+    let mut sample = if units {
+        with_units(random)
+    } else {
+        random_reading(random, 4, 5).sample
+    };
     sample.inputs.pop();
     sample
 }

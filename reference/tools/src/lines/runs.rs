@@ -2,15 +2,15 @@
 //!
 //! One run a line: `types;calls;inputs;term;input values;answer;trace`. The tables are decimal
 //! words separated by spaces. A value is written in prefix order as tokens separated by spaces:
-//! `n K` is the number K, `p A B` a pair, `l A` and `r A` are injections; the input values follow
-//! one another. The trace is `call-number:argument,argument` for each call made, in order,
-//! separated by `|`.
+//! `n K` is the number K, `p A B` a pair, `l A` and `r A` are injections, `u` is the unit; the input
+//! values follow one another. The trace is `call-number:argument,argument` for each call made, in
+//! order, separated by `|`.
 //!
 //! The answering function is fixed. For call k with some arguments let S be the sum of all
-//! numbers in the arguments, with 1 for each left and 2 for each right injection in them, and
-//! N = (7k + 3S + 1) mod 5. The answer at a base type is N; at a product the pair of the answers
-//! at both parts; at a sum, the left injection of the answer at the left part if N is even, else
-//! the right injection of the answer at the right part.
+//! numbers in the arguments, with 1 for each left and 2 for each right injection and 3 for each unit
+//! in them, and N = (7k + 3S + 1) mod 5. The answer at a base type is N; at the unit type the unit; at
+//! a product the pair of the answers at both parts; at a sum, the left injection of the answer at the
+//! left part if N is even, else the right injection of the answer at the right part.
 
 use super::{spaced, LONGEST_TERM};
 use crate::generate::terms::random_sample;
@@ -23,9 +23,10 @@ const FUEL: u64 = 1000;
 const LONGEST_TRACE: usize = 20;
 
 /// The line of one random run.
-pub fn run_line(random: &mut Random) -> String {
+pub fn run_line(random: &mut Random, units: bool) -> String {
+    let small = Profile::SMALL.first_order();
     loop {
-        let sample = random_sample(random, &Profile::SMALL.first_order());
+        let sample = random_sample(random, &Profile { units, ..small });
         let Ok(checked) = sample.examine() else {
             continue;
         };

@@ -69,9 +69,7 @@ impl Contents {
     fn unit_sample(&mut self) -> Sample {
         loop {
             let sample = random_sample(&mut self.random, &Profile::SMALL.with_units());
-            let mut nodes = sample.term.iter().map(|&word| unpack_term(word).0);
-            let has_unit = nodes.any(|kind| kind == UNIT);
-            if has_unit && (10..=30).contains(&sample.term.len()) {
+            if sample.has_unit() && (10..=30).contains(&sample.term.len()) {
                 return sample;
             }
         }
