@@ -70,7 +70,8 @@ module _ (tables : Tables) where
       by (no e) =
           let n = node t in
           infer-node t Γ s e (omega (arith, z))
-          ∙ ap (λ (ts : Terms). inferParts tables (n .kind) (n .type) Γ ts 0 (0 ∷ 0 ∷ 0 ∷ []) >>= nodeType tables (n .kind) (n .number) (n .type))
+          ∙ ap (λ (ts : Terms). inferParts tables (n .kind) (n .type) Γ ts 0 (0 ∷ 0 ∷ 0 ∷ [])
+          >>= nodeType tables (n .kind) (n .number) (n .type))
           (no-parts (n .parts) z)
           ∙ sym (ap (λ (b : Bool). cond b (getElem? Γ (n .number)) (nodeType tables (n .kind) (n .number) (n .type) (0 ∷ 0 ∷ 0 ∷ [])))
           (ne-eqb (n .kind) 0 e))

@@ -8,7 +8,8 @@ use Rattle.syntax.specs.Encoding.{size}
 use Rattle.reduction.specs.declared.Phase.{Phase}
 use Rattle.reduction.specs.Redex.{Step as Stepped, step}
 use Rattle.syntax.proofs.Options.{Every, every-none, every-map, every-at}
-use Rattle.reduction.proofs.Structure.{Hit, here, find, finds, find-var, find-unit, finds-done, find-call, find-lam, find-app, find-bind}
+use Rattle.reduction.proofs.Structure.{Hit, here, find, finds, find-var, find-unit, finds-done, find-call, find-lam, find-app}
+use Rattle.reduction.proofs.Structure.{find-bind}
 use Rattle.reduction.proofs.Structure.{find-pair, find-fst, find-snd, find-inl, find-inr, find-case, finds-arg, step-find}
 use Rattle.reduction.proofs.Roots.{Step, StepAll, s-root, s-call, s-lam, s-app₁, s-app₂, s-bind₁, s-bind₂, s-pair₁, s-pair₂, s-fst}
 use Rattle.reduction.proofs.Roots.{s-snd, s-inl, s-inr, s-case₁, s-case₂, s-case₃, s-this, s-next}

@@ -8,7 +8,8 @@ use Rattle.syntax.specs.Encoding.{size}
 use Rattle.reduction.specs.Rules.{rules}
 use Rattle.reduction.specs.declared.Phase.{Phase}
 use Rattle.reduction.specs.Redex.{Contraction, contract, Step as Stepped, step}
-use Rattle.reduction.proofs.Structure.{Hit, _or_, inside, stepOf, here, find, finds, find-var, find-unit, finds-done, find-call, find-lam}
+use Rattle.reduction.proofs.Structure.{Hit, _or_, inside, stepOf, here, find, finds, find-var, find-unit, finds-done, find-call}
+use Rattle.reduction.proofs.Structure.{find-lam}
 use Rattle.reduction.proofs.Structure.{find-app, find-bind, find-pair, find-fst, find-snd, find-inl, find-inr, find-case, finds-arg}
 use Rattle.reduction.proofs.Structure.{step-find}
 use Rattle.syntax.proofs.Options.{Every, every-none, every-some, every-map, every-at, map-none}

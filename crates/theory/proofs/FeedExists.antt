@@ -1,5 +1,6 @@
 -- What the claim asks of a run's feed can be met: a known type with no function in it has a value, so a term whose types have no function
--- can be fed. The value is read off the type's tree: a number for a base type, a pair for a product, the left injection for a sum, the unit type's own.
+-- can be fed. The value is read off the type's tree: a number for a base type, a pair for a product, the left injection for a sum, and the
+-- unit type's own.
 use mathlib.Core.Path.{_≡_, refl, sym, _∙_, ap, subst}
 use mathlib.Core.List.{List, [], _∷_}
 use mathlib.Core.Option.{Option, some, none, Option·some-ne-none}

@@ -6,15 +6,14 @@ use mathlib.Core.List.{List, _++_, append-assoc}
 use mathlib.Core.Option.{Option, some, none, Option·map}
 use lib.ListN.{getD}
 use Prim.Native.Nat.{ℕ}
-use native.Mathlib.Omega.{arith}
 use Rattle.syntax.specs.Maybe.{given}
 use Rattle.syntax.specs.Words.{kindOf}
 use Rattle.syntax.specs.Term.{Term, var, call, lam, app, bind, pair, fst, snd, inl, inr, case, unit, node, partsOf, asVar, asLam, asApp}
 use Rattle.syntax.specs.Term.{asBind, asPair, asFst, asSnd, asInl, asInr, asCase}
-use Rattle.syntax.specs.Encoding.{wordOf, encode}
+use Rattle.syntax.specs.Encoding.{encode}
 use Rattle.syntax.specs.Shaped.{Shaped}
 use Rattle.syntax.specs.Values.{isValue, isComputation}
-use Rattle.syntax.proofs.Decoding.{kind-pack}
+use Rattle.syntax.proofs.Nodes.{front}
 use Rattle.syntax.proofs.Options.{is-true, both-true}
 use Rattle.reduction.specs.Rules.{letOfLet, letOfCase, apply, first, second, leftCase, rightCase, letValue, fire, rules}
 use Rattle.reduction.specs.declared.Phase.the-variants.{Reduction}
@@ -179,42 +178,12 @@ module _ (pure : Term → Bool) where
   by-kinds (unit A) d₁ d₂ e = refl
 
 module _ (calls : List ℕ) where
-  kind-word : (t : Term) → Shaped calls t → kindOf (wordOf t) ≡ node t .kind
-  unfolding Shaped node
-  kind-word (var n) s = kind-pack 0 n 0 s (omega arith)
-  kind-word (call k ts) s = kind-pack 1 k 0 (s .0) (omega arith)
-  kind-word (lam A b) s = kind-pack 2 0 A (omega arith) (s .0)
-  kind-word (app f a) s = kind-pack 3 0 0 (omega arith) (omega arith)
-  kind-word (bind e b) s = kind-pack 4 0 0 (omega arith) (omega arith)
-  kind-word (pair A a b) s = kind-pack 5 0 A (omega arith) (s .0)
-  kind-word (fst a) s = kind-pack 6 0 0 (omega arith) (omega arith)
-  kind-word (snd a) s = kind-pack 7 0 0 (omega arith) (omega arith)
-  kind-word (inl A a) s = kind-pack 8 0 A (omega arith) (s .0)
-  kind-word (inr A a) s = kind-pack 9 0 A (omega arith) (s .0)
-  kind-word (case c l r) s = kind-pack 10 0 0 (omega arith) (omega arith)
-  kind-word (unit A) s = kind-pack 11 0 A (omega arith) s
-
   -- the kind of the word at an index
   abbrev kindAt : List ℕ → ℕ → ℕ
   kindAt ws i = kindOf (getD ws i 0)
 
-  word₀ : (t : Term) (rest : List ℕ) → getD (encode t ++ rest) 0 0 ≡ wordOf t
-  unfolding encode
-  word₀ (var n) rest = refl
-  word₀ (call k ts) rest = refl
-  word₀ (lam A b) rest = refl
-  word₀ (app f a) rest = refl
-  word₀ (bind e b) rest = refl
-  word₀ (pair A a b) rest = refl
-  word₀ (fst a) rest = refl
-  word₀ (snd a) rest = refl
-  word₀ (inl A a) rest = refl
-  word₀ (inr A a) rest = refl
-  word₀ (case s l r) rest = refl
-  word₀ (unit A) rest = refl
-
   at₀ : (t : Term) (rest : List ℕ) → Shaped calls t → kindAt (encode t ++ rest) 0 ≡ node t .kind
-  at₀ t rest s = ap kindOf (word₀ t rest) ∙ kind-word t s
+  at₀ t rest s = front calls (encode t ++ rest) t rest s refl .kind
 
   part₀ : (t : Term) (ws rest : List ℕ) → Shaped calls t → kindAt ((encode t ++ ws) ++ rest) 0 ≡ node t .kind
   part₀ t ws rest s = ap (λ (us : List ℕ). kindAt us 0) (append-assoc (encode t) ws rest) ∙ at₀ t (ws ++ rest) s

@@ -18,7 +18,8 @@ use Rattle.reduction.specs.declared.Phase.the-variants.{Reduction}
 use Rattle.reduction.specs.Redex.{Contraction, contract, step}
 use Rattle.reduction.specs.declared.Rule.{Rule}
 use Rattle.reduction.specs.NormalForm.{needed, NormalValue, NormalValues, Operation, Normal, variable, function, product as both, left}
-use Rattle.reduction.specs.NormalForm.{right, the-unit, no-more, more, application, calling, first as taking₁, second as taking₂, value, operation}
+use Rattle.reduction.specs.NormalForm.{right, the-unit, no-more, more, application, calling, first as taking₁, second as taking₂, value}
+use Rattle.reduction.specs.NormalForm.{operation}
 use Rattle.reduction.specs.NormalForm.{letting, branching}
 use Rattle.syntax.proofs.Options.{given-none, both-true, or-true, not-both}
 use Rattle.typing.proofs.Typing.{Of, of-kind, Typed, TypedAll, t-var, t-call, t-lam, t-app, t-bind, t-pair, t-fst, t-snd, t-inl, t-inr}

@@ -11,7 +11,8 @@ use Rattle.reduction.specs.Rules.{letOfLet, letOfCase, apply, first, second, le
 use Rattle.reduction.specs.declared.Phase.the-variants.{Insertion}
 use Rattle.reduction.specs.declared.Phase.the-variants.{Reduction}
 use Rattle.reduction.specs.Redex.{contract, step}
-use Rattle.reduction.specs.NormalForm.{NormalValue, NormalValues, Operation, Normal, variable, function, product as both, left, right, the-unit}
+use Rattle.reduction.specs.NormalForm.{NormalValue, NormalValues, Operation, Normal, variable, function, product as both, left, right}
+use Rattle.reduction.specs.NormalForm.{the-unit}
 use Rattle.reduction.specs.NormalForm.{no-more, more, application, calling, first as taking₁, second as taking₂, value, operation, letting}
 use Rattle.reduction.specs.NormalForm.{branching}
 use Rattle.reduction.proofs.Roots.{Drops, r-drop, Step, StepAll, s-root, s-call, s-lam, s-app₁, s-app₂, s-bind₁, s-bind₂, s-pair₁, s-pair₂}

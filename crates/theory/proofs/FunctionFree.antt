@@ -126,7 +126,8 @@ module _ (tables : Tables) (wf : Earlier tables) where
         (sym (ty-is tables wf 2 A l r e)) (lefts (has-related h))
     has-related (a-right {A = A} {l = l} {r = r} {v = v} e h) = subst (λ (Y : Ty). Related answer C Y (right v) (right v))
         (sym (ty-is tables wf 2 A l r e)) (rights (has-related h))
-    has-related (a-unit {A = A} {X = X} e) = subst (λ (Y : Ty). Related answer C Y trivial trivial) (sym (ty-is tables wf 3 A (X .0) (X .1) e)) units
+    has-related (a-unit {A = A} {X = X} e) =
+        subst (λ (Y : Ty). Related answer C Y trivial trivial) (sym (ty-is tables wf 3 A (X .0) (X .1) e)) units
 
     pub has-rel : {A : ℕ} {v : Value} → HasType tables A v → Rel tables answer C A v v
     has-rel h = record { rel = has-related h }

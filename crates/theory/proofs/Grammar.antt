@@ -17,7 +17,8 @@ use Rattle.reduction.specs.declared.Phase.the-variants.{Insertion, Reduction, D
 use Rattle.reduction.specs.Redex.{Contraction, contract, Step as Stepped, step}
 use Rattle.reduction.specs.declared.Rule.the-variants.{Drop}
 use Rattle.reduction.specs.NormalForm.{isNormal, needed, NormalValue, NormalValues, Operation, Normal, variable, function, product as both}
-use Rattle.reduction.specs.NormalForm.{left, right, the-unit, no-more, more, application, calling, first as taking₁, second as taking₂, value}
+use Rattle.reduction.specs.NormalForm.{left, right, the-unit, no-more, more, application, calling, first as taking₁, second as taking₂}
+use Rattle.reduction.specs.NormalForm.{value}
 use Rattle.reduction.specs.NormalForm.{operation, letting, branching}
 use Rattle.syntax.proofs.Options.{and-left, and-right, or-true}
 use Rattle.typing.proofs.InferTyped.{typing-of}

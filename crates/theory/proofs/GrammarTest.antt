@@ -7,7 +7,8 @@ use Prim.Native.Nat.{ℕ}
 use Rattle.syntax.specs.Maybe.{isSome}
 use Rattle.syntax.specs.Term.{Term, Terms, var, call, lam, app, bind, pair, fst, snd, inl, inr, case, unit, done, arg, node, asVar}
 use Rattle.reduction.specs.NormalForm.{needed, NormalValue, NormalValues, Operation, Normal, variable, function, product as both, left}
-use Rattle.reduction.specs.NormalForm.{right, the-unit, no-more, more, application, calling, first as taking₁, second as taking₂, value, operation}
+use Rattle.reduction.specs.NormalForm.{right, the-unit, no-more, more, application, calling, first as taking₁, second as taking₂, value}
+use Rattle.reduction.specs.NormalForm.{operation}
 use Rattle.reduction.specs.NormalForm.{letting, branching}
 use Rattle.reduction.specs.Grammar.{Class, aValue, anOperation, aBlock, notNormal, isAValue, isAnOperation, isInGrammar, provided, class}
 use Rattle.reduction.specs.Grammar.{areValues, inGrammar}

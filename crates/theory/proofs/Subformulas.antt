@@ -11,7 +11,8 @@ use Rattle.syntax.specs.Tables.{Tables, arrow, product, sum, isComposite, Signa
 use Rattle.syntax.specs.Term.{Term, Terms, var}
 use Rattle.typing.specs.Infer.{Context}
 use Rattle.typing.specs.NodeTypes.{_then_, _and_, nodeTypes, nodeTypesAll}
-use Rattle.reduction.specs.NormalForm.{NormalValue, NormalValues, Operation, Normal, variable, function, product as both, left, right, the-unit}
+use Rattle.reduction.specs.NormalForm.{NormalValue, NormalValues, Operation, Normal, variable, function, product as both, left, right}
+use Rattle.reduction.specs.NormalForm.{the-unit}
 use Rattle.reduction.specs.NormalForm.{no-more, more, application, calling, first as taking₁, second as taking₂, value, operation, letting}
 use Rattle.reduction.specs.NormalForm.{branching}
 use Rattle.syntax.specs.Lists.{_∈_, here, there}

@@ -63,7 +63,8 @@ abbrev pub formerElaborate : ℕ → Tables → List ℕ → Verdict TypedTerm
 formerElaborate limit tables words = elaborateBy (formerTypes 0 (tables .types)) (every (formerWord tables) words) limit tables words
 
 pub elaborate-by : (limit : ℕ) (tables : Tables) (words : List ℕ)
-    → elaborate limit tables words ≡ elaborateBy (wellFormedTypes 0 (tables .types)) (every (wellFormedWord tables) words) limit tables words
+    → elaborate limit tables words
+    ≡ elaborateBy (wellFormedTypes 0 (tables .types)) (every (wellFormedWord tables) words) limit tables words
 unfolding elaborate elaborateBy
 elaborate-by limit tables words = refl
 

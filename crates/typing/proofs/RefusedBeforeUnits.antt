@@ -54,6 +54,6 @@ module _ (limit : ℕ) (tables : Tables) (words : List ℕ) where
   pub former-refused : (n : ℕ) → n ≢ 2 → n ≢ 6 → formerElaborate limit tables words ≡ refused n → elaborate limit tables words ≡ refused n
   former-refused n x y e = elaborate-by limit tables words
       ∙ chain n (formerTypes 0 (tables .types)) (wellFormedTypes 0 (tables .types)) (every (formerWord tables) words)
-      (every (wellFormedWord tables) words) 
+      (every (wellFormedWord tables) words)
       (λ h. subst⁻¹ T (types-same 0 (tables .types) (types-without 0 (tables .types) h)) h)
       (λ h. subst⁻¹ T (words-same tables words (words-without tables words h)) h) x y .still e

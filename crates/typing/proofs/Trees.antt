@@ -180,7 +180,9 @@ pub entry-formed : (ws : List ℕ) → T (wellFormedTypes 0 ws) → (A w : ℕ) 
 entry-formed ws h A w e = formed A w (subst (λ (n : ℕ). T (wellFormedType n w)) (omega arith) (entry 0 ws h A w e))
 
 pub earlier : (tables : Tables) → T (wellFormedTypes 0 (tables .types)) → Earlier tables
-earlier tables h = record { parts = λ A w k c e q. below A w (subst (λ (j : ℕ). T (isComposite j)) (sym q) c) (entry-formed (tables .types) h A w e) }
+earlier tables h = record {
+  parts = λ A w k c e q. below A w (subst (λ (j : ℕ). T (isComposite j)) (sym q) c) (entry-formed (tables .types) h A w e);
+}
   where
     below : (A w : ℕ) → T (isComposite (kindOf w)) → Formed A w → (leftOf w < A) × (rightOf w < A)
     below A w c (a-base z _) = absurd (subst (λ (k : ℕ). T (isComposite k)) z c)

@@ -99,7 +99,8 @@ module _ (tables : Tables) (formed : T (wellFormedTypes 0 (tables .types))) (no-
       go (a-base h r) (a-base j s) = same-word w x (h ∙ sym j) (base-name _ _ _ _ _ _ (at-kind 0 h j)) (r ∙ sym s)
       go (a-base h r) (a-composite j k _ _) = let z = kinds (omega arith) (omega arith) in absurd (omega arith)
       go (a-composite h k _ _) (a-base j s) = let z = kinds (omega arith) (omega arith) in absurd (omega arith)
-      go (a-composite h k a b) (a-composite j m c d) = let z = kinds (omega arith) (omega arith) in composite (kindOf w) refl (sym z) h k a b c d
+      go (a-composite h k a b) (a-composite j m c d) =
+          let z = kinds (omega arith) (omega arith) in composite (kindOf w) refl (sym z) h k a b c d
       go (a-unit h l r) (a-unit j m s) = same-word w x (h ∙ sym j) (l ∙ sym m) (r ∙ sym s)
       go (a-unit h _ _) (a-base j _) = let z = kinds (omega arith) (omega arith) in absurd (omega arith)
       go (a-unit h _ _) (a-composite j k _ _) = let z = kinds (omega arith) (omega arith) in absurd (omega arith)

@@ -34,7 +34,8 @@ module _ (tables : Tables) (ok : ℕ → Type 0) where
     typed-scoped {Γ} {t} (t-snd o x) = rw (scoped-node (length Γ) t) (simp (add-zero, typed-scoped x))
     typed-scoped {Γ} {t} (t-inl o x) = rw (scoped-node (length Γ) t) (simp (add-zero, typed-scoped x))
     typed-scoped {Γ} {t} (t-inr o x) = rw (scoped-node (length Γ) t) (simp (add-zero, typed-scoped x))
-    typed-scoped {Γ} {t} (t-case o x y z) = rw (scoped-node (length Γ) t) (simp (add-zero, add-one, typed-scoped x, typed-scoped y, typed-scoped z))
+    typed-scoped {Γ} {t} (t-case o x y z) =
+        rw (scoped-node (length Γ) t) (simp (add-zero, add-one, typed-scoped x, typed-scoped y, typed-scoped z))
     typed-scoped {Γ} {t} (t-unit o) = scoped-node (length Γ) t
 
     typed-scopedAll : {Γ : Context} {ts : Terms} {As : List ℕ} → TypedAll tables ok Γ ts As → (j : ℕ) → scopedParts (length Γ) 1 j ts ≡ true

@@ -1,6 +1,6 @@
 -- A base type's right field is zero, a unit type's fields are, any other type's parts are earlier.
 use mathlib.Core.Path.{_≡_, refl, sym}
-use mathlib.Core.Bool.{Bool, false, _&&_, _||_, or-false}
+use mathlib.Core.Bool.{Bool, true, false, _&&_, _||_, or-false}
 use Prim.Native.Nat.{ℕ, _≤_, _<_}
 use native.Mathlib.Omega.{arith}
 use lib.Dec.{leb, ltb, eqb}
@@ -34,12 +34,14 @@ module _ (i w k r : ℕ) (ke : k ≡ kindOf w) (re : r ≡ rightOf w) where
     unit-set z h = of-word _ l le (rw z (simp (ne-eqb l 0 h)))
 
     module _ (z : k ≡ 0 → ⊥) (u : k ≡ 4 → ⊥) (h : k ≤ 4) where
+      low : leb k 3 ≡ true
+      low = le-leb k 3 (omega (arith, h, u))
+
       parts : l < i → ltb r i ≡ wellFormedType i w
-      parts p = of-word _ l le (simp (ne-eqb k 0 z, le-leb 1 k (omega (arith, z)), le-leb k 3 (omega (arith, h, u)), ne-eqb k 4 u, lt-ltb l i p,
-          or-false (ltb r i)))
+      parts p = of-word _ l le (simp (ne-eqb k 0 z, le-leb 1 k (omega (arith, z)), low, ne-eqb k 4 u, lt-ltb l i p, or-false (ltb r i)))
 
       late : i ≤ l → false ≡ wellFormedType i w
-      late p = of-word _ l le (simp (ne-eqb k 0 z, le-leb 1 k (omega (arith, z)), le-leb k 3 (omega (arith, h, u)), ne-eqb k 4 u, le-ltb l i p))
+      late p = of-word _ l le (simp (ne-eqb k 0 z, le-leb 1 k (omega (arith, z)), low, ne-eqb k 4 u, le-ltb l i p))
 
 -- the places: both fields are known, the right one first
 abbrev Right : Type 0
@@ -74,12 +76,12 @@ type-fits-spec =
     let n : Left = search in
     let z : tie.Else1 = search in
     let h : tie.Else2 = search in
-    parts _ (word f) _ _ (f .before .kind .ensures) (f .ty .ensures) _ (n .number .ensures) (z .if1 .left) (c .before .if3 .left) (h .if2 .left)
-    (c .if5 .taken))
+    parts _ (word f) _ _ (f .before .kind .ensures) (f .ty .ensures) _ (n .number .ensures) (z .if1 .left) (c .before .if3 .left)
+    (h .if2 .left) (c .if5 .taken))
     (λ c.
     let f : Right = search in
     let n : Left = search in
     let z : tie.Else1 = search in
     let h : tie.Else2 = search in
-    late _ (word f) _ _ (f .before .kind .ensures) (f .ty .ensures) _ (n .number .ensures) (z .if1 .left) (c .before .if3 .left) (h .if2 .left)
-    (c .if5 .left)))
+    late _ (word f) _ _ (f .before .kind .ensures) (f .ty .ensures) _ (n .number .ensures) (z .if1 .left) (c .before .if3 .left)
+    (h .if2 .left) (c .if5 .left)))

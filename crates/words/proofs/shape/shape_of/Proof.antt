@@ -88,7 +88,8 @@ shape-of-spec =
     (λ c.
     let n = c .before .before .before .match .rest .0 .0 in
     either 6 _ _ (exact 6 _ (c .shaped8 .ensures)) (exact 7 _ (c .shaped8 .ensures))
-    (on 5 _ (on 4 _ (on 3 _ (on 2 _ (c .before .before .if1 .left) (n .0 .0 .0 .1)) (n .0 .0 .1)) (n .0 .1)) (n .1)) (c .before .if2 .taken))
+    (on 5 _ (on 4 _ (on 3 _ (on 2 _ (c .before .before .if1 .left) (n .0 .0 .0 .1)) (n .0 .0 .1)) (n .0 .1)) (n .1))
+    (c .before .if2 .taken))
     (λ c. either 8 _ _ (exact 8 _ (c .shaped9 .ensures)) (exact 9 _ (c .shaped9 .ensures)) (c .before .before .if2 .left)
     (c .before .if3 .taken))
     (λ c.
