@@ -1,14 +1,13 @@
 -- Cases with the unit type: its word and its node refused and accepted, its value in rules and in runs, and inputs that are read beside it.
-use Prim.Native.Nat.{ℕ, _+_, _*_, _^_}
+use Prim.Native.Nat.{ℕ, _+_, _^_}
 use mathlib.Core.Bool.{true, false}
 use mathlib.Core.List.{List, [], _∷_, _++_}
-use lib.ListN.{replicate}
 use Rattle.syntax.specs.Words.{pack}
 use Rattle.syntax.specs.Tables.{Tables, over}
-use Rattle.syntax.specs.Term.{Term, var, lam, app, bind, inl, inr, case, unit}
+use Rattle.syntax.specs.Term.{Term, lam, app, bind, inl, inr, case, unit}
 use Rattle.syntax.specs.Encoding.{encode}
 use Rattle.reduction.specs.Reduction.{Counts, zeroCounts}
-use Rattle.semantics.specs.Value.{num, closure, left, right, trivial}
+use Rattle.semantics.specs.Value.{num, right, trivial}
 use Rattle.cases.specs.Table.{Case, roomy, c, d, v0, v1, refuses}
 use Rattle.cases.specs.Further.{Question, asks}
 use Rattle.cases.specs.Reading.{Reading, none, first}

@@ -2,7 +2,7 @@
 use mathlib.Core.Path.{_≡_}
 use Prim.Native.Nat.{ℕ, suc, _+_, _*_}
 use native.Mathlib.Omega.{arith}
-use Rattle.syntax.specs.Term.{Term, Terms, var, call, lam, app, bind, pair, fst, snd, inl, inr, case, unit}
+use Rattle.syntax.specs.Term.{Term, Terms, var, call, lam, app, bind, pair, fst, snd, inl, inr, case}
 use Rattle.syntax.specs.Encoding.{size}
 use Rattle.syntax.specs.Substitution.{traverseAll, under, renaming, rename, weaken, weakenBody, _⟦_⟧}
 use Rattle.syntax.specs.Values.{uses}

@@ -2,7 +2,7 @@
 use mathlib.Core.Bool.{Bool}
 use lib.Dec.{T, eqb}
 use Prim.Native.Nat.{ℕ, suc}
-use Rattle.syntax.specs.Term.{Term, Terms, var, call, lam, app, bind, pair, fst, snd, inl, inr, case, unit, arg}
+use Rattle.syntax.specs.Term.{Term, Terms, var, call, lam, app, bind, pair, fst, snd, inl, inr, case, arg}
 use Rattle.syntax.specs.Substitution.{traverseAll, renaming, rename, weaken, weakenBody, _⟦_⟧}
 use Rattle.syntax.specs.Values.{isValue, isComputation, uses}
 use Rattle.reduction.specs.Rules.{lower}

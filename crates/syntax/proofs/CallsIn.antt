@@ -3,7 +3,7 @@ use mathlib.Core.Path.{sym, subst}
 use mathlib.Core.List.{List, [], _∷_, _++_, map, map-map}
 use mathlib.Core.Option.{Option, some, none}
 use Prim.Native.Nat.{ℕ}
-use Rattle.syntax.specs.Term.{Term, Terms, call, lam, app, bind, pair, fst, snd, inl, inr, case, unit, arg, node, asCall}
+use Rattle.syntax.specs.Term.{Term, Terms, call, lam, app, bind, pair, fst, snd, inl, inr, case, arg, node, asCall}
 use Rattle.syntax.specs.Positions.{Position, within, bound, positions, positionsAll, subterms}
 use Rattle.syntax.specs.Lists.{_∈_, here, there}
 use Rattle.syntax.specs.Calls.{present, callsIn}

@@ -5,7 +5,7 @@ use mathlib.Core.List.{List, [], _∷_}
 use mathlib.Core.Option.{some, Option·some-injective}
 use lib.Dec.{T, ltb, ltb→lt}
 use lib.ListN.{length, getElem?}
-use Prim.Native.Nat.{ℕ, suc, _≤_, _<_}
+use Prim.Native.Nat.{ℕ, _<_}
 use native.Mathlib.Omega.{arith}
 use Rattle.syntax.specs.Tables.{Tables, arrow, product, sum, isComposite, Signature, signatureOf}
 use Rattle.syntax.specs.Term.{Term}

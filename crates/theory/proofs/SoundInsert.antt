@@ -6,7 +6,7 @@ use Rattle.syntax.specs.Term.{Term, var, bind, fst, snd, case}
 use Rattle.syntax.specs.Substitution.{weakenBody}
 use Rattle.typing.specs.Infer.{Context}
 use Rattle.semantics.specs.Value.{Value, Values, left, right, Trace}
-use Rattle.typing.proofs.Typing.{Of, Typed, t-call, t-app, t-pair, t-fst, t-snd, t-inl, t-inr, t-case, t-unit}
+use Rattle.typing.proofs.Typing.{Of, Typed, t-call, t-app, t-pair, t-fst, t-snd, t-inl, t-inr, t-case}
 use Rattle.theory.proofs.Ends.{ends-app, ends-bind, ends-pair, ends-fst, ends-snd, ends-inl, ends-inr}
 use Rattle.theory.proofs.Ends.{ends-case-left, ends-case-right}
 use Rattle.theory.proofs.Relation.{Pairs, pairs, Sums, lefts, rights, Model, Rv, Runs, E, from-arrow, from-product}

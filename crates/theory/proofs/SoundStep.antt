@@ -10,7 +10,6 @@ use Rattle.typing.specs.Infer.{Context}
 use Rattle.reduction.specs.Rules.{lower}
 use Rattle.semantics.specs.Value.{Value, Values, also, Trace}
 use Rattle.typing.proofs.Typing.{At, here, there, Typed, TypedAll, t-call, t-lam, t-app, t-bind, t-pair, t-fst, t-snd, t-inl, t-inr, t-case}
-use Rattle.typing.proofs.Typing.{t-unit}
 use Rattle.typing.proofs.Typing.{t-arg}
 use Rattle.theory.proofs.Ends.{ends-bind}
 use Rattle.theory.proofs.Relation.{Model, E, EAll, ends-related}

@@ -9,7 +9,7 @@ use Prim.Native.Nat.{ℕ}
 use Rattle.syntax.specs.Tables.{Tables}
 use Rattle.typing.specs.TableChecks.{every, lengthsFit, wellFormedTypes, distinct, wellFormedCalls, wellFormedInputs}
 use Rattle.typing.specs.TermChecks.{wellFormedWord}
-use Rattle.typing.specs.Refusals.{Verdict, refused, accepted, _>>=_, require, TypedTerm, elaborate}
+use Rattle.typing.specs.Refusals.{Verdict, refused, accepted, _>>=_, require, elaborate}
 use Rattle.typing.proofs.BeforeUnits.{formerTypes, formerWord, elaborateBy, formerElaborate, elaborate-by, types-without, types-same}
 use Rattle.typing.proofs.BeforeUnits.{words-without, words-same}
 
