@@ -6,6 +6,7 @@ use oracle::dialect::Dialect;
 use oracle::free_inputs::FreeInputs;
 use oracle::words::*;
 use std::collections::BTreeMap;
+use tools::generate::bundles::BUNDLE_DAMAGES;
 use tools::generate::damage::{apply_damages, flip_a_bit, Damage, DAMAGES};
 use tools::generate::each::{each_random_sample, each_sample_of_inputs, each_unit_sample};
 use tools::generate::limits::Limits;
@@ -100,6 +101,19 @@ fn the_base_dialect_knows_no_unit() {
         let base = outcome(Dialect::Base, &sample, limits);
         assert_eq!(base.checked.refusal, 6);
     });
+}
+
+#[test]
+fn damaged_bundles_are_refused_in_both() {
+    for damage in BUNDLE_DAMAGES.iter().filter(|damage| damage.is_small) {
+        each_unit_sample(67, 50, 30, |random, sample| {
+            let mut bytes = sample.bundle();
+            (damage.apply)(random, &mut bytes);
+            for dialect in [Dialect::Base, Dialect::CURRENT] {
+                assert!(dialect.respond(&bytes).starts_with(b"no 12 "));
+            }
+        });
+    }
 }
 
 /// Most often puts in one fault or more.

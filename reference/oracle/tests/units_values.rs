@@ -53,7 +53,7 @@ fn a_let_of_a_unit_is_removed_by_let_value_alone() {
 #[test]
 fn phase_one_binds_no_unit() {
     let (mut insertions, mut units_kept) = (0, 0);
-    each_unit_sample(82, 2000, 50, |_, sample| {
+    each_unit_sample(82, 4000, 50, |_, sample| {
         let checked = sample.examine().expect("generated samples are well typed");
         let mut term = checked.term;
         while let Some(redex) = first_redex(&term, Phase::Insertion) {
