@@ -31,6 +31,7 @@ fn a_repository_is_written_into_an_empty_folder_outside() {
     assert!(figures.contains("bundles: 12 rows; "));
     assert!(figures.contains("runs: 15 rows; "));
     assert!(figures.contains("inputs: 12 rows; "));
+    assert!(figures.contains("a unit is in ") && !figures.contains("a unit is in 0 "));
 
     let crosscheck = folder.join("crates/crosscheck");
     let text = |name: &str| fs::read_to_string(crosscheck.join(name)).expect("a module");

@@ -2,6 +2,7 @@
 
 use super::notation::hexadecimal_bytes;
 use oracle::rules::RULE_NAMES;
+use oracle::words::{unpack_term, UNIT};
 
 /// Of lines of `cases`: refusals, yes answers, and the steps of the accepted ones by rule.
 pub fn case_figures(lines: &[String]) -> String {
@@ -71,6 +72,33 @@ pub fn inputs_figures(lines: &[String]) -> String {
         counts().sum::<usize>(),
         greatest.map_or(String::from("-"), |input| input.to_string())
     )
+}
+
+/// Of lines of `cases`, `runs` and `inputs`: the terms with a unit, and the accepted among them.
+pub fn unit_figures(cases: &[String], runs: &[String], inputs: &[String]) -> String {
+    let units = |lines: &[String], refusal: usize| {
+        let fields = lines.iter().map(|line| line.split(';').collect());
+        let terms: Vec<Vec<&str>> = fields
+            .filter(|fields: &Vec<&str>| has_unit(fields[3]))
+            .collect();
+        let accepted = terms.iter().filter(|fields| fields[refusal] == "0").count();
+        (terms.len(), accepted)
+    };
+    let (in_cases, cases_accepted) = units(cases, 8);
+    let (in_inputs, inputs_accepted) = units(inputs, 4);
+    let in_runs = units(runs, 3).0;
+    format!(
+        "a unit is in {in_cases} terms of cases ({cases_accepted} accepted), in {in_runs} of runs and in \
+         {in_inputs} of inputs ({inputs_accepted} accepted)\n"
+    )
+}
+
+/// Whether one of these words is a unit.
+fn has_unit(term: &str) -> bool {
+    let mut words = term
+        .split_whitespace()
+        .map(|word| word.parse::<u64>().expect("a word"));
+    words.any(|word| unpack_term(word).0 == UNIT)
 }
 
 /// The greatest input that the four words mark.

@@ -45,7 +45,8 @@ abbrev pub side : ℕ → Value → Value → Value
 side zero v w = left v
 side (suc n) v w = right w
 
--- a number spread over a type: itself at a base type, in both parts of a product, in one part of a sum, nowhere at the unit type; parts go so many levels down
+-- a number spread over a type: itself at a base type, in both parts of a product, in one part of a sum, nowhere at the unit type; parts
+-- go so many levels down
 unfoldable pub spread : Tables → ℕ → ℕ → ℕ → Value
 spread tables zero n A = num n
 spread tables (suc levels) n A = elim (components tables product A) [
