@@ -70,7 +70,7 @@ pub fn u() -> Phrase {
 }
 
 /// A part under so many unused lets.
-pub fn under_lets(lets: usize, part: Phrase) -> Phrase {
+fn under_lets(lets: usize, part: Phrase) -> Phrase {
     let mut term = [pack_term(LET, 0, 0), pack_term(CALL, C, 0)].repeat(lets);
     term.extend(part);
     term
@@ -142,26 +142,20 @@ fn bound() -> Vec<Shape> {
 /// Helpers that take nothing, calls on units, and cases with nothing in a branch.
 fn used() -> Vec<Shape> {
     let helper = function(U_TO_B, &call(D, &[&c()]));
-    let twice = pair(B_AND_U, &apply(&variable(0), &u()), &u());
+    let once = apply(&variable(0), &u());
+    let in_a_pair = pair(B_AND_U, &once, &u());
+    // The first answer is not used; under its let the helper is variable 1.
+    let again = pair(B_AND_U, &apply(&variable(1), &u()), &u());
     vec![
-        shape(
-            "a helper",
-            sample(&[], let_in(&helper, &apply(&variable(0), &u()))),
-        ),
+        shape("a helper", sample(&[], let_in(&helper, &once))),
         shape(
             "a helper twice",
-            sample(
-                &[],
-                let_in(
-                    &helper,
-                    &let_in(
-                        &apply(&variable(0), &u()),
-                        &pair(B_AND_U, &apply(&variable(1), &u()), &u()),
-                    ),
-                ),
-            ),
+            sample(&[], let_in(&helper, &let_in(&once, &again))),
         ),
-        shape("a helper in a pair", sample(&[], let_in(&helper, &twice))),
+        shape(
+            "a helper in a pair",
+            sample(&[], let_in(&helper, &in_a_pair)),
+        ),
         shape(
             "a helper of a given unit",
             sample(&[], let_in(&helper, &apply(&variable(0), &call(GIVE, &[])))),

@@ -65,7 +65,7 @@ impl Contents {
         self.normalize(sample, limits);
     }
 
-    /// A random term with units, of 10 to 30 words, whose walk is not long.
+    /// A random term with units, of 10 to 30 words.
     fn unit_sample(&mut self) -> Sample {
         loop {
             let sample = random_sample(&mut self.random, &Profile::SMALL.with_units());
