@@ -75,7 +75,7 @@ fn refused_by_each_check() {
         (3, types(&[0, 0]), &[C]),
         (4, calls(&[4 << 60]), &[C]),
         (5, inputs(&[2]), &[C]),
-        (6, TABLES, &[11 << 60]),
+        (6, TABLES, &[12 << 60]),
         (7, TABLES, &[LET, C]),
         (8, TABLES, &[variable(256)]),
         (9, TABLES, &[6 << 60, C]),

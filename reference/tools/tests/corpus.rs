@@ -12,7 +12,7 @@ use std::collections::BTreeSet;
 use std::fs::read;
 use std::path::Path;
 
-const MOST_BYTES: usize = 4_000_000;
+const MOST_BYTES: usize = 4_500_000;
 
 #[test]
 fn committed_files_are_the_generated_ones() {

@@ -72,11 +72,14 @@ fn it_answers_terms_with_units() {
     let (Some(respond), Some(free_inputs)) = (RESPOND, FREE_INPUTS) else {
         return;
     };
+    let reads_alike = |sample: &Sample, name: &str| {
+        let expected = sample.free_inputs(baseline::free_inputs);
+        assert_eq!(sample.free_inputs(free_inputs), expected, "{name}");
+    };
     let agrees = |sample: &Sample, name: &str| {
         let bundle = sample.bundle();
         assert_eq!(respond(&bundle), baseline::respond(&bundle), "{name}");
-        let expected = sample.free_inputs(baseline::free_inputs);
-        assert_eq!(sample.free_inputs(free_inputs), expected, "{name}");
+        reads_alike(sample, name);
     };
     each_unit_sample(32, 2000, 60, |random, mut sample| {
         agrees(&sample, "random");
@@ -84,9 +87,12 @@ fn it_answers_terms_with_units() {
         agrees(&sample, "a flipped bit");
     });
     with_deep_stack(|| {
-        let long = unit_shapes_of(4096).into_iter().chain(unit_shapes_of(8192));
-        for shape in small_units().into_iter().chain(long) {
+        for shape in small_units().into_iter().chain(unit_shapes_of(4096)) {
             agrees(&shape.sample, shape.name);
+        }
+        // No bundle holds a term of 8,192 words.
+        for shape in unit_shapes_of(8192) {
+            reads_alike(&shape.sample, shape.name);
         }
         for injections in 0..3 {
             agrees(&copied_units(6, injections), "copies");

@@ -9,7 +9,7 @@ use crate::generate::unit_damage::{broken_unit_samples, UNIT_DAMAGES};
 use crate::generate::unit_shapes::*;
 use crate::generate::units::small_units;
 use crate::generate::{Profile, Sample};
-use oracle::checks::LONGEST_TO_NORMALIZE;
+use oracle::checks::{LONGEST_TO_EXAMINE, LONGEST_TO_NORMALIZE};
 use oracle::words::*;
 
 impl Contents {
@@ -93,7 +93,7 @@ impl Contents {
         }
     }
 
-    /// A term as long as it may be, and short ones that become as long as they may, and one longer.
+    /// Terms as long as they may be, and short ones that become as long as they may, and one longer.
     fn units_at_their_limits(&mut self) {
         let longest = unit_lets((LONGEST_TO_NORMALIZE - 2) / 2);
         self.normalize(&longest, Limits::OF_PROGRAM);
@@ -104,5 +104,8 @@ impl Contents {
             };
             self.normalize(&copied_units(6, injections), limits);
         }
+        self.check(&unit_pairs(LONGEST_TO_EXAMINE.ilog2() as usize - 1));
+        self.is_normal(&unit_chain(LONGEST_TO_EXAMINE / 4));
+        self.free_inputs_of(&unit_lets((LONGEST_TO_EXAMINE - 2) / 2));
     }
 }
