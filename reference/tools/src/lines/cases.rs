@@ -14,8 +14,9 @@
 //! fills the output's front.
 
 use super::{spaced, LONGEST_TERM};
-use crate::generate::damage::{apply_damages, damages, Damage, DAMAGES};
+use crate::generate::damage::{apply_damages, Damage, DAMAGES};
 use crate::generate::terms::random_sample;
+use crate::generate::unit_damage::UNIT_DAMAGES;
 use crate::generate::{Profile, Sample};
 use crate::random::Random;
 use oracle::api::normalize;
@@ -94,15 +95,17 @@ pub fn damaged_sample(random: &mut Random, units: bool) -> Sample {
     sample
 }
 
-/// A fault that leaves samples small, of the base dialect or of any; all numbers are equally likely.
+/// A fault of units, or one of the base dialect that leaves samples small; there all numbers are
+/// equally likely.
 fn random_damage(random: &mut Random, units: bool) -> &'static Damage {
+    if units {
+        return random.pick(UNIT_DAMAGES);
+    }
     let refusal = random.between(1, 9) as u32;
-    let mut candidates = if units {
-        damages()
-    } else {
-        DAMAGES.iter().collect()
-    };
-    candidates.retain(|damage| damage.is_small && damage.refusal == refusal);
+    let candidates: Vec<&'static Damage> = DAMAGES
+        .iter()
+        .filter(|damage| damage.is_small && damage.refusal == refusal)
+        .collect();
     candidates[random.below(candidates.len())]
 }
 
