@@ -49,7 +49,7 @@ module _ (tables : Tables) where
       (ap (λ (x : ℕ). infer tables l (x ∷ Γ)) p, ap (λ (x : ℕ). infer tables r (x ∷ Γ)) q))
   infer-node (unit U) Γ s h l = refl
 
-  -- a node that has none: a variable, or else a node by no parts' types
+  -- a node that has none: a variable, or else a node with no types of parts to ask for
   pub infer-leaf : (t : Term) (Γ : Context) → Shaped (tables .calls) t → count (node t .parts) ≡ 0
       → infer tables t Γ
       ≡ cond (eqb (node t .kind) 0) (getElem? Γ (node t .number))

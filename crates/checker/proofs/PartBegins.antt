@@ -1,4 +1,4 @@
--- The next word begins a part: a variable or a call with no arguments has its type, any other node is opened.
+-- The next word begins a part: a node without parts has its type, any other node is opened.
 use mathlib.Core.Path.{_≡_, refl, sym, _∙_, ap, subst}
 use mathlib.Core.List.{List, [], _∷_}
 use mathlib.Core.Option.{some, none}

@@ -14,7 +14,7 @@ use Rattle.typing.specs.Infer.{Context, equal}
 use Rattle.checker.specs.declared.node_type.Components.{Components}
 use Rattle.checker.specs.declared.node_type.Components.the-variants.{Of, Missing}
 
--- the two parts of a type, as the code answers them
+-- the two fields of a type, as the code answers them
 abbrev pub componentsOf : Option (ℕ × ℕ) → Components
 componentsOf none = Missing
 componentsOf (some (X, Y)) = Of X Y
@@ -61,7 +61,7 @@ nodeType tables k n A F =
     (cond (eqb k 4) (some (getD F 1 0))
     (components tables (formOf k) (subjectOf k A (getD F 0 0)) >>= λ (X, Y). judge k A F X Y))
 
--- the type of a node of word w that has no parts: a variable's in a context, or a node's by no parts' types
+-- the type of a node of word w that has no parts: a variable's in a context, or else that of a node with no types of parts to ask for
 unfoldable pub leafType : Tables → Context → ℕ → Option ℕ
 leafType tables Γ w =
     cond (eqb (kindOf w) 0) (getElem? Γ (numberOf w)) (nodeType tables (kindOf w) (numberOf w) (typeOf w) (0 ∷ 0 ∷ 0 ∷ []))

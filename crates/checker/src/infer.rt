@@ -44,7 +44,8 @@ fn enter(types: &[u64], w: u64, j: usize, first: u64, stack: &mut [u64], depth: 
     depth + binders(kind(w), j)
 }
 
-// the type of a node that has no parts: a variable, or else a node by no parts' types (a call with no arguments, a unit)
+// the type of a node that has no parts: a variable has it from the scope; a call with no arguments and a unit have it as any other node
+// has, with no types of parts to ask for
 fn leaf(
     types: &[u64],
     calls: &[u64],

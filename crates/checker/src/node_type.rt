@@ -17,7 +17,7 @@ use words::fields::result;
 use words::fields::ty;
 use words::shape::shape_of;
 
-// the two parts of a type, if it is of the kind that is asked for
+// the two fields of a type, if it is of the kind that is asked for
 enum Components {
     Of(u64, u64),
     Missing,

@@ -1,6 +1,6 @@
 -- The grammar by parts, one law for each kind of node: an operation, a let or a case is in normal form exactly if each of its parts is in
--- normal form, begins with a node that can be what the part has to be, and uses the variable if it is a let's body. A pair and an injection
--- are normal values exactly if their parts are, because the kind of a normal form says whether it is a value.
+-- normal form, begins with a node that can be what the part has to be, and uses the variable if it is a let's body. A pair, an injection
+-- and a unit are normal values exactly if their parts are, because the kind of a normal form says whether it is a value.
 use mathlib.Core.Path.{_≡_, refl, sym, _∙_, ap, ap₂}
 use mathlib.Core.Bool.{Bool, true, false, _&&_, _||_, cond, and-true, true≢false}
 use mathlib.Core.List.{List}

@@ -77,7 +77,7 @@ module _ {calls words : List ℕ} (s : Starts calls words) (old : List ℕ) (dep
         record { ok-is = b .ok-is ∙ value-kind calls t ∙ ap (λ (x : Bool). x && isNormalForm calls t) v; passed = b .passed };
   }
 
-  -- before the parts of a function, of a pair or an injection, of any other node
+  -- before the parts of a function, of another value (a pair, an injection, a unit), of any other node
   pub function-enter : k ≡ 2 → Testing isNormalValue (λ j. isNormalForm calls) calls words old depth k old 1 1 0
   unfolding partCount
   function-enter e = test-enter isNormalValue (λ j. isNormalForm calls) calls words old depth k 1 s ke (λ z. omega arith)
@@ -169,7 +169,7 @@ module _ {calls words old : List ℕ} {depth k : ℕ} {mid : List ℕ} {n at j :
             (j + 1)
         parts-next = test-next isNormalForm (partPasses calls k) calls words old depth k g lt o c1 ce r part-passes (did-pass a ok)
 
--- a function's body stands under its binder; the parts of a pair and of an injection stand under none
+-- a function's body stands under its binder; the parts of any other value stand under none
 pub function-binds : (k : ℕ) → k ≡ 2 → 1 ≡ bindersAt k 0
 unfolding bindersAt
 function-binds k e = ap (λ (i : ℕ). bindersAt i 0) (sym e)
@@ -191,7 +191,7 @@ module _ {calls words old : List ℕ} {depth k : ℕ} {mid : List ℕ} {n at j :
     value-passed : (part : Term) (rest : List ℕ) → Holds calls (from words at) part rest → PassedPart part (depth + 0) mid new r
     value-passed part rest h = subst (λ (d : ℕ). PassedPart part d mid new r) (sym (add-zero depth)) (did-pass a ok part rest h)
 
-    -- a turn of the loop over the parts of a pair or an injection
+    -- a turn of the loop over the parts of a value that is no function
     pub values-next : length new ≡ length mid → Testing isNormalValue (λ i. isNormalValue calls) calls words old depth k new n (at + r .end)
         (j + 1)
     values-next = test-next isNormalValue (λ i. isNormalValue calls) calls words old depth k g lt (open-none mid depth) (omega arith) bz r

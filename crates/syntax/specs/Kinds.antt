@@ -1,4 +1,4 @@
--- What the kind of a term word decides (paper 01's table of kinds): fields used, number of parts, binders. Public contracts rest on the
+-- What the kind of a term word decides (the table of kinds): fields used, number of parts, binders. Public contracts rest on the
 -- fields used; the rest serves proofs.
 use Prim.Native.Nat.{ℕ}
 use mathlib.Core.Bool.{Bool, cond, _||_}

@@ -16,7 +16,7 @@ use Rattle.syntax.proofs.Options.{and-left, and-right}
 use Rattle.typing.specs.TableChecks.{every, wellFormedTypes, wellFormedInputs}
 use Rattle.typing.specs.Refusals.{TypedTerm}
 use Rattle.typing.proofs.Accepted.{Passed}
-use Rattle.typing.proofs.Trees.{Ty, void, number, function, both, either, unitary, shape, tree, ty, word-tree, Formed, a-base}
+use Rattle.typing.proofs.Trees.{Ty, void, number, function, both, either, unit-tree, shape, tree, ty, word-tree, Formed, a-base}
 use Rattle.typing.proofs.Trees.{a-composite, a-unit as a-unit-word, entry-formed, at-word, earlier}
 use Rattle.typing.proofs.TypeNumbers.{present}
 use Rattle.semantics.specs.Value.{Value, Values, num, tuple, left, trivial, empty, also}
@@ -36,7 +36,7 @@ valueOf (number n) = num 0
 valueOf (function A B) = num 0
 valueOf (both A B) = tuple (valueOf A) (valueOf B)
 valueOf (either A B) = left (valueOf A)
-valueOf unitary = trivial
+valueOf unit-tree = trivial
 
 module _ (tables : Tables) where
   -- values for a list of types

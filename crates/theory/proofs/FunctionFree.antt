@@ -14,7 +14,7 @@ use Rattle.semantics.specs.Value.{Value, Values, num, tuple, left, right, trivi
 use Rattle.semantics.specs.ValueTypes.{HasType, a-number, a-tuple, a-left, a-right, a-unit, HaveTypes, no-more, one-more}
 use Rattle.syntax.specs.Lists.{_∈_, here, there}
 use Rattle.semantics.specs.TypeParts.{itself, ofLeft, ofRight, FunctionFree}
-use Rattle.typing.proofs.Trees.{Ty, void, number, function, both, either, unitary, shape, tree, ty, word-tree, Earlier, ty-is, ty-base}
+use Rattle.typing.proofs.Trees.{Ty, void, number, function, both, either, unit-tree, shape, tree, ty, word-tree, Earlier, ty-is, ty-base}
 use Rattle.theory.proofs.Relation.{nums, pairs, lefts, rights, units, Related, Rel, All, all-none, all-more}
 
 unfoldable pub Plain : Ty → Type 0
@@ -23,7 +23,7 @@ Plain (number n) = Unit
 Plain (function A B) = ⊥
 Plain (both A B) = Plain A × Plain B
 Plain (either A B) = Plain A × Plain B
-Plain unitary = Unit
+Plain unit-tree = Unit
 
 module _ (tables : Tables) (wf : Earlier tables) where
   pub components-of : (k A w : ℕ) → getElem? (tables .types) A ≡ some w → kindOf w ≡ k → components tables k A ≡ some (leftOf w, rightOf w)
@@ -77,7 +77,7 @@ module _ (tables : Tables) (wf : Earlier tables) where
     plain-equal (both A B) p (pairs r s) = ap₂ tuple (plain-equal A (p .0) r) (plain-equal B (p .1) s)
     plain-equal (either A B) p (lefts r) = ap left (plain-equal A (p .0) r)
     plain-equal (either A B) p (rights r) = ap right (plain-equal B (p .1) r)
-    plain-equal unitary p units = refl
+    plain-equal unit-tree p units = refl
 
     pub free-equal : {A : ℕ} {v w : Value} → FunctionFree tables A → Rel tables answer C A v w → v ≡ w
     free-equal {A} f r = plain-equal (ty tables A) (plain-tree (suc A) A (omega arith) f) (r .rel)

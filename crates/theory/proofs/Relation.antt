@@ -1,5 +1,5 @@
--- When the values of two runs count as the same, by type: numbers are equal, pairs and injections are related part by part, and functions
--- take related values to runs that end with related values and traces.
+-- When the values of two runs count as the same, by type: numbers are equal, units are units, pairs and injections are related part by
+-- part, and functions take related values to runs that end with related values and traces.
 use mathlib.Core.Path.{_≡_, sym, subst}
 use mathlib.Core.List.{List, [], _∷_, _++_}
 use mathlib.Core.Option.{some}
@@ -9,7 +9,7 @@ use Rattle.syntax.specs.Term.{Term, Terms}
 use Rattle.semantics.specs.Value.{Value, Values, num, tuple, left, right, trivial, empty, also, Call, Trace}
 use Rattle.semantics.specs.Run.{Ends}
 use Rattle.typing.proofs.Typing.{Of, Signed}
-use Rattle.typing.proofs.Trees.{Ty, void, number, function, both, either, unitary, shape, ty, Earlier, ty-is}
+use Rattle.typing.proofs.Trees.{Ty, void, number, function, both, either, unit-tree, shape, ty, Earlier, ty-is}
 use Rattle.theory.proofs.Ends.{EndsAll, Enters}
 
 pub data Nums : Value → Value → Type 0 where
@@ -43,7 +43,7 @@ module _ (answer : ℕ → Values → Value) (C : Trace → Trace → Type 0) wh
   Related (function A B) v w = (a b : Value) → Related A a b → Both C (Related B) (Enters answer v a) (Enters answer w b)
   Related (both A B) v w = Pairs (Related A) (Related B) v w
   Related (either A B) v w = Sums (Related A) (Related B) v w
-  Related unitary v w = Units v w
+  Related unit-tree v w = Units v w
 
 -- v and w are related at the type A
 pub record Rel (tables : Tables) (answer : ℕ → Values → Value) (C : Trace → Trace → Type 0) (A : ℕ) (v w : Value) : Type 0 where

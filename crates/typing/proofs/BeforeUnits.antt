@@ -58,7 +58,8 @@ elaborateBy check₂ check₆ limit tables words = do
   A ← typePlace tables t
   accepted (record { term = t; type = A })
 
--- the former checks
+-- the checks as they were. Places 7 to 9 are today's: words that passed the former check 6 have no unit, and of such words and terms they
+-- say what they did.
 abbrev pub formerElaborate : ℕ → Tables → List ℕ → Verdict TypedTerm
 formerElaborate limit tables words = elaborateBy (formerTypes 0 (tables .types)) (every (formerWord tables) words) limit tables words
 

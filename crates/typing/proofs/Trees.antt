@@ -20,7 +20,7 @@ pub data Ty : Type 0 where
   function : Ty → Ty → Ty
   both : Ty → Ty → Ty
   either : Ty → Ty → Ty
-  unitary : Ty
+  unit-tree : Ty
 
 -- a type by its kind, its left field (a base type's name) and the trees of its parts
 unfoldable pub shape : ℕ → ℕ → Ty → Ty → Ty
@@ -28,7 +28,7 @@ shape zero n l r = number n
 shape (suc zero) n l r = function l r
 shape (suc (suc zero)) n l r = both l r
 shape (suc (suc (suc zero))) n l r = either l r
-shape (suc (suc (suc (suc zero)))) n l r = unitary
+shape (suc (suc (suc (suc zero)))) n l r = unit-tree
 shape (suc (suc (suc (suc (suc k))))) n l r = void
 
 module _ (tables : Tables) where

@@ -14,7 +14,7 @@ use Rattle.syntax.proofs.Options.{and-left, and-right, not-both}
 use Rattle.typing.specs.TableChecks.{every, wellFormedTypes, distinct}
 use Rattle.typing.proofs.Encoding.{pack-fields}
 use Rattle.typing.proofs.Trees.{Ty, void, number, function, both, either, shape, tree, ty, word-tree, at-word, Formed, a-base}
-use Rattle.typing.proofs.Trees.{a-composite, a-unit, unitary, entry-formed}
+use Rattle.typing.proofs.Trees.{a-composite, a-unit, unit-tree, entry-formed}
 
 -- the kind of a tree that has one
 kind : Ty → ℕ
@@ -23,7 +23,7 @@ kind (number n) = 0
 kind (function l r) = 1
 kind (both l r) = 2
 kind (either l r) = 3
-kind unitary = 4
+kind unit-tree = 4
 
 kind-shape : (k n : ℕ) (l r : Ty) → k ≤ 4 → kind (shape k n l r) ≡ k
 unfolding shape kind

@@ -55,16 +55,21 @@ pub fn value_end(words: &[u64], start: usize, calls: &[u64]) -> Option<usize> {
     let mut at = start;
     let mut open = 1;
     while open > 0 {
-        let word = words[at];
-        if !is_value_kind(word) {
-            return None;
-        }
-        if kind(word) == FUNCTION {
-            open -= 1;
-            at = part_end(words, at, calls);
-        } else {
-            open = open + part_count(word, calls) - 1;
-            at += 1;
+        match kind(words[at]) {
+            VARIABLE | UNIT => {
+                open -= 1;
+                at += 1;
+            }
+            FUNCTION => {
+                open -= 1;
+                at = part_end(words, at, calls);
+            }
+            PAIR => {
+                open += 1;
+                at += 1;
+            }
+            LEFT | RIGHT => at += 1,
+            _ => return None,
         }
     }
     Some(at)

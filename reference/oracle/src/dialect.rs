@@ -23,10 +23,12 @@ impl Dialect {
         }
     }
 
+    /// Whether type words of this kind are known.
     pub fn has_type_kind(self, kind: u64) -> bool {
         kind <= self.last_kinds().0
     }
 
+    /// Whether term words of this kind are known.
     pub fn has_term_kind(self, kind: u64) -> bool {
         kind <= self.last_kinds().1
     }

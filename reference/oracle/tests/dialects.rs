@@ -91,9 +91,8 @@ fn the_base_dialect_knows_no_unit() {
     }
     each_unit_sample(64, 500, 30, |random, mut sample| {
         let limits = random_limits(random);
-        let has_type = sample.types.contains(&pack_type(UNIT_TYPE, 0, 0));
         let base = outcome(Dialect::Base, &sample, limits);
-        assert_eq!(base.checked.refusal, if has_type { 2 } else { 0 });
+        assert_eq!(base.checked.refusal, 2);
         sample.types.retain(|&word| unpack_type(word).0 == BASE);
         sample.calls.clear();
         sample.inputs.clear();
@@ -153,9 +152,13 @@ fn compare(random: &mut Random, sample: &Sample, pairs: &mut Pairs) {
     if is_same {
         assert_eq!(base, now);
     } else {
-        // Without a unit type there is no unit that can be typed.
-        let accepted = if before == 2 { 0 } else { 6 };
-        assert!(after == accepted || after >= before, "{before}, {after}");
+        // What was 6 has no unit type, so its units have no type: it is not accepted.
+        let can_be = if before == 2 {
+            after == 0 || after >= 2
+        } else {
+            after >= 6
+        };
+        assert!(can_be, "{before}, {after}");
         assert_eq!(now.read.refusal, after);
         assert_eq!(now.normal.refusal, after);
     }

@@ -52,7 +52,7 @@ fn each_damage_gives_its_number() {
 
 #[test]
 fn the_lower_of_several_numbers_wins() {
-    let all = self::damages();
+    let all = damages();
     random_samples(12, 5000, |random, mut sample| {
         let mut damages: Vec<&Damage> = Vec::new();
         for _ in 0..random.between(2, 4) {

@@ -98,6 +98,19 @@ fn reduced() -> Vec<(&'static str, Phrase, Counts)> {
             [0, 0, 0, 0, 0, 0, 0, 1, 0, 0],
         ),
         ("a given unit", given, [0; 10]),
+        (
+            "an input that gives nothing",
+            let_in(
+                &c(),
+                &let_in(&apply(&variable(1), &variable(0)), &on_bound(TAKE)),
+            ),
+            [2, 1, 0, 0, 0, 0, 0, 0, 0, 0],
+        ),
+        (
+            "an argument behind a computation",
+            let_in(&c(), &call(BOTH, &[&variable(0), &u()])),
+            [1, 0, 0, 0, 0, 0, 0, 0, 0, 0],
+        ),
     ]
 }
 
@@ -118,28 +131,34 @@ fn small_terms() {
         assert_eq!(answer.refusal, 0, "{name}");
         assert_eq!(answer.type_number, sample.check().type_number);
         let index = expected.iter().position(|(other, ..)| *other == name);
-        if let Some((_, normal_form, counts)) = index.map(|index| expected.remove(index)) {
-            assert_eq!((words, answer.counts), (normal_form, counts), "{name}");
+        match index.map(|index| expected.remove(index)) {
+            Some((_, normal_form, counts)) => {
+                assert_eq!((words, answer.counts), (normal_form, counts), "{name}");
+            }
+            None => assert!(NORMAL_FORMS.contains(&name), "{name}"),
         }
     }
     assert_eq!(expected, []);
 }
 
+/// The others.
+const NORMAL_FORMS: [&str; 11] = [
+    "a unit",
+    "an input",
+    "a pair of units",
+    "an injected unit",
+    "a choice without contents",
+    "a function of a unit",
+    "an input that takes nothing",
+    "a unit argument",
+    "the last argument",
+    "a case without contents",
+    "a case with units in its branches",
+];
+
 #[test]
 fn normal_forms_stay() {
-    for name in [
-        "a unit",
-        "an input",
-        "a pair of units",
-        "an injected unit",
-        "a choice without contents",
-        "a function of a unit",
-        "an input that takes nothing",
-        "a unit argument",
-        "the last argument",
-        "a case without contents",
-        "a case with units in its branches",
-    ] {
+    for name in NORMAL_FORMS {
         let mut shapes = small_units().into_iter();
         let shape = shapes.find(|shape| shape.name == name).expect(name);
         let (answer, words) = normal_form(&shape.sample);

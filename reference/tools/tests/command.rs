@@ -1,8 +1,11 @@
 //! The command: its subcommands and the formats of its lines.
 
+use oracle::words::{pack_type, UNIT_TYPE};
 use std::collections::HashSet;
 use std::io::Write;
 use std::process::{Command, Output, Stdio};
+use tools::definitions::notation::hexadecimal_bytes;
+use tools::generate::Sample;
 
 fn run_command(arguments: &[&str], input: &[u8]) -> Output {
     let mut child = Command::new(env!("CARGO_BIN_EXE_reference"))
@@ -163,6 +166,19 @@ fn the_last_lines_have_units() {
             .count();
         assert!(with_units < 20, "{subcommand}: {with_units}");
     }
+}
+
+#[test]
+fn the_last_bundles_have_units() {
+    let has_unit_type = |line: &&String| {
+        let (bundle, _) = line.split_once(';').expect("two fields");
+        let sample = Sample::from_bundle(&hexadecimal_bytes(bundle));
+        sample.is_ok_and(|sample| sample.types.contains(&pack_type(UNIT_TYPE, 0, 0)))
+    };
+    let lines = lines(&["bundles", "1", "500"]);
+    let (others, last) = lines.split_at(400);
+    let counts = [others, last].map(|lines| lines.iter().filter(has_unit_type).count());
+    assert!(counts[0] < 10 && counts[1] > 50, "{counts:?}");
 }
 
 #[test]

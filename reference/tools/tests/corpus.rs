@@ -12,6 +12,7 @@ use std::collections::BTreeSet;
 use std::fs::read;
 use std::path::Path;
 
+/// Both files together; the compiled test program holds neither, so this only keeps a clone small.
 const MOST_BYTES: usize = 4_500_000;
 
 #[test]

@@ -185,7 +185,10 @@ fn the_readme_quotes_the_files() {
     for path in ["register.listing", "register.words"] {
         quotes(set_in(4, &text(&format!("examples/{path}"))));
     }
-    for name in ["register", "tithe"] {
+    let listing = text("examples/plate.listing");
+    let first_line = listing.lines().next().expect("a line");
+    assert!(readme.contains(&format!("`{first_line}`")));
+    for name in ["register", "tithe", "plate"] {
         let shown = text(&format!("examples/{name}.txt"));
         for heading in ["before: ", "after: "] {
             quotes(set_in(2, term_under(heading, &shown)));

@@ -77,24 +77,22 @@ pub fn inputs_figures(lines: &[String]) -> String {
 /// Of lines of `cases`, `runs` and `inputs`: the terms with a unit, and the accepted among them.
 pub fn unit_figures(cases: &[String], runs: &[String], inputs: &[String]) -> String {
     let units = |lines: &[String], refusal: usize| {
-        let fields = lines.iter().map(|line| line.split(';').collect());
-        let terms: Vec<Vec<&str>> = fields
-            .filter(|fields: &Vec<&str>| has_unit(fields[3]))
-            .collect();
-        let accepted = terms.iter().filter(|fields| fields[refusal] == "0").count();
-        (terms.len(), accepted)
+        let units: Vec<&String> = lines.iter().filter(|line| has_unit_in(line)).collect();
+        let is_accepted = |line: &&&String| line.split(';').nth(refusal) == Some("0");
+        (units.len(), units.iter().filter(is_accepted).count())
     };
     let (in_cases, cases_accepted) = units(cases, 8);
     let (in_inputs, inputs_accepted) = units(inputs, 4);
-    let in_runs = units(runs, 3).0;
+    let in_runs = runs.iter().filter(|line| has_unit_in(line)).count();
     format!(
         "a unit is in {in_cases} terms of cases ({cases_accepted} accepted), in {in_runs} of runs and in \
          {in_inputs} of inputs ({inputs_accepted} accepted)\n"
     )
 }
 
-/// Whether one of these words is a unit.
-fn has_unit(term: &str) -> bool {
+/// Whether the term of a line, its fourth field, has a unit.
+fn has_unit_in(line: &str) -> bool {
+    let term = line.split(';').nth(3).expect("a term");
     let mut words = term
         .split_whitespace()
         .map(|word| word.parse::<u64>().expect("a word"));

@@ -13,7 +13,7 @@ mod copy;
 mod crosscheck;
 mod figures;
 pub mod inputs;
-mod notation;
+pub mod notation;
 pub mod opened;
 pub mod repository;
 pub mod runs;

@@ -1,4 +1,4 @@
--- A variable's type stands in the scope; any other node with no parts has its type by no parts' types.
+-- A variable's type stands in the scope; any other node with no parts is typed like every node, with no types of parts to ask for.
 use mathlib.Core.Path.{_≡_, sym, _∙_, ap}
 use mathlib.Core.Bool.{Bool, cond}
 use mathlib.Core.List.{[], _∷_}

@@ -1,8 +1,8 @@
 -- `normal_value_test` meets its contract, if calls on fewer words do.
 --
 -- Why it is right: a variable is a normal value, and its use is marked. A function is one exactly if its body is in normal form, under a
--- mark of its own (`body`, `opened`, `passed`). A node of another kind that no value has is none. A pair or an injection is gone through
--- part by part, and each part has to be a normal value; none of them stands under a binder (`bare`).
+-- mark of its own (`body`, `opened`, `passed`). A node of another kind that no value has is none. A pair, an injection or a unit is
+-- gone through part by part, and each part has to be a normal value; none of them stands under a binder (`bare`).
 --
 -- A fact is stated once, at the place where it begins to hold, and cited further down as `fact (search)`: `search` finds the place by its
 -- type. Only the ways between places count statements.
