@@ -7,20 +7,18 @@ use oracle::deep_stack::with_deep_stack;
 use oracle::normal_form::{in_grammar, no_rule_fits};
 use oracle::reduction::{sequence, walk, Counts, Sequence};
 use oracle::rules::{rule_at, Phase, Rule, PHASES};
-use oracle::run::{run, CallRecord, Run, Value};
 use oracle::search::{first_redex, Redex};
 use oracle::subformula::{has_first_order_interface, has_subformula_property};
-use oracle::tables::Tables;
 use oracle::term::Term;
 use oracle::typing::node_types;
+use tools::generate::runs::{is_sublist, run_term};
 use tools::generate::terms::random_sample;
-use tools::generate::values::{random_inputs, HashedAnswers};
+use tools::generate::values::random_inputs;
 use tools::generate::{Profile, Sample};
 use tools::random::Random;
 
 /// The words all terms of a listed walk may have together.
 const MOST_WORDS: usize = 300_000;
-const RUN_FUEL: u64 = 200_000;
 /// The budget for the larger samples.
 const LARGE_BUDGET: u32 = 4000;
 
@@ -263,22 +261,6 @@ fn budget_and_capacity_fall_where_the_walk_meets_them() {
         }
     });
     assert!(refusals[0] > 1000 && refusals[10] > 1000 && refusals[11] > 1000);
-}
-
-/// Whether `part` is `whole` with some items struck out or none.
-fn is_sublist(part: &[CallRecord], whole: &[CallRecord]) -> bool {
-    let mut remaining = whole.iter();
-    part.iter()
-        .all(|item| remaining.any(|candidate| candidate == item))
-}
-
-fn run_term<'t>(
-    tables: &Tables,
-    term: &'t Term,
-    inputs: &[Value<'t>],
-    seed: u64,
-) -> Option<Run<'t>> {
-    run(term, inputs, &HashedAnswers { tables, seed }, RUN_FUEL).ok()
 }
 
 #[test]

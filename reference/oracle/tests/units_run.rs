@@ -3,14 +3,15 @@
 
 use oracle::checks::Checked;
 use oracle::reduction::sequence;
-use oracle::run::{run, CallRecord, Run, Value};
+use oracle::run::{run, Value};
 use oracle::subformula::{has_first_order_interface, has_function};
 use oracle::tables::Tables;
 use oracle::term::Term;
 use tools::generate::each::each_unit_sample;
 use tools::generate::phrases::*;
+use tools::generate::runs::{is_sublist, run_term};
 use tools::generate::units::*;
-use tools::generate::values::{random_inputs, FixedAnswers, HashedAnswers};
+use tools::generate::values::{random_inputs, FixedAnswers};
 use tools::generate::Sample;
 
 const MOST_WORDS: usize = 30_000;
@@ -23,22 +24,6 @@ fn has_unit(value: &Value) -> bool {
         Value::Left(value) | Value::Right(value) => has_unit(value),
         Value::Number(_) | Value::Closure(..) => false,
     }
-}
-
-/// Whether `part` is `whole` with some items struck out or none.
-fn is_sublist(part: &[CallRecord], whole: &[CallRecord]) -> bool {
-    let mut remaining = whole.iter();
-    part.iter()
-        .all(|item| remaining.any(|candidate| candidate == item))
-}
-
-fn run_term<'t>(
-    tables: &Tables,
-    term: &'t Term,
-    inputs: &[Value<'t>],
-    seed: u64,
-) -> Option<Run<'t>> {
-    run(term, inputs, &HashedAnswers { tables, seed }, FUEL).ok()
 }
 
 #[test]

@@ -13,6 +13,7 @@ pub mod limits;
 pub mod long_readings;
 pub mod phrases;
 pub mod places;
+pub mod runs;
 pub mod shapes;
 pub mod tables;
 pub mod terms;
