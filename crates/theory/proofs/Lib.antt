@@ -16,6 +16,8 @@ pub mod GrammarTest
 pub mod KnownTypes
 pub mod NextInsertion
 pub mod NextReduction
+pub mod NoNewUnits
+pub mod NoUnits
 pub mod Operands
 pub mod OperandsKept
 pub mod PendingSteps
@@ -36,4 +38,3 @@ pub mod UnreadInputs
 pub mod ValuesMakeNoCalls
 pub mod WrongOnCases
 pub mod WrongPrograms
-pub mod NoUnits
