@@ -1,6 +1,9 @@
 //! The normalizer on words against the tree implementation: answers and all words of the buffers.
 
-use oracle::api::{self, Answer, Normalize};
+mod compared;
+
+use compared::{agree, outcome, totals};
+use oracle::api::Answer;
 use oracle::listing;
 use tools::generate::boundaries::*;
 use tools::generate::bundles::BUNDLE_DAMAGES;
@@ -10,22 +13,6 @@ use tools::generate::each::each_random_sample;
 use tools::generate::ill_typed::broken_samples;
 use tools::generate::limits::{needs, Limits};
 use tools::generate::shapes::*;
-use tools::generate::Sample;
-
-/// The answer, and the output and scratch buffers afterwards.
-fn outcome(normalize: Normalize, sample: &Sample, limits: Limits) -> (Answer, [Vec<u64>; 3]) {
-    let mut buffers = limits.lengths.map(|length| vec![9; length]);
-    let answer = sample.normalize(normalize, limits.budget, &mut buffers);
-    (answer, buffers)
-}
-
-/// Asserts that both implementations agree; answers the answer.
-fn agree(sample: &Sample, limits: Limits, name: &str) -> Answer {
-    let on_trees = outcome(api::normalize, sample, limits);
-    let on_words = outcome(baseline::normalize, sample, limits);
-    assert_eq!(on_words, on_trees, "{name}");
-    on_trees.0
-}
 
 fn steps(answer: &Answer) -> u32 {
     answer.counts.iter().sum()
@@ -33,15 +20,13 @@ fn steps(answer: &Answer) -> u32 {
 
 #[test]
 fn random_terms() {
-    let mut totals = [0; 10];
+    let mut answers = Vec::new();
     each_random_sample(21, 4000, 150, |random, sample| {
         let limits = Limits::with_capacity(random, 5000, 1000);
-        let answer = agree(&sample, limits, "random");
-        for (total, count) in totals.iter_mut().zip(answer.counts) {
-            *total += count;
-        }
+        answers.push(agree(&sample, limits, "random"));
     });
-    assert!(totals.iter().all(|&total| total > 1000), "{totals:?}");
+    let steps = totals(&answers);
+    assert!(steps.iter().all(|&total| total > 1000), "{steps:?}");
 }
 
 #[test]

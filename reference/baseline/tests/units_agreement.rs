@@ -1,6 +1,9 @@
 //! Both implementations on samples with units.
 
-use oracle::api::{self, Answer, Normalize};
+mod compared;
+
+use compared::totals;
+use oracle::api::Answer;
 use oracle::free_inputs::free_inputs;
 use oracle::listing;
 use tools::generate::damage::{apply_damages, damages, flip_a_bit};
@@ -13,34 +16,22 @@ use tools::generate::unit_shapes::*;
 use tools::generate::units::small_units;
 use tools::generate::Sample;
 
-/// The answer, and the output and scratch buffers afterwards.
-fn outcome(normalize: Normalize, sample: &Sample, limits: Limits) -> (Answer, [Vec<u64>; 3]) {
-    let mut buffers = limits.lengths.map(|length| vec![9; length]);
-    let answer = sample.normalize(normalize, limits.budget, &mut buffers);
-    (answer, buffers)
-}
-
 /// Asserts that both implementations of normalize and of free_inputs agree; answers the answer.
 fn agree(sample: &Sample, limits: Limits, name: &str) -> Answer {
-    let on_trees = outcome(api::normalize, sample, limits);
-    let on_words = outcome(baseline::normalize, sample, limits);
-    assert_eq!(on_words, on_trees, "{name}");
     let read = sample.free_inputs(free_inputs);
     assert_eq!(sample.free_inputs(baseline::free_inputs), read, "{name}");
-    on_trees.0
+    compared::agree(sample, limits, name)
 }
 
 #[test]
 fn random_terms() {
-    let mut totals = [0; 10];
+    let mut answers = Vec::new();
     each_unit_sample(26, 4000, 150, |random, sample| {
         let limits = Limits::with_capacity(random, 5000, 1000);
-        let answer = agree(&sample, limits, "random");
-        for (total, count) in totals.iter_mut().zip(answer.counts) {
-            *total += count;
-        }
+        answers.push(agree(&sample, limits, "random"));
     });
-    assert!(totals.iter().all(|&total| total > 1000), "{totals:?}");
+    let steps = totals(&answers);
+    assert!(steps.iter().all(|&total| total > 1000), "{steps:?}");
 }
 
 #[test]

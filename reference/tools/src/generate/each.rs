@@ -6,21 +6,34 @@ use super::{Profile, Sample};
 use crate::random::Random;
 use oracle::deep_stack::with_deep_stack;
 
-/// Hands `count` samples of up to about `most_fuel` words to `test`.
-pub fn each_random_sample(
+/// Hands `count` samples to `test`, each as `make` makes it in its turn.
+fn each_sample(
     seed: u64,
     count: usize,
-    most_fuel: usize,
+    make: impl Fn(&mut Random, usize) -> Sample + Sync,
     mut test: impl FnMut(&mut Random, Sample) + Send,
 ) {
     with_deep_stack(|| {
         let mut random = Random::new(seed);
-        for _ in 0..count {
-            let fuel = random.between(1, most_fuel);
-            let sample = random_sample(&mut random, &Profile::of_size(fuel));
+        for turn in 0..count {
+            let sample = make(&mut random, turn);
             test(&mut random, sample);
         }
     });
+}
+
+/// Random samples of up to about `most_fuel` words.
+pub fn each_random_sample(
+    seed: u64,
+    count: usize,
+    most_fuel: usize,
+    test: impl FnMut(&mut Random, Sample) + Send,
+) {
+    let make = |random: &mut Random, _| {
+        let profile = Profile::of_size(random.between(1, most_fuel));
+        random_sample(random, &profile)
+    };
+    each_sample(seed, count, make, test);
 }
 
 /// The same with 0 to 256 inputs, by turns.
@@ -28,16 +41,13 @@ pub fn each_sample_of_inputs(
     seed: u64,
     count: usize,
     most_fuel: usize,
-    mut test: impl FnMut(&mut Random, Sample) + Send,
+    test: impl FnMut(&mut Random, Sample) + Send,
 ) {
-    with_deep_stack(|| {
-        let mut random = Random::new(seed);
-        for inputs in INPUT_COUNTS.into_iter().cycle().take(count) {
-            let profile = Profile::of_size(random.between(1, most_fuel));
-            let sample = sample_of_inputs(&mut random, &profile, inputs);
-            test(&mut random, sample);
-        }
-    });
+    let make = |random: &mut Random, turn: usize| {
+        let profile = Profile::of_size(random.between(1, most_fuel));
+        sample_of_inputs(random, &profile, INPUT_COUNTS[turn % INPUT_COUNTS.len()])
+    };
+    each_sample(seed, count, make, test);
 }
 
 /// The same with the unit type, in half of the cases with demand 3's premise.
@@ -45,18 +55,15 @@ pub fn each_unit_sample(
     seed: u64,
     count: usize,
     most_fuel: usize,
-    mut test: impl FnMut(&mut Random, Sample) + Send,
+    test: impl FnMut(&mut Random, Sample) + Send,
 ) {
-    with_deep_stack(|| {
-        let mut random = Random::new(seed);
-        for turn in 0..count {
-            let profile = Profile::of_size(random.between(1, most_fuel)).with_units();
-            let profile = match turn % 2 {
-                0 => profile,
-                _ => profile.first_order(),
-            };
-            let sample = random_sample(&mut random, &profile);
-            test(&mut random, sample);
-        }
-    });
+    let make = |random: &mut Random, turn: usize| {
+        let profile = Profile::of_size(random.between(1, most_fuel)).with_units();
+        let profile = match turn % 2 {
+            0 => profile,
+            _ => profile.first_order(),
+        };
+        random_sample(random, &profile)
+    };
+    each_sample(seed, count, make, test);
 }

@@ -1,0 +1,25 @@
+//! The normalizer on words beside the one on trees.
+
+use oracle::api::{self, Answer, Normalize};
+use tools::generate::limits::Limits;
+use tools::generate::Sample;
+
+/// The answer, and the output and scratch buffers afterwards.
+pub fn outcome(normalize: Normalize, sample: &Sample, limits: Limits) -> (Answer, [Vec<u64>; 3]) {
+    let mut buffers = limits.lengths.map(|length| vec![9; length]);
+    let answer = sample.normalize(normalize, limits.budget, &mut buffers);
+    (answer, buffers)
+}
+
+/// Asserts that both implementations agree; answers the answer.
+pub fn agree(sample: &Sample, limits: Limits, name: &str) -> Answer {
+    let on_trees = outcome(api::normalize, sample, limits);
+    let on_words = outcome(baseline::normalize, sample, limits);
+    assert_eq!(on_words, on_trees, "{name}");
+    on_trees.0
+}
+
+/// The steps of each rule that the answers count together.
+pub fn totals(answers: &[Answer]) -> [u32; 10] {
+    std::array::from_fn(|rule| answers.iter().map(|answer| answer.counts[rule]).sum())
+}
