@@ -1,5 +1,5 @@
--- No rule makes a unit: over any tables, no term of the reduction sequence of a typed term without units has one. For such a term is also
--- typed where a base type stands in the unit type's place, and there no unit arises.
+-- Over any tables, no term of the reduction sequence of a typed term without units has a unit. For such a term is also typed where a base
+-- type stands in the unit type's place, and there no unit arises.
 use mathlib.Core.Path.{_≡_, subst}
 use mathlib.Core.Bool.{Bool, true, false, cond, not}
 use mathlib.Core.List.{List, [], _∷_, _++_, map}

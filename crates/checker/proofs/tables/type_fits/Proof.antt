@@ -77,11 +77,11 @@ type-fits-spec =
     let z : tie.Else1 = search in
     let h : tie.Else2 = search in
     parts _ (word f) _ _ (f .before .kind .ensures) (f .ty .ensures) _ (n .number .ensures) (z .if1 .left) (c .before .if3 .left)
-    (h .if2 .left) (c .if5 .taken))
+    (omega (arith, h .if2 .left)) (c .if5 .taken))
     (λ c.
     let f : Right = search in
     let n : Left = search in
     let z : tie.Else1 = search in
     let h : tie.Else2 = search in
     late _ (word f) _ _ (f .before .kind .ensures) (f .ty .ensures) _ (n .number .ensures) (z .if1 .left) (c .before .if3 .left)
-    (h .if2 .left) (c .if5 .left)))
+    (omega (arith, h .if2 .left)) (c .if5 .left)))
