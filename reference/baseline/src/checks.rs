@@ -57,13 +57,13 @@ fn all_differ(words: &[u64]) -> bool {
     sorted.windows(2).all(|pair| pair[0] != pair[1])
 }
 
-/// At most three arguments, known types, unused fields zero.
+/// A known count, known types, the fields past the arguments zero.
 fn call_fits(word: u64, type_count: usize) -> bool {
-    let (count, result, arguments) = unpack_call(word);
-    if count > 3 {
+    let (count, result, fields) = unpack_call(word);
+    let Some((arguments, _)) = read_count(count) else {
         return false;
-    }
-    let (used, unused) = arguments.split_at(count as usize);
+    };
+    let (used, unused) = fields.split_at(arguments);
     result < type_count as u64
         && used.iter().all(|&argument| argument < type_count as u64)
         && unused.iter().all(|&field| field == 0)

@@ -1,6 +1,6 @@
 //! The number of binders around each word of a part, word by word and without branches on kinds.
 
-use crate::nodes::{argument_count, kind, number};
+use crate::nodes::{kind, number, number_of_arguments};
 use oracle::words::*;
 
 /// More than the parts of an 8,192-word term; a power of two, so that a mask bounds an index.
@@ -19,7 +19,7 @@ const fn parts(count: u8, binders: [u8; 3]) -> Parts {
     Parts { count, binders }
 }
 
-/// The parts by kind, none unless said; a call's count is in its signature, and the kinds over 11 do
+/// The parts by kind, none unless said; how many a call has is in its signature, and the kinds over 11 do
 /// not occur.
 const PARTS: [Parts; 16] = {
     let mut table = [parts(0, [0, 0, 0]); 16];
@@ -39,7 +39,7 @@ const PARTS: [Parts; 16] = {
 #[inline(always)]
 pub fn part_count(word: u64, calls: &[u64]) -> usize {
     match kind(word) {
-        CALL => argument_count(calls[number(word)]),
+        CALL => number_of_arguments(calls[number(word)]),
         kind => PARTS[kind as usize].count as usize,
     }
 }

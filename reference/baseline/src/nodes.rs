@@ -24,9 +24,16 @@ pub fn type_number(word: u64) -> usize {
     (word & NUMBER_MASK) as usize
 }
 
-/// The number of arguments of a call word's signature.
-pub fn argument_count(signature: u64) -> usize {
-    (signature >> 60) as usize
+/// The number of arguments of a call word's signature: the low two bits of its count, which is
+/// known.
+pub fn number_of_arguments(signature: u64) -> usize {
+    (signature >> 60 & 3) as usize
+}
+
+/// Whether a call word's signature is that of a call that acts: the high bit of its count, which is
+/// known.
+pub fn acts(signature: u64) -> bool {
+    signature >> 63 == 1
 }
 
 /// The number of parts in operand positions; they come first.

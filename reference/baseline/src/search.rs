@@ -12,7 +12,7 @@ pub fn first_redex(
     term: &[u64],
     from: usize,
     calls: &[u64],
-    usage: &mut Usage,
+    usage: &mut Usage<'_>,
 ) -> Option<Redex> {
     let mut places = from..term.len();
     match phase {
@@ -26,7 +26,7 @@ pub fn first_redex(
             let rule = reduction_at(term, index)?;
             Some(Redex { rule, index })
         }),
-        Phase::Removal => usage.first_unused_let(term, calls).map(|index| Redex {
+        Phase::Removal => usage.first_let_to_drop(term).map(|index| Redex {
             rule: Rule::Drop,
             index,
         }),

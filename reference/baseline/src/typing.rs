@@ -1,6 +1,6 @@
 //! Typing in one pass over the words, with a list of the nodes whose parts are not all typed.
 
-use crate::nodes::{argument_count, kind, number, type_number};
+use crate::nodes::{kind, number, number_of_arguments, type_number};
 use oracle::words::*;
 
 /// The whole term's type; `None` if a typing rule is broken.
@@ -56,8 +56,9 @@ impl Typing<'_> {
         match kind(word) {
             VARIABLE => return Some(Progress::Typed(self.variable(number(word))?)),
             CALL => {
-                let (count, result, _) = unpack_call(self.calls[number(word)]);
-                if count == 0 {
+                let signature = self.calls[number(word)];
+                if number_of_arguments(signature) == 0 {
+                    let (_, result, _) = unpack_call(signature);
                     return Some(Progress::Typed(result as usize));
                 }
             }
@@ -88,7 +89,7 @@ impl Typing<'_> {
                 let signature = self.calls[number(node.word)];
                 let (_, result, arguments) = unpack_call(signature);
                 require(part as u64 == arguments[typed])?;
-                if typed + 1 == argument_count(signature) {
+                if typed + 1 == number_of_arguments(signature) {
                     return Some(Progress::Typed(result as usize));
                 }
             }

@@ -1,6 +1,6 @@
-//! The first let whose variable is not used: one pass over the term counts all uses.
+//! The first let to drop: one pass over the term counts the uses of all variables.
 
-use crate::nodes::{argument_count, is_value_kind, kind, number};
+use crate::nodes::{acts, is_value_kind, kind, number, number_of_arguments};
 use oracle::words::*;
 
 /// A part to come: the number of binders around it, and the place of the innermost one's node.
@@ -10,9 +10,11 @@ struct Scope {
     binder: usize,
 }
 
-/// The lists of the counting pass, kept from one pass to the next.
-#[derive(Default)]
-pub struct Usage {
+/// The lists of the counting pass, kept from one pass to the next, and what the call table says.
+pub struct Usage<'a> {
+    calls: &'a [u64],
+    /// Whether some call of the table acts.
+    has_acting_call: bool,
     /// How often the variable bound by the node at each place is used; a case counts for both
     /// its branches.
     uses: Vec<u32>,
@@ -22,16 +24,38 @@ pub struct Usage {
     pending: Vec<Scope>,
 }
 
-impl Usage {
-    /// The first let that binds a computation and whose variable is not used.
-    pub fn first_unused_let(&mut self, term: &[u64], calls: &[u64]) -> Option<usize> {
-        self.count(term, calls);
+impl<'a> Usage<'a> {
+    /// For terms over this call table.
+    pub fn new(calls: &'a [u64]) -> Usage<'a> {
+        Usage {
+            calls,
+            has_acting_call: calls.iter().any(|&signature| acts(signature)),
+            uses: Vec::new(),
+            binders: Vec::new(),
+            pending: Vec::new(),
+        }
+    }
+
+    /// The first let whose variable is not used and whose bound part may be dropped.
+    pub fn first_let_to_drop(&mut self, term: &[u64]) -> Option<usize> {
+        self.count(term);
         (0..term.len()).find(|&place| {
-            kind(term[place]) == LET && self.uses[place] == 0 && !is_value_kind(term[place + 1])
+            kind(term[place]) == LET
+                && self.uses[place] == 0
+                && self.may_be_dropped(term[place + 1])
         })
     }
 
-    fn count(&mut self, term: &[u64], calls: &[u64]) {
+    /// Whether drop fits an unused let whose bound part starts with this word.
+    fn may_be_dropped(&self, word: u64) -> bool {
+        match kind(word) {
+            CALL => !acts(self.calls[number(word)]),
+            APPLICATION => !self.has_acting_call,
+            _ => !is_value_kind(word),
+        }
+    }
+
+    fn count(&mut self, term: &[u64]) {
         self.uses.clear();
         self.uses.resize(term.len(), 0);
         self.binders.resize(term.len(), 0);
@@ -57,7 +81,7 @@ impl Usage {
                     }
                 }
                 CALL => {
-                    for _ in 0..argument_count(calls[number(word)]) {
+                    for _ in 0..number_of_arguments(self.calls[number(word)]) {
                         self.pending.push(scope);
                     }
                 }

@@ -29,7 +29,7 @@ pub fn walk(
     record.longest = buffers.length;
     let mut depths = Depths::new();
     let mut substitution = Substitution::new();
-    let mut usage = Usage::default();
+    let mut usage = Usage::new(calls);
     let mut remaining = budget;
     for phase in PHASES {
         let mut from = 0;

@@ -2,26 +2,16 @@
 
 mod compared;
 
-use compared::totals;
-use oracle::api::Answer;
-use oracle::free_inputs::free_inputs;
+use compared::{agree, totals};
 use oracle::listing;
 use tools::generate::damage::{apply_damages, damages, flip_a_bit};
 use tools::generate::each::each_unit_sample;
 use tools::generate::examples::plate;
-use tools::generate::limits::{needs, Limits};
+use tools::generate::limits::{near_needs, Limits};
 use tools::generate::shapes::Shape;
 use tools::generate::unit_damage::{broken_unit_samples, UNIT_DAMAGES};
 use tools::generate::unit_shapes::*;
 use tools::generate::units::small_units;
-use tools::generate::Sample;
-
-/// Asserts that both implementations of normalize and of free_inputs agree; answers the answer.
-fn agree(sample: &Sample, limits: Limits, name: &str) -> Answer {
-    let read = sample.free_inputs(free_inputs);
-    assert_eq!(sample.free_inputs(baseline::free_inputs), read, "{name}");
-    compared::agree(sample, limits, name)
-}
 
 #[test]
 fn random_terms() {
@@ -38,12 +28,7 @@ fn random_terms() {
 fn budgets_and_capacities_at_their_edge() {
     let mut refusals = [0; 12];
     each_unit_sample(27, 2500, 60, |random, sample| {
-        let Some(needs) = needs(&sample, 2000) else {
-            return;
-        };
-        for (fewer_steps, fewer_words) in [(0, 0), (1, 0), (0, 1), (1, 1)] {
-            let budget = needs.steps.saturating_sub(fewer_steps);
-            let limits = Limits::with_capacity(random, budget, needs.capacity - fewer_words);
+        for limits in near_needs(random, &sample, 2000) {
             let answer = agree(&sample, limits, "at the edge");
             refusals[answer.refusal as usize] += 1;
         }

@@ -105,7 +105,7 @@ impl Dialect {
             || match examine_in(self, types, calls, inputs, term, LONGEST_TO_EXAMINE) {
                 Ok(checked) => NormalAnswer {
                     refusal: 0,
-                    normal: no_rule_fits(&checked.term),
+                    normal: no_rule_fits(&checked.tables, &checked.term),
                 },
                 Err(refusal) => NormalAnswer {
                     refusal: refusal.number(),
@@ -152,7 +152,7 @@ fn normal_form_words(
     capacity: usize,
 ) -> Result<(Answer, Vec<u64>), Answer> {
     let checked = checked.map_err(|refusal| Answer::refused(refusal, [0; 10]))?;
-    let (normal_form, counts) = walk(checked.term, budget, capacity)
+    let (normal_form, counts) = walk(&checked.tables, checked.term, budget, capacity)
         .map_err(|stopped| Answer::refused(stopped.refusal, stopped.counts))?;
     let words = encode(&normal_form);
     let answer = Answer {

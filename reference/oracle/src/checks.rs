@@ -81,6 +81,9 @@ pub fn examine_in(
     let distinct: HashSet<&u64> = types.iter().collect();
     require(distinct.len() == types.len(), Refusal::DuplicateType)?;
 
+    let mut counts = calls.iter().map(|&word| unpack_call(word).0);
+    let counts_known = counts.all(|count| dialect.has_count(count));
+    require(counts_known, Refusal::CallTable)?;
     let tables = Tables {
         types: decoded_types,
         signatures: decode_calls(calls, types.len()).ok_or(Refusal::CallTable)?,

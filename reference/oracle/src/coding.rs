@@ -1,4 +1,4 @@
-//! Terms as words in prefix order: decoding by the call table's argument counts, and encoding.
+//! Terms as words in prefix order: decoding by the call table's numbers of arguments, and encoding.
 
 use crate::tables::Signature;
 use crate::term::Term;
@@ -18,8 +18,8 @@ fn decode_node(words: &mut std::slice::Iter<u64>, signatures: &[Signature]) -> O
     let term = match kind {
         VARIABLE => Term::Variable(number),
         CALL => {
-            let count = signatures[number as usize].arguments.len();
-            let arguments: Option<Vec<Term>> = (0..count).map(|_| part()).collect();
+            let types = &signatures[number as usize].arguments;
+            let arguments: Option<Vec<Term>> = types.iter().map(|_| part()).collect();
             Term::Call(number, arguments?)
         }
         FUNCTION => Term::Function(type_number, Box::new(part()?)),

@@ -7,6 +7,7 @@ pub mod checks;
 pub mod coding;
 pub mod deep_stack;
 pub mod dialect;
+pub mod dropping;
 pub mod free_inputs;
 pub mod listing;
 pub mod normal_form;

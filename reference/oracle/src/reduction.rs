@@ -3,6 +3,7 @@
 use crate::checks::Refusal;
 use crate::rules::{growth, rewrite, Rule, PHASES};
 use crate::search::{first_redex, Redex};
+use crate::tables::Tables;
 use crate::term::Term;
 use std::mem::replace;
 
@@ -34,7 +35,12 @@ pub struct Stopped {
 
 /// Walks to the normal form (the paper's flat form) within a budget of steps and a capacity
 /// (the paper's room) of words.
-pub fn walk(mut term: Term, budget: u32, capacity: usize) -> Result<(Term, Counts), Stopped> {
+pub fn walk(
+    tables: &Tables,
+    mut term: Term,
+    budget: u32,
+    capacity: usize,
+) -> Result<(Term, Counts), Stopped> {
     let mut counts = [0; 10];
     let mut steps = 0;
     let mut size = term.size();
@@ -43,7 +49,7 @@ pub fn walk(mut term: Term, budget: u32, capacity: usize) -> Result<(Term, Count
         return stop(Refusal::Capacity, counts);
     }
     for phase in PHASES {
-        while let Some(redex) = first_redex(&term, phase) {
+        while let Some(redex) = first_redex(tables, &term, phase) {
             if steps == budget {
                 return stop(Refusal::Budget, counts);
             }
@@ -77,13 +83,13 @@ impl Sequence {
 }
 
 /// All terms of the walk; `None` if their lengths add up to more than `most_words`.
-pub fn sequence(term: &Term, most_words: usize) -> Option<Sequence> {
+pub fn sequence(tables: &Tables, term: &Term, most_words: usize) -> Option<Sequence> {
     let mut terms = vec![term.clone()];
     let mut rules = Vec::new();
     let mut current = term.clone();
     let mut words = current.size();
     for phase in PHASES {
-        while let Some(redex) = first_redex(&current, phase) {
+        while let Some(redex) = first_redex(tables, &current, phase) {
             let growth = growth(redex.rule, current.node_mut(redex.index));
             words += grown(current.size(), growth);
             if words > most_words {

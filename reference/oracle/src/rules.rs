@@ -1,6 +1,8 @@
 //! The ten rules: where each fits, what it makes of a node, and by how much that is longer.
 
+use crate::dropping::may_be_dropped;
 use crate::substitution::{lower, occurrences, raise, substitute};
+use crate::tables::Tables;
 use crate::term::{Role, Term};
 use std::mem::replace;
 
@@ -43,14 +45,15 @@ pub enum Phase {
 
 pub const PHASES: [Phase; 3] = [Phase::Insertion, Phase::Reduction, Phase::Removal];
 
-/// The rule of this phase that fits at this very node; no two do.
-pub fn rule_at(term: &Term, phase: Phase) -> Option<Rule> {
+/// The rule of this phase that fits at this very node, given the tables; no two do.
+pub fn rule_at(tables: &Tables, term: &Term, phase: Phase) -> Option<Rule> {
     match phase {
         Phase::Insertion => inserts(term).then_some(Rule::LetInsertion),
         Phase::Reduction => reduction_at(term),
         Phase::Removal => match term {
-            Term::Let(bound, body) if !bound.is_value() && occurrences(body, 0) == 0 => {
-                Some(Rule::Drop)
+            Term::Let(bound, body) => {
+                let fits = may_be_dropped(tables, bound) && occurrences(body, 0) == 0;
+                fits.then_some(Rule::Drop)
             }
             _ => None,
         },

@@ -38,21 +38,25 @@ impl Type {
     }
 }
 
-/// A call's signature: argument types and result type.
+/// A call's signature: argument types and result type, and whether the call acts, that is, does
+/// something even where its answer is not used.
 #[derive(Clone, Debug, PartialEq, Eq)]
 pub struct Signature {
     pub arguments: Vec<u32>,
     pub result: u32,
+    pub acts: bool,
 }
 
 impl Signature {
-    /// Decodes a word; `None` if the count is over 3 or an unused field is set.
+    /// Decodes a word; `None` if the count is unknown or a field past the arguments is set.
     pub fn from_word(word: u64) -> Option<Signature> {
         let (count, result, fields) = unpack_call(word);
-        let (used, unused) = fields.split_at_checked(count as usize)?;
+        let (arguments, acts) = read_count(count)?;
+        let (used, unused) = fields.split_at(arguments);
         unused.iter().all(|&field| field == 0).then(|| Signature {
             arguments: used.iter().map(|&field| field as u32).collect(),
             result: result as u32,
+            acts,
         })
     }
 
@@ -88,6 +92,11 @@ impl Tables {
     /// The signature of the call with this number, which is in the table.
     pub fn signature_at(&self, number: u32) -> &Signature {
         &self.signatures[number as usize]
+    }
+
+    /// Whether some call of the table acts, be it in a term or not.
+    pub fn has_acting_call(&self) -> bool {
+        self.signatures.iter().any(|signature| signature.acts)
     }
 }
 

@@ -21,6 +21,9 @@ pub const RIGHT: u64 = 9;
 pub const CASE: u64 = 10;
 pub const UNIT: u64 = 11;
 
+/// By how much the count of an acting call exceeds the number of its arguments.
+pub const ACTING: u64 = 8;
+
 /// The value of the `width` bits of `word` which start at bit `low`.
 fn field(word: u64, low: u32, width: u32) -> u64 {
     (word >> low) & ((1 << width) - 1)
@@ -42,17 +45,25 @@ pub fn unpack_type(word: u64) -> (u64, u64, u64) {
     (field(word, 60, 4), field(word, 30, 30), field(word, 0, 30))
 }
 
-/// A call word: argument count 4 bits, result type 15, three argument types of 15.
+/// A call word: count 4 bits, result type 15, three argument types of 15.
 pub fn pack_call(count: u64, result: u64, arguments: [u64; 3]) -> u64 {
     let [first, second, third] = arguments;
     let arguments = placed(first, 30, 15) | placed(second, 15, 15) | placed(third, 0, 15);
     placed(count, 60, 4) | placed(result, 45, 15) | arguments
 }
 
-/// Argument count, result type and the three argument fields of a call word.
+/// Count, result type and the three argument fields of a call word.
 pub fn unpack_call(word: u64) -> (u64, u64, [u64; 3]) {
     let arguments = [field(word, 30, 15), field(word, 15, 15), field(word, 0, 15)];
     (field(word, 60, 4), field(word, 45, 15), arguments)
+}
+
+/// What a call word's count says: the number of arguments, and whether the call acts. `None` for
+/// 4 to 7 and 12 to 15.
+pub fn read_count(count: u64) -> Option<(usize, bool)> {
+    let acts = count >= ACTING;
+    let arguments = if acts { count - ACTING } else { count };
+    (arguments <= 3).then_some((arguments as usize, acts))
 }
 
 /// A term word: 4 bits of kind, 30 of number, 30 of type.

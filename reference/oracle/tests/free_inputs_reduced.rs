@@ -31,7 +31,7 @@ fn an_unmarked_input_stays_unmarked_on_the_walk() {
     let (mut walks, mut steps, mut lost) = (0, 0, 0);
     each_sample_of_inputs(47, 1600, 60, |_, sample| {
         let checked = sample.examine().expect("generated samples are well typed");
-        let Some(listed) = sequence(&checked.term, 30_000) else {
+        let Some(listed) = sequence(&checked.tables, &checked.term, 30_000) else {
             return;
         };
         for pair in listed.terms.windows(2) {
@@ -54,7 +54,7 @@ fn an_unmarked_input_stays_unmarked_in_larger_normal_forms() {
     let mut accepted = 0;
     each_sample_of_inputs(48, 240, 400, |_, sample| {
         let checked = sample.examine().expect("generated samples are well typed");
-        let Ok((normal_form, _)) = walk(checked.term, 4000, 8192) else {
+        let Ok((normal_form, _)) = walk(&checked.tables, checked.term, 4000, 8192) else {
             return;
         };
         let source = sample.free_inputs(free_inputs);
@@ -72,7 +72,8 @@ fn check_places(places: &[&Place], input: u64) {
     let source = sample.free_inputs(free_inputs);
     assert_eq!((source.refusal, source.count), (0, 1), "{names:?}");
     let checked = sample.examine().expect("readings are well typed");
-    let (normal_form, _) = walk(checked.term, 4000, 8192).expect("the walk is short");
+    let (normal_form, _) =
+        walk(&checked.tables, checked.term, 4000, 8192).expect("the walk is short");
     let is_kept = places.iter().all(|place| place.is_kept);
     let expected = if is_kept {
         source

@@ -1,13 +1,15 @@
 //! Demands 1, 2 and 3 on random well-typed terms, inputs and answers.
 
+mod walked;
+
 use oracle::api::{normalize, Answer};
 use oracle::checks::{Checked, Refusal};
 use oracle::coding::{decode, encode};
 use oracle::deep_stack::with_deep_stack;
 use oracle::normal_form::{in_grammar, no_rule_fits};
-use oracle::reduction::{sequence, walk, Counts, Sequence};
-use oracle::rules::{rule_at, Phase, Rule, PHASES};
-use oracle::search::{first_redex, Redex};
+use oracle::reduction::{sequence, walk, Sequence};
+use oracle::rules::{Rule, PHASES};
+use oracle::search::first_redex;
 use oracle::subformula::{has_first_order_interface, has_subformula_property};
 use oracle::term::Term;
 use oracle::typing::node_types;
@@ -16,6 +18,7 @@ use tools::generate::terms::random_sample;
 use tools::generate::values::random_inputs;
 use tools::generate::{Profile, Sample};
 use tools::random::Random;
+use walked::{check_sequence, counts, first_redex_by_definition};
 
 /// The words all terms of a listed walk may have together.
 const MOST_WORDS: usize = 300_000;
@@ -39,14 +42,6 @@ fn for_samples(
     });
 }
 
-fn counts(rules: &[Rule]) -> Counts {
-    let mut counts = [0; 10];
-    for &rule in rules {
-        counts[rule as usize] += 1;
-    }
-    counts
-}
-
 #[test]
 fn encoding_undoes_decoding() {
     for_samples(1, 2000, Profile::of_size(150), |_, sample, checked| {
@@ -59,22 +54,13 @@ fn encoding_undoes_decoding() {
     });
 }
 
-/// The first redex read off the paper: the node with the smallest index at which a rule fits.
-fn first_redex_by_definition(term: &Term, phase: Phase) -> Option<Redex> {
-    let nodes = term.nodes();
-    let fitting = nodes
-        .iter()
-        .enumerate()
-        .find_map(|(index, node)| rule_at(node, phase).map(|rule| Redex { rule, index }));
-    fitting
-}
-
 #[test]
 fn search_finds_the_smallest_index() {
     for_samples(2, 3000, Profile::of_size(80), |_, _, checked| {
+        let Checked { tables, term, .. } = checked;
         for phase in PHASES {
-            let expected = first_redex_by_definition(&checked.term, phase);
-            assert_eq!(first_redex(&checked.term, phase), expected);
+            let expected = first_redex_by_definition(tables, term, phase);
+            assert_eq!(first_redex(tables, term, phase), expected);
         }
     });
 }
@@ -83,8 +69,9 @@ fn search_finds_the_smallest_index() {
 fn grammar_agrees_with_no_rule_fits() {
     let mut normal = 0;
     for_samples(3, 20_000, Profile::of_size(12), |_, sample, checked| {
-        let is_normal_form = no_rule_fits(&checked.term);
-        assert_eq!(in_grammar(&checked.term), is_normal_form);
+        let Checked { tables, term, .. } = checked;
+        let is_normal_form = no_rule_fits(tables, term);
+        assert_eq!(in_grammar(tables, term), is_normal_form);
         let answer = sample.is_normal();
         assert_eq!((answer.refusal, answer.normal), (0, is_normal_form));
         normal += usize::from(is_normal_form);
@@ -92,48 +79,12 @@ fn grammar_agrees_with_no_rule_fits() {
     assert!(normal > 1000, "{normal} normal forms");
 }
 
-/// Checks all of demand 3's first half, and demand 2's order of phases, on a listed walk.
-fn check_sequence(checked: &Checked, listed: &Sequence) {
-    let Checked {
-        tables,
-        term,
-        type_number,
-    } = checked;
-    assert_eq!(listed.terms.len(), listed.rules.len() + 1);
-    assert_eq!(&listed.terms[0], term);
-
-    let is_insertion = |rule: &&Rule| **rule == Rule::LetInsertion;
-    let insertions = listed.rules.iter().take_while(is_insertion).count();
-    assert_eq!(insertions, term.computation_operands());
-    let reduced = &listed.rules[insertions..listed.removal_start()];
-    assert!(!reduced.contains(&Rule::LetInsertion));
-    let dropped = &listed.rules[listed.removal_start()..];
-    assert!(dropped.iter().all(|&rule| rule == Rule::Drop));
-    assert_eq!(listed.terms[insertions].computation_operands(), 0);
-
-    for term in &listed.terms {
-        let types = node_types(tables, term).expect("each term of the walk is well typed");
-        assert_eq!(types[0], *type_number);
-        assert_eq!(in_grammar(term), no_rule_fits(term));
-        for phase in PHASES {
-            let expected = first_redex_by_definition(term, phase);
-            assert_eq!(first_redex(term, phase), expected);
-        }
-    }
-    for (index, term) in listed.terms.iter().enumerate() {
-        let is_last = index + 1 == listed.terms.len();
-        assert_eq!(no_rule_fits(term), is_last);
-    }
-    let normal_form = &listed.terms[listed.rules.len()];
-    assert!(has_subformula_property(tables, normal_form));
-}
-
 #[test]
 fn walks_keep_the_type_and_end_in_a_normal_form() {
     let mut totals = [0; 10];
     let (mut unlisted, mut without_property) = (0, 0);
     for_samples(4, 2500, Profile::of_size(50), |_, _, checked| {
-        let Some(listed) = sequence(&checked.term, 30_000) else {
+        let Some(listed) = sequence(&checked.tables, &checked.term, 30_000) else {
             unlisted += 1;
             return;
         };
@@ -153,16 +104,17 @@ fn walks_keep_the_type_and_end_in_a_normal_form() {
 fn larger_normal_forms_have_the_subformula_property() {
     let mut accepted = 0;
     for_samples(5, 300, Profile::of_size(400), |_, _, checked| {
-        let Ok((normal_form, counts)) = walk(checked.term.clone(), LARGE_BUDGET, 8192) else {
+        let Checked { tables, term, .. } = checked;
+        let Ok((normal_form, counts)) = walk(tables, term.clone(), LARGE_BUDGET, 8192) else {
             return;
         };
         accepted += 1;
-        let types = node_types(&checked.tables, &normal_form).expect("normal forms are typed");
+        let types = node_types(tables, &normal_form).expect("normal forms are typed");
         assert_eq!(types[0], checked.type_number);
-        assert!(no_rule_fits(&normal_form) && in_grammar(&normal_form));
-        assert!(has_subformula_property(&checked.tables, &normal_form));
+        assert!(no_rule_fits(tables, &normal_form) && in_grammar(tables, &normal_form));
+        assert!(has_subformula_property(tables, &normal_form));
         let insertions = counts[Rule::LetInsertion as usize] as usize;
-        assert_eq!(insertions, checked.term.computation_operands());
+        assert_eq!(insertions, term.computation_operands());
     });
     assert!(accepted > 200, "{accepted} accepted");
 }
@@ -227,7 +179,7 @@ fn check_normalize(
 fn budget_and_capacity_fall_where_the_walk_meets_them() {
     let mut refusals = [0; 12];
     for_samples(6, 2000, Profile::of_size(60), |random, sample, checked| {
-        let Some(listed) = sequence(&checked.term, MOST_WORDS) else {
+        let Some(listed) = sequence(&checked.tables, &checked.term, MOST_WORDS) else {
             return;
         };
         let steps = listed.rules.len();
@@ -274,7 +226,7 @@ fn runs_give_the_same_answer_and_the_same_calls() {
             type_number,
         } = checked;
         assert!(has_first_order_interface(tables, term, *type_number));
-        let Some(listed) = sequence(term, 30_000) else {
+        let Some(listed) = sequence(tables, term, 30_000) else {
             return;
         };
         let (kept, dropped) = listed.terms.split_at(listed.removal_start() + 1);
@@ -312,7 +264,7 @@ fn runs_of_larger_normal_forms_agree() {
     let profile = Profile::of_size(400).first_order();
     for_samples(8, 300, profile, |random, _, checked| {
         let Checked { tables, term, .. } = checked;
-        let Ok((normal_form, _)) = walk(term.clone(), LARGE_BUDGET, 8192) else {
+        let Ok((normal_form, _)) = walk(tables, term.clone(), LARGE_BUDGET, 8192) else {
             return;
         };
         let inputs = random_inputs(random, tables);

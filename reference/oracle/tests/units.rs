@@ -1,11 +1,10 @@
 //! Small terms with units: their normal forms and counts, found by hand.
 
-use oracle::api::{normalize, Answer};
-use oracle::reduction::Counts;
+mod small_terms;
+
+use small_terms::{check_shapes, Reduced};
 use tools::generate::phrases::*;
-use tools::generate::shapes::Shape;
 use tools::generate::units::*;
-use tools::generate::Sample;
 
 /// A call on the variable just bound.
 fn on_bound(number: u64) -> Phrase {
@@ -13,7 +12,7 @@ fn on_bound(number: u64) -> Phrase {
 }
 
 /// The named small terms that are to be reduced, each with its normal form and counts.
-fn reduced() -> Vec<(&'static str, Phrase, Counts)> {
+fn reduced() -> Vec<Reduced> {
     let taken = call(TAKE, &[&u()]);
     let helped = let_in(&c(), &on_bound(D));
     let helped_in_pair = let_in(
@@ -24,7 +23,6 @@ fn reduced() -> Vec<(&'static str, Phrase, Counts)> {
         &call(CHOICE, &[]),
         &case(&variable(0), &on_bound(D), &on_bound(TAKE)),
     );
-    let given = let_in(&call(GIVE, &[]), &on_bound(TAKE));
     vec![
         ("a half of two units", u(), [0, 0, 0, 0, 0, 1, 0, 0, 0, 0]),
         (
@@ -97,7 +95,6 @@ fn reduced() -> Vec<(&'static str, Phrase, Counts)> {
             taken,
             [0, 0, 0, 0, 0, 0, 0, 1, 0, 0],
         ),
-        ("a given unit", given, [0; 10]),
         (
             "an input that gives nothing",
             let_in(
@@ -114,35 +111,8 @@ fn reduced() -> Vec<(&'static str, Phrase, Counts)> {
     ]
 }
 
-fn normal_form(sample: &Sample) -> (Answer, Vec<u64>) {
-    let mut buffers = [vec![7; 60], vec![8; 60], vec![9; 60]];
-    let answer = sample.normalize(normalize, 100, &mut buffers);
-    let [output, first_scratch, second_scratch] = buffers;
-    assert!(output[answer.length..].iter().all(|&word| word == 7));
-    assert_eq!([first_scratch, second_scratch], [[0; 60], [0; 60]]);
-    (answer, output[..answer.length].to_vec())
-}
-
-#[test]
-fn small_terms() {
-    let mut expected = reduced();
-    for Shape { name, sample } in small_units() {
-        let (answer, words) = normal_form(&sample);
-        assert_eq!(answer.refusal, 0, "{name}");
-        assert_eq!(answer.type_number, sample.check().type_number);
-        let index = expected.iter().position(|(other, ..)| *other == name);
-        match index.map(|index| expected.remove(index)) {
-            Some((_, normal_form, counts)) => {
-                assert_eq!((words, answer.counts), (normal_form, counts), "{name}");
-            }
-            None => assert!(NORMAL_FORMS.contains(&name), "{name}"),
-        }
-    }
-    assert_eq!(expected, []);
-}
-
 /// The others.
-const NORMAL_FORMS: [&str; 11] = [
+const NORMAL_FORMS: [&str; 12] = [
     "a unit",
     "an input",
     "a pair of units",
@@ -150,6 +120,7 @@ const NORMAL_FORMS: [&str; 11] = [
     "a choice without contents",
     "a function of a unit",
     "an input that takes nothing",
+    "a given unit",
     "a unit argument",
     "the last argument",
     "a case without contents",
@@ -157,12 +128,6 @@ const NORMAL_FORMS: [&str; 11] = [
 ];
 
 #[test]
-fn normal_forms_stay() {
-    for name in NORMAL_FORMS {
-        let mut shapes = small_units().into_iter();
-        let shape = shapes.find(|shape| shape.name == name).expect(name);
-        let (answer, words) = normal_form(&shape.sample);
-        assert_eq!((words, answer.counts), (shape.sample.term.clone(), [0; 10]));
-        assert!(shape.sample.is_normal().normal, "{name}");
-    }
+fn small_terms() {
+    check_shapes(small_units(), reduced(), &NORMAL_FORMS);
 }

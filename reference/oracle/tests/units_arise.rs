@@ -20,7 +20,7 @@ fn steps_without_units(sample: &Sample) -> usize {
     if units(&checked.term) > 0 {
         return 0;
     }
-    let Some(listed) = sequence(&checked.term, MOST_WORDS) else {
+    let Some(listed) = sequence(&checked.tables, &checked.term, MOST_WORDS) else {
         return 0;
     };
     assert!(listed.terms.iter().all(|term| units(term) == 0));
@@ -50,7 +50,7 @@ fn only_rules_that_copy_add_units() {
     let (mut added, mut lost) = (0, 0);
     each_unit_sample(73, 1500, 60, |_, sample| {
         let checked = sample.examine().expect("generated samples are well typed");
-        let Some(listed) = sequence(&checked.term, MOST_WORDS) else {
+        let Some(listed) = sequence(&checked.tables, &checked.term, MOST_WORDS) else {
             return;
         };
         for (pair, rule) in listed.terms.windows(2).zip(&listed.rules) {

@@ -39,7 +39,7 @@ fn runs_give_the_same_answer_and_the_same_calls() {
         if !has_first_order_interface(&tables, &term, type_number) {
             return;
         }
-        let Some(listed) = sequence(&term, MOST_WORDS) else {
+        let Some(listed) = sequence(&tables, &term, MOST_WORDS) else {
             return;
         };
         let inputs = random_inputs(random, &tables);

@@ -32,16 +32,20 @@ fn a_let_of_a_unit_is_removed_by_let_value_alone() {
     let mut lets = 0;
     each_unit_sample(81, 2000, 50, |_, sample| {
         let checked = sample.examine().expect("generated samples are well typed");
-        let Some(listed) = sequence(&checked.term, MOST_WORDS) else {
+        let Some(listed) = sequence(&checked.tables, &checked.term, MOST_WORDS) else {
             return;
         };
+        let tables = &checked.tables;
         for term in &listed.terms {
             for node in term.nodes() {
                 let Term::Let(bound, _) = node else { continue };
                 if is_unit(bound) {
-                    assert_eq!(rule_at(node, Phase::Reduction), Some(Rule::LetValue));
-                    assert_eq!(rule_at(node, Phase::Insertion), None);
-                    assert_eq!(rule_at(node, Phase::Removal), None);
+                    assert_eq!(
+                        rule_at(tables, node, Phase::Reduction),
+                        Some(Rule::LetValue)
+                    );
+                    assert_eq!(rule_at(tables, node, Phase::Insertion), None);
+                    assert_eq!(rule_at(tables, node, Phase::Removal), None);
                     lets += 1;
                 }
             }
@@ -56,7 +60,7 @@ fn phase_one_binds_no_unit() {
     each_unit_sample(82, 4000, 50, |_, sample| {
         let checked = sample.examine().expect("generated samples are well typed");
         let mut term = checked.term;
-        while let Some(redex) = first_redex(&term, Phase::Insertion) {
+        while let Some(redex) = first_redex(&checked.tables, &term, Phase::Insertion) {
             let node = term.node_mut(redex.index).clone();
             let has_unit = node.parts().any(|(_, part)| is_unit(part));
             units_kept += usize::from(has_unit);

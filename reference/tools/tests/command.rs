@@ -58,7 +58,7 @@ header            types  calls  inputs  term
 types             kind  left  right
 0000000000000000     0     0      0  t0 = b0
 
-calls             arguments  result  their types
+calls             count  result  their types
 
 inputs            type
 0000000000000000     0  i0: b0

@@ -1,6 +1,7 @@
 //! The shipped examples: the committed files are the generated ones, and the listings are what both
 //! implementations respond and what the README quotes.
 
+use oracle::checks::Checked;
 use oracle::coding::encode;
 use oracle::listing::respond;
 use tools::examples::files;
@@ -28,10 +29,11 @@ fn example(name: &str) -> Example {
 
 /// The words of the normal form, and the counts.
 fn normal_form(example: &Example) -> (Vec<u64>, Counts) {
-    let term = example.sample.examine().expect("a well-typed term").term;
-    let limits = Limits::OF_PROGRAM;
-    let (term, counts) = walk(term, limits.budget, limits.lengths[0]).expect("a normal form");
-    (encode(&term), counts)
+    let Checked { tables, term, .. } = example.sample.examine().expect("a well-typed term");
+    let Limits { budget, lengths } = Limits::OF_PROGRAM;
+    let walked = walk(&tables, term, budget, lengths[0]);
+    let (normal_form, counts) = walked.expect("a normal form");
+    (encode(&normal_form), counts)
 }
 
 /// How many words have this kind.
@@ -131,6 +133,56 @@ fn the_plate_has_no_helper_and_one_case() {
     ] {
         assert_eq!(calls(&words, call, &plate), times, "{call}");
     }
+}
+
+#[test]
+fn the_stamp_stays_and_the_measure_goes() {
+    let stamp = example("stamp");
+    let (words, counts) = normal_form(&stamp);
+    assert_eq!(counts, [1, 1, 0, 1, 0, 0, 0, 0, 1, 1]);
+    for (call, before, after) in [
+        ("stamp", 1, 1),
+        ("deskew", 1, 1),
+        ("measure", 1, 0),
+        ("transcribe", 1, 1),
+    ] {
+        assert_eq!(calls(&stamp.sample.term, call, &stamp), before, "{call}");
+        assert_eq!(calls(&words, call, &stamp), after, "{call}");
+    }
+    // The answer of the stamp is not used: the deskewed page is variable 0 in the end.
+    let (page, second) = (pack_term(VARIABLE, 0, 0), pack_term(VARIABLE, 1, 0));
+    let [stamped, deskewed, transcribed] = [0, 1, 3].map(|number| pack_term(CALL, number, 0));
+    let let_node = pack_term(LET, 0, 0);
+    let expected = [
+        let_node,
+        stamped,
+        page,
+        let_node,
+        deskewed,
+        second,
+        transcribed,
+        page,
+    ];
+    assert_eq!(words, expected);
+    // If it did not act, it would go as well.
+    let plain = Example {
+        sample: stamp.sample.without_acting_calls(),
+        ..stamp
+    };
+    assert_eq!(calls(&normal_form(&plain).0, "stamp", &plain), 0);
+}
+
+#[test]
+fn only_clearing_and_storing_and_stamping_act() {
+    let mut acting = Vec::new();
+    for Example { sample, legend, .. } in examples() {
+        let words = sample.calls.iter().zip(legend.calls);
+        acting.extend(words.filter_map(|(&word, &name)| {
+            let (count, ..) = unpack_call(word);
+            (count >= ACTING).then_some((name, count))
+        }));
+    }
+    assert_eq!(acting, [("clear", 9), ("store", 10), ("stamp", 9)]);
 }
 
 /// `let caption(plate)`.

@@ -101,6 +101,50 @@ after: 8 words
 }
 
 #[test]
+fn calls_that_act() {
+    use phrases::*;
+    use tools::generate::acting::{self, begin, d};
+    let term = let_in(&begin(), &let_in(&d(1), &variable(2)));
+    let sample = acting::sample(&[B], term);
+    let expected = "\
+before: 6 words of type b0
+  let x0 = c2() in
+  let x1 = c1(i0) in
+  i0
+steps: 1
+  drop 1
+after: 3 words
+  let x0 = c2() in
+  i0
+";
+    assert_eq!(lines_of_terms(&sample), expected);
+    let text = shown(&sample).text();
+    let calls = "\
+calls
+  c0(): b0
+  c1(b0): b0
+  c2(): b0, acting
+  c3(b0): b0, acting
+  c4(b0, b0): b0, acting
+  c5(b0, b0, b0): b0, acting
+  c6(): b0 + b0, acting
+  c7(b0 → b0): b0
+inputs
+";
+    assert!(text.contains(calls), "{text}");
+    // The words have the count, which is not the number of arguments.
+    let words = shown(&sample).words();
+    for line in [
+        "calls             count  result  their types\n",
+        "1000000000000000      1       0    0   0   0  c1(b0): b0\n",
+        "8000000000000000      8       0    0   0   0  c2(): b0, acting\n",
+        "b000000000000000     11       0    0   0   0  c5(b0, b0, b0): b0, acting\n",
+    ] {
+        assert!(words.contains(line), "{words}");
+    }
+}
+
+#[test]
 fn tables() {
     let text = shown(&branching(1)).text();
     let expected = "\

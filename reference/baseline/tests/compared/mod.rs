@@ -1,6 +1,7 @@
-//! The normalizer on words beside the one on trees.
+//! The calls on words beside those on trees.
 
 use oracle::api::{self, Answer, Normalize};
+use oracle::free_inputs::free_inputs;
 use tools::generate::limits::Limits;
 use tools::generate::Sample;
 
@@ -11,8 +12,11 @@ pub fn outcome(normalize: Normalize, sample: &Sample, limits: Limits) -> (Answer
     (answer, buffers)
 }
 
-/// Asserts that both implementations agree; answers the answer.
+/// Asserts that both implementations of normalize and of free_inputs agree; answers the answer of
+/// normalize.
 pub fn agree(sample: &Sample, limits: Limits, name: &str) -> Answer {
+    let read = sample.free_inputs(free_inputs);
+    assert_eq!(sample.free_inputs(baseline::free_inputs), read, "{name}");
     let on_trees = outcome(api::normalize, sample, limits);
     let on_words = outcome(baseline::normalize, sample, limits);
     assert_eq!(on_words, on_trees, "{name}");

@@ -1,6 +1,7 @@
 //! Faults for the refusals 1 to 9: one for each reason in the paper's table. `unit_damage.rs` has
-//! those of the unit type.
+//! those of the unit type, `acting_damage.rs` those of calls that act.
 
+use super::acting_damage::ACTING_DAMAGES;
 use super::ill_typed::broken_sample;
 use super::unit_damage::UNIT_DAMAGES;
 use super::Sample;
@@ -34,7 +35,7 @@ impl Damage {
 
 /// All faults in the dialect of the public calls.
 pub fn damages() -> Vec<&'static Damage> {
-    let all = DAMAGES.iter().chain(UNIT_DAMAGES);
+    let all = DAMAGES.iter().chain(UNIT_DAMAGES).chain(ACTING_DAMAGES);
     all.filter(|damage| damage.is_current()).collect()
 }
 
@@ -101,10 +102,15 @@ pub const DAMAGES: &[Damage] = &[
         let copy = random.between(original + 1, sample.types.len());
         sample.types.insert(copy, sample.types[original]);
     }),
-    damage(4, "argument count over 3", |random, sample| {
-        let word = pack_call(random.between(4, 15) as u64, 0, [0; 3]);
-        random.insert(&mut sample.calls, word);
-    }),
+    damage_until(
+        Dialect::Acting,
+        4,
+        "argument count over 3",
+        |random, sample| {
+            let word = pack_call(random.between(4, 15) as u64, 0, [0; 3]);
+            random.insert(&mut sample.calls, word);
+        },
+    ),
     damage(4, "unknown result type", |random, sample| {
         let unknown = unknown_number(random, sample.types.len(), 15);
         let count = random.between(0, 3) as u64;

@@ -59,11 +59,32 @@ pub fn each_unit_sample(
 ) {
     let make = |random: &mut Random, turn: usize| {
         let profile = Profile::of_size(random.between(1, most_fuel)).with_units();
-        let profile = match turn % 2 {
-            0 => profile,
-            _ => profile.first_order(),
-        };
-        random_sample(random, &profile)
+        random_sample(random, &first_order_by_turns(profile, turn))
     };
     each_sample(seed, count, make, test);
+}
+
+/// The same with calls that act in most of the cases, and by turns with the unit type.
+pub fn each_acting_sample(
+    seed: u64,
+    count: usize,
+    most_fuel: usize,
+    test: impl FnMut(&mut Random, Sample) + Send,
+) {
+    let make = |random: &mut Random, turn: usize| {
+        let profile = Profile::of_size(random.between(1, most_fuel)).with_acting_calls();
+        let profile = match turn % 4 {
+            0..2 => profile,
+            _ => profile.with_units(),
+        };
+        random_sample(random, &first_order_by_turns(profile, turn))
+    };
+    each_sample(seed, count, make, test);
+}
+
+fn first_order_by_turns(profile: Profile, turn: usize) -> Profile {
+    match turn % 2 {
+        0 => profile,
+        _ => profile.first_order(),
+    }
 }

@@ -12,14 +12,16 @@ pub struct Example {
     pub legend: Legend,
 }
 
-pub fn examples() -> [Example; 4] {
-    let [sample, register, tithe] = base_examples();
-    [sample, register, tithe, plate()]
+pub fn examples() -> [Example; 5] {
+    [sample(), register(), tithe(), plate(), stamp()]
 }
 
-/// The examples of the base dialect.
+/// The examples of the base dialect, in which no call acts.
 pub fn base_examples() -> [Example; 3] {
-    [sample(), register(), tithe()]
+    [sample(), register(), tithe()].map(|example| Example {
+        sample: example.sample.without_acting_calls(),
+        ..example
+    })
 }
 
 /// Case A of paper 01: `(λx. d(x)) c()`.
@@ -115,8 +117,9 @@ fn register() -> Example {
 ///     right text: store(batch, text)
 /// ```
 ///
-/// In the normal form one case is left, and each branch makes the calls of its side only.
-fn tithe() -> Example {
+/// In the normal form one case is left, and each branch makes the calls of its side only. The calls
+/// `clear` and `store` act.
+pub fn tithe() -> Example {
     const IMAGE: u64 = 0;
     const BATCH: u64 = 1;
     const MARK: u64 = 2;
@@ -156,8 +159,8 @@ fn tithe() -> Example {
             calls: vec![
                 pack_call(1, MARK_OR_IMAGE, [IMAGE, 0, 0]),
                 pack_call(1, TEXT, [IMAGE, 0, 0]),
-                pack_call(1, RECEIPT, [BATCH, 0, 0]),
-                pack_call(2, RECEIPT, [BATCH, TEXT, 0]),
+                pack_call(ACTING + 1, RECEIPT, [BATCH, 0, 0]),
+                pack_call(ACTING + 2, RECEIPT, [BATCH, TEXT, 0]),
             ],
             inputs: vec![IMAGE, BATCH],
             term: let_in(&reading, &case(&read, &cleared, &stored)),
@@ -232,6 +235,63 @@ pub fn plate() -> Example {
             bases: &["image", "text", "name", "record"],
             calls: &["caption", "recognise", "title", "number", "file"],
             inputs: &["plate"],
+        },
+    }
+}
+
+/// A call that acts and one that does not, of which neither answer is used:
+///
+/// ```text
+/// let prepare = λimage. let receipt = stamp(image) in deskew(image) in
+/// let size = measure(page) in
+/// transcribe(prepare page)
+/// ```
+///
+/// In the normal form `stamp` is still called, before `deskew`, though nothing reads its receipt;
+/// `measure`, which does not act, is dropped.
+pub fn stamp() -> Example {
+    const IMAGE: u64 = 0;
+    const RECEIPT: u64 = 1;
+    const SIZE: u64 = 2;
+    const TEXT: u64 = 3;
+    const IMAGE_TO_IMAGE: u64 = 4;
+    const STAMP: u64 = 0;
+    const DESKEW: u64 = 1;
+    const MEASURE: u64 = 2;
+    const TRANSCRIBE: u64 = 3;
+    // In the helper, under the let, the image is variable 1.
+    let stamped = let_in(
+        &call(STAMP, &[&variable(0)]),
+        &call(DESKEW, &[&variable(1)]),
+    );
+    let prepare = function(IMAGE_TO_IMAGE, &stamped);
+    // Under one let, the page is variable 1; under both, the helper is variable 1.
+    let measured = call(MEASURE, &[&variable(1)]);
+    let prepared = apply(&variable(1), &variable(2));
+    let transcribed = call(TRANSCRIBE, &[&prepared]);
+    Example {
+        name: "stamp",
+        sample: Sample {
+            types: vec![
+                pack_type(BASE, 0, 0),
+                pack_type(BASE, 1, 0),
+                pack_type(BASE, 2, 0),
+                pack_type(BASE, 3, 0),
+                pack_type(FUNCTION_TYPE, IMAGE, IMAGE),
+            ],
+            calls: vec![
+                pack_call(ACTING + 1, RECEIPT, [IMAGE, 0, 0]),
+                pack_call(1, IMAGE, [IMAGE, 0, 0]),
+                pack_call(1, SIZE, [IMAGE, 0, 0]),
+                pack_call(1, TEXT, [IMAGE, 0, 0]),
+            ],
+            inputs: vec![IMAGE],
+            term: let_in(&prepare, &let_in(&measured, &transcribed)),
+        },
+        legend: Legend {
+            bases: &["image", "receipt", "size", "text"],
+            calls: &["stamp", "deskew", "measure", "transcribe"],
+            inputs: &["page"],
         },
     }
 }

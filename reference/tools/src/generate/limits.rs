@@ -3,6 +3,7 @@
 use super::Sample;
 use crate::random::Random;
 use oracle::api::LARGEST_CAPACITY;
+use oracle::checks::Checked;
 use oracle::reduction::{grown, step};
 use oracle::rules::{growth, PHASES};
 use oracle::search::first_redex;
@@ -38,14 +39,16 @@ pub struct Needs {
 
 /// What the sample's walk needs; `None` if it is refused, or takes more than `most_steps`.
 pub fn needs(sample: &Sample, most_steps: u32) -> Option<Needs> {
-    let mut term = sample.examine().ok()?.term;
+    let Checked {
+        tables, mut term, ..
+    } = sample.examine().ok()?;
     let mut length = term.size();
     let mut needs = Needs {
         steps: 0,
         capacity: length,
     };
     for phase in PHASES {
-        while let Some(redex) = first_redex(&term, phase) {
+        while let Some(redex) = first_redex(&tables, &term, phase) {
             length = grown(length, growth(redex.rule, term.node_mut(redex.index)));
             if length > LARGEST_CAPACITY || needs.steps == most_steps {
                 return None;
@@ -56,4 +59,23 @@ pub fn needs(sample: &Sample, most_steps: u32) -> Option<Needs> {
         }
     }
     Some(needs)
+}
+
+/// What the sample's walk needs, one step or one word less, and more of both; nothing if it is refused
+/// or takes more than `most_steps`.
+pub fn near_needs(random: &mut Random, sample: &Sample, most_steps: u32) -> Vec<Limits> {
+    let Some(Needs { steps, capacity }) = needs(sample, most_steps) else {
+        return Vec::new();
+    };
+    let mut limits = Vec::new();
+    for (fewer_steps, fewer_words) in [(0, 0), (1, 0), (0, 1), (1, 1)] {
+        let budget = steps.saturating_sub(fewer_steps);
+        limits.push(Limits::with_capacity(
+            random,
+            budget,
+            capacity - fewer_words,
+        ));
+    }
+    limits.push(Limits::with_capacity(random, steps + 5, capacity + 9));
+    limits
 }

@@ -1,5 +1,8 @@
 //! Seeded generators of samples: well-typed terms with their tables, damaged ones, boundary sizes.
 
+pub mod acting;
+pub mod acting_damage;
+pub mod acting_shapes;
 pub mod boundaries;
 pub mod bundles;
 pub mod calls;
@@ -24,7 +27,7 @@ pub mod values;
 
 use oracle::bundle::{read_bundle, write_bundle};
 use oracle::checks::{examine, Checked, Refusal, LONGEST_TO_EXAMINE};
-use oracle::words::{unpack_term, UNIT};
+use oracle::words::{pack_call, read_count, unpack_call, unpack_term, ACTING, CALL, UNIT};
 
 /// Three tables and a term as words.
 #[derive(Clone, Debug, PartialEq, Eq)]
@@ -50,6 +53,29 @@ impl Sample {
     /// Whether some node is a unit.
     pub fn has_unit(&self) -> bool {
         self.term.iter().any(|&word| unpack_term(word).0 == UNIT)
+    }
+
+    /// Whether some call of the table acts.
+    pub fn has_acting_call(&self) -> bool {
+        self.calls.iter().any(|&word| acts(word))
+    }
+
+    /// Whether some node names a call that acts; the nodes' calls are known.
+    pub fn names_acting_call(&self) -> bool {
+        let mut nodes = self.term.iter().map(|&word| unpack_term(word));
+        nodes.any(|(kind, number, _)| kind == CALL && acts(self.calls[number as usize]))
+    }
+
+    /// The same sample, except that no call acts; the calls' counts are known.
+    pub fn without_acting_calls(&self) -> Sample {
+        let calls = self.calls.iter().map(|&word| {
+            let (count, result, types) = unpack_call(word);
+            pack_call(count % ACTING, result, types)
+        });
+        Sample {
+            calls: calls.collect(),
+            ..self.clone()
+        }
     }
 
     /// The number of words in all four tables.
@@ -81,6 +107,11 @@ impl Sample {
     }
 }
 
+/// Whether this call word is that of a call that acts.
+fn acts(word: u64) -> bool {
+    read_count(unpack_call(word).0).is_some_and(|(_, acts)| acts)
+}
+
 /// What kind of sample to generate.
 #[derive(Clone, Copy, Debug)]
 pub struct Profile {
@@ -93,6 +124,8 @@ pub struct Profile {
     pub first_order: bool,
     /// With the unit type.
     pub units: bool,
+    /// With calls that act, in most of the samples, and with unused lets.
+    pub acting: bool,
 }
 
 impl Profile {
@@ -104,6 +137,7 @@ impl Profile {
         fuel: 20,
         first_order: false,
         units: false,
+        acting: false,
     };
 
     /// The same with space for the words that damages insert.
@@ -123,6 +157,7 @@ impl Profile {
             fuel,
             first_order: false,
             units: false,
+            acting: false,
         }
     }
 
@@ -138,6 +173,14 @@ impl Profile {
     pub fn with_units(self) -> Profile {
         Profile {
             units: true,
+            ..self
+        }
+    }
+
+    /// The same with calls that act.
+    pub fn with_acting_calls(self) -> Profile {
+        Profile {
+            acting: true,
             ..self
         }
     }

@@ -44,6 +44,9 @@ pub fn random_tables(random: &mut Random, profile: &Profile) -> TableWords {
         let number = *random.pick(&usable);
         random.insert(&mut inputs, number);
     }
+    if profile.acting {
+        let_some_act(random, &mut calls);
+    }
     TableWords {
         types,
         calls,
@@ -107,12 +110,28 @@ fn random_base(random: &mut Random) -> u64 {
     pack_type(BASE, name as u64, 0)
 }
 
-/// A call word with random types out of these.
+/// A call word with random types out of these; the call does not act.
 pub fn random_call(random: &mut Random, usable: &[u64]) -> u64 {
-    let count = random.between(0, 3);
+    let number = random.between(0, 3);
     let mut arguments = [0; 3];
-    for argument in &mut arguments[..count] {
+    for argument in &mut arguments[..number] {
         *argument = *random.pick(usable);
     }
-    pack_call(count as u64, *random.pick(usable), arguments)
+    pack_call(number as u64, *random.pick(usable), arguments)
+}
+
+/// The word of the same call, except that it acts.
+pub fn acting(word: u64) -> u64 {
+    let (arguments, result, types) = unpack_call(word);
+    pack_call(ACTING + arguments, result, types)
+}
+
+/// Makes some of the calls act, or all, or none.
+fn let_some_act(random: &mut Random, calls: &mut [u64]) {
+    let percent = *random.pick(&[0, 0, 30, 60, 100]);
+    for word in calls {
+        if random.chance(percent) {
+            *word = acting(*word);
+        }
+    }
 }

@@ -1,9 +1,10 @@
 //! Well-typed random terms, built from a goal type downwards.
 
-use super::tables::{random_call, random_tables, usable_types, TableWords};
+use super::tables::{acting, random_call, random_tables, usable_types, TableWords};
 use super::{Profile, Sample};
 use crate::random::Random;
 use oracle::coding::encode;
+use oracle::substitution::raise;
 use oracle::tables::{Tables, Type};
 use oracle::term::Term;
 
@@ -24,12 +25,16 @@ pub fn random_sample_over(random: &mut Random, profile: &Profile, mut words: Tab
         random,
         tables: &tables,
         scope: Vec::new(),
+        forms: if profile.acting { &WITH_UNUSED } else { &FORMS },
     };
     let term = builder.term(goal, fuel);
-    if words.calls.len() < profile.most_calls && random.chance(20) {
+    let percent = if profile.acting { 50 } else { 20 };
+    if words.calls.len() < profile.most_calls && random.chance(percent) {
         // The term does not use this call: it may have functions in its types.
         let all_types = usable_types(&words.types, false);
-        words.calls.push(random_call(random, &all_types));
+        let word = random_call(random, &all_types);
+        let acts = profile.acting && random.chance(70);
+        words.calls.push(if acts { acting(word) } else { word });
     }
     Sample {
         types: words.types,
@@ -47,6 +52,7 @@ struct Builder<'a> {
     tables: &'a Tables,
     /// Types of the binders around, the innermost last.
     scope: Vec<u32>,
+    forms: &'static [Form],
 }
 
 /// The forms a node can take for a goal.
@@ -59,6 +65,7 @@ enum Form {
     Application,
     Projection,
     Case,
+    UnusedLet,
 }
 
 /// The forms, repeated by weight.
@@ -85,6 +92,14 @@ const FORMS: [Form; 20] = [
     Form::Case,
 ];
 
+/// The same with lets that are not used.
+const WITH_UNUSED: [Form; 26] = {
+    let mut forms = [Form::UnusedLet; 26];
+    let (all, _) = forms.split_at_mut(FORMS.len());
+    all.copy_from_slice(&FORMS);
+    forms
+};
+
 impl Builder<'_> {
     /// A term of the goal type with about `fuel` nodes.
     fn term(&mut self, goal: u32, fuel: usize) -> Term {
@@ -92,7 +107,7 @@ impl Builder<'_> {
             return self.smallest(goal);
         }
         for _ in 0..8 {
-            let form = *self.random.pick(&FORMS);
+            let form = *self.random.pick(self.forms);
             let made = match form {
                 Form::Variable => self.variable(goal).filter(|_| fuel <= LEAF_FUEL),
                 Form::Introduction => self.introduction(goal, fuel - 1),
@@ -101,6 +116,7 @@ impl Builder<'_> {
                 Form::Application => self.application(goal, fuel - 1),
                 Form::Projection => self.projection(goal, fuel - 1),
                 Form::Case => self.case(goal, fuel - 1),
+                Form::UnusedLet => self.unused_let(goal, fuel - 1),
             };
             if let Some(term) = made {
                 return term;
@@ -143,7 +159,7 @@ impl Builder<'_> {
 
     /// A call without arguments.
     fn constant(&mut self, goal: u32) -> Option<Term> {
-        let numbers = self.calls(goal, |count| count == 0);
+        let numbers = self.calls(goal, |arguments| arguments == 0);
         let number = *numbers.get(self.random.below(numbers.len()))?;
         Some(Term::Call(number, Vec::new()))
     }
@@ -171,8 +187,12 @@ impl Builder<'_> {
     }
 
     fn call(&mut self, goal: u32, fuel: usize) -> Option<Term> {
-        let numbers = self.calls(goal, |count| count > 0 || fuel < LEAF_FUEL);
+        let numbers = self.calls(goal, |arguments| arguments > 0 || fuel < LEAF_FUEL);
         let number = *numbers.get(self.random.below(numbers.len()))?;
+        Some(self.call_of(number, fuel))
+    }
+
+    fn call_of(&mut self, number: u32, fuel: usize) -> Term {
         let tables = self.tables;
         let mut remaining = fuel;
         let mut arguments = Vec::new();
@@ -181,7 +201,7 @@ impl Builder<'_> {
             arguments.push(self.term(argument, here));
             remaining = rest;
         }
-        Some(Term::Call(number, arguments))
+        Term::Call(number, arguments)
     }
 
     /// A let, most often of a helper function.
@@ -239,6 +259,44 @@ impl Builder<'_> {
         Some(Term::Case(subject, left_branch, right_branch))
     }
 
+    /// A let of a computation over a part that does not use it.
+    fn unused_let(&mut self, goal: u32, fuel: usize) -> Option<Term> {
+        let (bound_fuel, body_fuel) = self.split(fuel);
+        let bound = self.computation(bound_fuel)?;
+        let mut body = self.boxed(goal, body_fuel);
+        raise(&mut body, 1, 0);
+        Some(Term::Let(Box::new(bound), body))
+    }
+
+    /// A call, an application of a variable, a projection or a case, of any type.
+    fn computation(&mut self, fuel: usize) -> Option<Term> {
+        let any_type = self.random.below(self.tables.types.len()) as u32;
+        match self.random.below(7) {
+            0..3 => {
+                let calls = self.tables.signatures.len();
+                let number = self.random.below(calls) as u32;
+                (calls > 0).then(|| self.call_of(number, fuel))
+            }
+            3..5 => self.application_of_variable(fuel),
+            5 => self.projection(any_type, fuel),
+            _ => self.case(any_type, fuel),
+        }
+    }
+
+    fn application_of_variable(&mut self, fuel: usize) -> Option<Term> {
+        let in_scope = self.scope.iter().rev().chain(&self.tables.inputs);
+        let functions: Vec<(u32, u32)> = (0..)
+            .zip(in_scope)
+            .filter_map(|(number, &whole)| match self.tables.type_at(whole) {
+                Type::Function(domain, _) => Some((number, domain)),
+                _ => None,
+            })
+            .collect();
+        let (number, domain) = *functions.get(self.random.below(functions.len()))?;
+        let head = Box::new(Term::Variable(number));
+        Some(Term::Application(head, self.boxed(domain, fuel)))
+    }
+
     fn boxed(&mut self, goal: u32, fuel: usize) -> Box<Term> {
         Box::new(self.term(goal, fuel))
     }
@@ -256,7 +314,7 @@ impl Builder<'_> {
         (left, fuel - left)
     }
 
-    /// Numbers of the calls with this result and an argument count that is `wanted`.
+    /// Numbers of the calls with this result and a number of arguments that is `wanted`.
     fn calls(&self, result: u32, wanted: impl Fn(usize) -> bool) -> Vec<u32> {
         (0..)
             .zip(&self.tables.signatures)

@@ -153,7 +153,8 @@ fn near(random: &mut Random, needed: usize) -> usize {
 /// The steps of the walk and its longest term, or what is ample if the walk is too long.
 fn needs(sample: &Sample) -> (usize, usize) {
     let checked = sample.examine().ok();
-    let listed = checked.and_then(|checked| sequence(&checked.term, MOST_WORDS_LISTED));
+    let listed =
+        checked.and_then(|checked| sequence(&checked.tables, &checked.term, MOST_WORDS_LISTED));
     match listed {
         Some(listed) => {
             let longest = listed.terms.iter().map(Term::size).max();

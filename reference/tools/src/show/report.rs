@@ -28,7 +28,7 @@ pub struct Shown {
 pub fn show(bytes: &[u8], legend: Legend) -> Result<Shown, Refusal> {
     let sample = Sample::from_bundle(bytes)?;
     let checked = sample.examine()?;
-    let (outcome, counts) = normal_form(&checked.term);
+    let (outcome, counts) = normal_form(&checked);
     Ok(Shown {
         sample,
         checked,
@@ -39,12 +39,13 @@ pub fn show(bytes: &[u8], legend: Legend) -> Result<Shown, Refusal> {
 }
 
 /// What the program answers, with the steps taken.
-fn normal_form(term: &Term) -> (Result<Term, Refusal>, Counts) {
+fn normal_form(checked: &Checked) -> (Result<Term, Refusal>, Counts) {
+    let Checked { tables, term, .. } = checked;
     if term.size() > LONGEST_TO_NORMALIZE {
         return (Err(Refusal::Lengths), [0; 10]);
     }
-    let limits = Limits::OF_PROGRAM;
-    match walk(term.clone(), limits.budget, limits.lengths[0]) {
+    let Limits { budget, lengths } = Limits::OF_PROGRAM;
+    match walk(tables, term.clone(), budget, lengths[0]) {
         Ok((normal_form, counts)) => (Ok(normal_form), counts),
         Err(stopped) => (Err(stopped.refusal), stopped.counts),
     }

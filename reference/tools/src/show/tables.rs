@@ -29,7 +29,8 @@ pub fn call_text(formulas: Formulas, number: usize) -> String {
     let arguments: Vec<String> = arguments.map(|&t| formulas.short(t)).collect();
     let call = formulas.legend.call_entry(number);
     let result = formulas.short(signature.result);
-    format!("{call}({}): {result}", arguments.join(", "))
+    let acting = if signature.acts { ", acting" } else { "" };
+    format!("{call}({}): {result}{acting}", arguments.join(", "))
 }
 
 pub fn input_text(formulas: Formulas, number: usize) -> String {

@@ -16,12 +16,12 @@ pub fn words_text(sample: &Sample, formulas: Formulas, term: &Term) -> String {
         let meaning = type_text(formulas, number);
         text += &format!("{word:016x}  {kind:4}  {left:4}  {right:5}  {meaning}\n");
     }
-    text += "\ncalls             arguments  result  their types\n";
+    text += "\ncalls             count  result  their types\n";
     for (number, &word) in sample.calls.iter().enumerate() {
         let (count, result, [one, two, three]) = unpack_call(word);
         let meaning = call_text(formulas, number);
         text +=
-            &format!("{word:016x}  {count:9}  {result:6}  {one:3} {two:3} {three:3}  {meaning}\n");
+            &format!("{word:016x}  {count:5}  {result:6}  {one:3} {two:3} {three:3}  {meaning}\n");
     }
     text += "\ninputs            type\n";
     for (number, &word) in sample.inputs.iter().enumerate() {

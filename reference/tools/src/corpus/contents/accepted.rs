@@ -40,7 +40,8 @@ impl Contents {
     /// The sample's normal form, and the terms one and two steps before it.
     fn end_of_walk(&mut self, sample: &Sample) {
         let checked = sample.examine().ok();
-        let walk = checked.and_then(|checked| sequence(&checked.term, MOST_WORDS_LISTED));
+        let walk =
+            checked.and_then(|checked| sequence(&checked.tables, &checked.term, MOST_WORDS_LISTED));
         let terms = walk.map(|walk| walk.terms).unwrap_or_default();
         for (steps, term) in (0..3).zip(terms.iter().rev()) {
             let later = Sample {
