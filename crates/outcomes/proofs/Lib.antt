@@ -1,2 +1,4 @@
 pub mod Marks
+pub mod OutcomesBy
 pub mod BeforeUnits
+pub mod BeforeActing

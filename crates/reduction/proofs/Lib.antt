@@ -1,3 +1,4 @@
+pub mod MayDrop
 pub mod FirstRedex
 pub mod Structure
 pub mod Disjoint

@@ -4,7 +4,7 @@ use mathlib.Core.Path.{_≡_}
 use mathlib.Core.Bool.{true}
 use mathlib.Core.List.{List}
 use mathlib.Core.Option.{some}
-use Rattle.syntax.specs.Tables.{Tables, Signature, signature}
+use Rattle.syntax.specs.Tables.{Tables, Signature, signature, acts}
 use Rattle.syntax.specs.Term.{Term}
 use Rattle.syntax.specs.Encoding.{encode}
 use Rattle.syntax.specs.Decoding.{decode}
@@ -13,7 +13,7 @@ use Rattle.typing.specs.NodeTypes.{nodeTypes}
 use Rattle.reduction.specs.MayDrop.{mayDrop}
 use Rattle.reduction.specs.Sequence.{Sequence, beforeDropping}
 use Rattle.reduction.specs.NormalForm.{isNormal}
-use Rattle.syntax.specs.Lists.{_∈_, Sublist}
+use Rattle.syntax.specs.Lists.{_∈_, Sublist, filter}
 use Rattle.semantics.specs.Value.{Value, Values, Trace}
 use Rattle.semantics.specs.Run.{Ends}
 use Rattle.semantics.specs.ValueTypes.{HasType, HaveTypes}
@@ -40,8 +40,12 @@ module _ (tables : Tables) where
     pub answers : (k : ℕ) (s : Signature) → k ∈ callsIn t → signature tables k ≡ some s
         → (vs : Values) → HaveTypes tables (s .arguments) vs → HasType tables (s .result) (answer k vs)
 
--- the runs of the source t, of the normal form u and of the terms ts between, over the same feed
-pub record SameRuns (answer : ℕ → Values → Value) (ρ : Values) (t u : Term) (ts : List Term) : Type 0 where
+-- the acting calls of a trace, each of them, in order
+abbrev pub actingCalls : List ℕ → Trace → Trace
+actingCalls calls trace = filter (λ c. acts calls (c .number)) trace
+
+-- the runs of the source t, of the normal form u and of the terms ts between, over the same call table and feed
+pub record SameRuns (calls : List ℕ) (answer : ℕ → Values → Value) (ρ : Values) (t u : Term) (ts : List Term) : Type 0 where
   pub value : Value
   pub trace : Trace
   pub trace′ : Trace
@@ -50,6 +54,8 @@ pub record SameRuns (answer : ℕ → Values → Value) (ρ : Values) (t u : Ter
   pub normal-ends : Ends answer ρ u value trace′
   -- the normal form's list of calls is a sublist of the source's
   pub calls-struck : Sublist trace′ trace
+  -- the acting calls among them are the source's, each of them, in order
+  pub acting-kept : actingCalls calls trace′ ≡ actingCalls calls trace
   -- a run of each term between ends with that same answer and exactly the source's list of calls
   pub between-ends : (w : Term) → w ∈ ts → Ends answer ρ w value trace
 
@@ -76,4 +82,4 @@ pub record Claim (tables : Tables) (words : List ℕ) (A : ℕ) (result : List �
   -- where those types are free of functions the runs agree, for all inputs and all answers: those of the source, of the normal form, and of
   -- each term that phases 1 and 2 go through, the last one included
   pub same-runs : FirstOrder tables A source → (ρ : Values) (answer : ℕ → Values → Value) → Feed tables source ρ answer
-      → SameRuns answer ρ source normal (beforeDropping (mayDrop (tables .calls)) sequence)
+      → SameRuns (tables .calls) answer ρ source normal (beforeDropping (mayDrop (tables .calls)) sequence)

@@ -8,6 +8,7 @@ pub mod Forests
 pub mod Parts
 pub mod Positions
 pub mod CallsIn
+pub mod CallWords
 pub mod Nodes
 pub mod Under
 pub mod Sizes
@@ -18,6 +19,7 @@ pub mod Uses
 pub mod OperandsRenamed
 pub mod Agreement
 pub mod Sublists
+pub mod Filters
 pub mod Sites
 pub mod Inherited
 pub mod Subterms

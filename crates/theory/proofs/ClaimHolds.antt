@@ -30,6 +30,7 @@ use Rattle.syntax.specs.Calls.{callsIn}
 use Rattle.semantics.specs.Claim.{Subformula, Claim}
 use Rattle.outcomes.specs.Normalize.{maxCapacity}
 use Rattle.typing.proofs.InferTyped.{typing-of, typed-infer}
+use Rattle.typing.proofs.Typing.{Typed}
 use Rattle.typing.proofs.Trees.{Earlier, earlier}
 use Rattle.reduction.proofs.Search.{Each, one-step}
 use Rattle.theory.proofs.Operands.{Ops, inserted}
@@ -68,18 +69,27 @@ no-rule : (pure : Term → Bool) (u : Term) → step pure Insertion u ≡ none �
 unfolding isNormal
 no-rule pure u a b c = rw (a, b, c)
 
-pub last : (tables : Tables) (pure : Term → Bool) (A : ℕ) (t u : Term) → infer tables t (tables .inputs) ≡ some A → Sequence pure t u
-    → Last tables pure A u
-last tables pure A t u e q =
-    let ok : ℕ → Type 0 = λ k. Unit in
+-- the term that phase 3 starts from: typed, and each let in it binds one operation
+record Reduced (tables : Tables) (A : ℕ) (u : Term) : Type 0 where
+  typed : Typed tables (λ k. Unit) (tables .inputs) u A
+  form : Normal never u
+
+after-reduction : (tables : Tables) (pure : Term → Bool) (A : ℕ) (t u : Term) → infer tables t (tables .inputs) ≡ some A
+    → (q : Sequence pure t u) → Reduced tables A (q .reduced)
+after-reduction tables pure A t u e q =
     let x = typing-of tables (λ k. Unit) t (tables .inputs) A e (λ k i. tt) in
     let x₁ = steps-typed tables (λ k. Unit) pure Insertion (q .phase₁) x in
     let x₂ = steps-typed tables (λ k. Unit) pure Reduction (q .phase₂) x₁ in
-    let x₃ = steps-typed tables (λ k. Unit) pure Dropping (q .phase₃) x₂ in
     let o = kept-ops pure (q .phase₂) (inserted pure (q .inserted) (last-step pure Insertion (q .phase₁))) in
-    let f = kept-form pure (q .phase₃) (in-form tables (λ k. Unit) pure x₂ o (last-step pure Reduction (q .phase₂))) in
+    record { typed = x₂; form = in-form tables (λ k. Unit) pure x₂ o (last-step pure Reduction (q .phase₂)) }
+
+pub last : (tables : Tables) (pure : Term → Bool) (A : ℕ) (t u : Term) → infer tables t (tables .inputs) ≡ some A → Sequence pure t u
+    → Last tables pure A u
+last tables pure A t u e q =
+    let b = after-reduction tables pure A t u e q in
+    let f = kept-form pure (q .phase₃) (b .form) in
     record {
-      type = typed-infer tables (λ k. Unit) x₃;
+      type = typed-infer tables (λ k. Unit) (steps-typed tables (λ k. Unit) pure Dropping (q .phase₃) (b .typed));
       form = f;
       normal = no-rule pure u (no-insertion pure f) (no-reduction pure f)
           (last-step pure Dropping (q .phase₃));
@@ -100,7 +110,8 @@ pub claim-of-sequence : (tables : Tables) (words : List ℕ) (A : ℕ) (t u : Te
     → infer tables t (tables .inputs) ≡ some A → size u ≤ maxCapacity → Sequence (mayDrop (tables .calls)) t u
     → Claim tables words A (encode u)
 claim-of-sequence tables words A t u wf fit w d e l q =
-    let z = last tables (mayDrop (tables .calls)) A t u e q in
+    let pure = mayDrop (tables .calls) in
+    let z = last tables pure A t u e q in
     let x = typing-of tables (λ k. k ∈ callsIn u) u (tables .inputs) A (z .type) (λ k i. i) in
     let p = parts tables A u refl (subformulas tables never u A x (z .form)) in
     let n = fit .inputs in
@@ -118,7 +129,7 @@ claim-of-sequence tables words A t u wf fit w d e l q =
       part-types = p .types;
       every-part = p .are;
       subformulas = p .each;
-      same-runs = λ free ρ answer feed. same-runs tables wf (mayDrop (tables .calls)) A t free ρ answer feed q
+      same-runs = λ free ρ answer feed. same-runs tables wf A t free ρ answer feed q (after-reduction tables pure A t u e q .form)
           (typing-of tables (λ k. k ∈ callsIn t) t (tables .inputs) A e (λ k i. i));
     }
 

@@ -8,7 +8,7 @@ use lib.ListN.{length, length-append, length-take, getElem?, getD, take, drop}
 use Prim.Native.Nat.{ℕ, zero, suc, _+_, _^_, _≤_, _<_, min}
 use native.Mathlib.Omega.{arith}
 use Rattle.syntax.specs.Maybe.{_>>=_, given}
-use Rattle.syntax.specs.Words.{countOf, resultOf, argumentFields, kindOf, leftOf, rightOf}
+use Rattle.syntax.specs.Words.{arityOf, resultOf, argumentFields, kindOf, leftOf, rightOf}
 use Rattle.syntax.specs.Tables.{Tables, arity, Signature, signatureOf}
 use Rattle.syntax.specs.Term.{Term, Terms}
 use Rattle.syntax.specs.Encoding.{encode, encodeAll, size}
@@ -34,7 +34,7 @@ pub record Fitting (tables : Tables) : Type 0 where
   pub types : length (tables .types) ≤ 1024
   pub calls : length (tables .calls) ≤ 1024
   pub inputs : length (tables .inputs) ≤ 256
-  pub counts : (k w : ℕ) → getElem? (tables .calls) k ≡ some w → countOf w ≤ 3
+  pub arities : (k w : ℕ) → getElem? (tables .calls) k ≡ some w → arityOf w ≤ 3
   pub results : (k w : ℕ) → getElem? (tables .calls) k ≡ some w → resultOf w < length (tables .types)
 
 -- a type with parts, and a call, are in their tables
@@ -65,11 +65,11 @@ module _ (tables : Tables) (fit : Fitting tables) (ok : ℕ → Type 0) where
       × (arity (tables .calls) k ≡ count ts)
   call-fits {Γ} {k} {ts} {s} e xs =
       let w = bind-some (getElem? (tables .calls) k) (λ w. some (signatureOf w)) (e .is) in
-      let j = fit .counts k (w .0) (w .1) in
+      let j = fit .arities k (w .0) (w .1) in
       let d = Option·some-injective (signatureOf (w .0)) s (w .2) in (
         omega (arith, known-call tables e, fit .calls),
-        ap countOf (arity-is (tables .calls) k (w .0) (w .1)) ∙ min-is (countOf (w .0)) j
-            ∙ sym (length-take (countOf (w .0)) (argumentFields (w .0))) ∙ ap (λ (s : Signature). length (s .arguments)) d
+        ap arityOf (arity-is (tables .calls) k (w .0) (w .1)) ∙ min-is (arityOf (w .0)) j
+            ∙ sym (length-take (arityOf (w .0)) (argumentFields (w .0))) ∙ ap (λ (s : Signature). length (s .arguments)) d
             ∙ sym (counts-typed xs),
       )
     where
@@ -110,15 +110,15 @@ entry-passes test [] h k w e = absurd (Option·none-ne-some w e)
 entry-passes test (x ∷ ws) h zero w e = subst (λ (y : ℕ). T (test y)) (Option·some-injective x w e) (and-left (test x) (every test ws) h)
 entry-passes test (x ∷ ws) h (suc k) w e = entry-passes test ws (and-right (test x) (every test ws) h) k w e
 
--- what check 4 asks of a call's argument count and result
-call-passes : (types w : ℕ) → T (wellFormedCall types w) → (countOf w ≤ 3) × (resultOf w < types)
+-- what check 4 asks of a call's number of arguments and its result
+call-passes : (types w : ℕ) → T (wellFormedCall types w) → (arityOf w ≤ 3) × (resultOf w < types)
 call-passes types w h =
-    let a = leb (countOf w) 3 in
+    let a = leb (arityOf w) 3 in
     let b = ltb (resultOf w) types in
-    let c = every (λ A. ltb A types) (take (countOf w) (argumentFields w)) in
-    let d = every (λ A. eqb A 0) (drop (countOf w) (argumentFields w)) in
+    let c = every (λ A. ltb A types) (take (arityOf w) (argumentFields w)) in
+    let d = every (λ A. eqb A 0) (drop (arityOf w) (argumentFields w)) in
     let x = and-left (a && b) c (and-left (a && b && c) d h) in
-    (leb→le (countOf w) 3 (and-left a b x), ltb→lt (resultOf w) types (and-right a b x))
+    (leb→le (arityOf w) 3 (and-left a b x), ltb→lt (resultOf w) types (and-right a b x))
 
 -- checks 1 and 4 say that the tables fit
 pub fitting : (limit : ℕ) (tables : Tables) (words : List ℕ) → T (lengthsFit limit tables words) → T (wellFormedCalls tables)
@@ -126,12 +126,12 @@ pub fitting : (limit : ℕ) (tables : Tables) (words : List ℕ) → T (lengthsF
 unfolding wellFormedCalls
 fitting limit tables words h k =
     let l = lengths-of limit tables words h in
-    let passes : (j w : ℕ) → getElem? (tables .calls) j ≡ some w → (countOf w ≤ 3) × (resultOf w < length (tables .types)) =
+    let passes : (j w : ℕ) → getElem? (tables .calls) j ≡ some w → (arityOf w ≤ 3) × (resultOf w < length (tables .types)) =
     λ j w e. call-passes (length (tables .types)) w (entry-passes (wellFormedCall (length (tables .types))) (tables .calls) k j w e) in
     record {
       types = l .types;
       calls = l .calls;
       inputs = l .inputs;
-      counts = λ j w e. passes j w e .0;
+      arities = λ j w e. passes j w e .0;
       results = λ j w e. passes j w e .1;
     }

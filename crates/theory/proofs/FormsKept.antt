@@ -51,13 +51,13 @@ mutual
 
 module _ (pure : Term → Bool) where
   -- a variable takes no step, nor does a unit
-  var-step : {n : ℕ} {t : Term} → Step (Drops pure) (var n) t → ⊥
+  pub var-step : {n : ℕ} {t : Term} → Step (Drops pure) (var n) t → ⊥
   var-step (s-root r) = no-drop r
     where
       no-drop : {n : ℕ} {t : Term} → Drops pure (var n) t → ⊥
       no-drop = elim [ ]
 
-  unit-step : {A : ℕ} {t : Term} → Step (Drops pure) (unit A) t → ⊥
+  pub unit-step : {A : ℕ} {t : Term} → Step (Drops pure) (unit A) t → ⊥
   unit-step (s-root r) = no-drop r
     where
       no-drop : {A : ℕ} {t : Term} → Drops pure (unit A) t → ⊥

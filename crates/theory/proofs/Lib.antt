@@ -1,7 +1,9 @@
 pub mod AcceptedAgain
+pub mod ActingRuledOut
 pub mod ClaimHolds
 pub mod Compatible
 pub mod ContractHolds
+pub mod DropsOfOperations
 pub mod Ends
 pub mod FeedExists
 pub mod Fields
@@ -23,6 +25,7 @@ pub mod OperandsKept
 pub mod PendingSteps
 pub mod PendingStructure
 pub mod Preserve
+pub mod QuietOperations
 pub mod ReadInputs
 pub mod Relation
 pub mod RuledOut
@@ -31,6 +34,7 @@ pub mod SoundCall
 pub mod SoundInsert
 pub mod SoundReduce
 pub mod SoundStep
+pub mod StruckTraces
 pub mod Subformulas
 pub mod TypedWords
 pub mod TypesKept

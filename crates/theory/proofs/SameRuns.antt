@@ -1,4 +1,4 @@
--- The runs agree along the reduction: steps of phases 1 and 2 keep answer and trace, drops strike calls out.
+-- The runs agree along the reduction: steps of phases 1 and 2 keep answer and trace, drops strike out calls that do not act.
 -- At the result's type related means equal, and a run ends in one way, so steps chain with no transitivity of the relation.
 use mathlib.Core.Path.{_≡_, refl, sym, _∙_, ap₂, subst}
 use mathlib.Core.Bool.{Bool}
@@ -11,8 +11,10 @@ use Rattle.typing.specs.Infer.{Context}
 use Rattle.reduction.specs.declared.Phase.{Phase}
 use Rattle.reduction.specs.declared.Phase.the-variants.{Insertion, Reduction, Dropping}
 use Rattle.reduction.specs.Redex.{Step as Stepped, step}
+use Rattle.reduction.specs.MayDrop.{mayDrop}
+use Rattle.reduction.specs.NormalForm.{Normal}
 use Rattle.reduction.specs.Sequence.{Steps, ended, stepped, Sequence, beforeDropping}
-use Rattle.syntax.specs.Lists.{_∈_, here, there, Sublist, empty as nothing, kept}
+use Rattle.syntax.specs.Lists.{_∈_, here, there}
 use Rattle.semantics.specs.Value.{Value, Values, Trace}
 use Rattle.semantics.specs.Run.{answered, lookup, Ends}
 use Rattle.semantics.specs.ValueTypes.{HaveTypes, one-more}
@@ -26,22 +28,30 @@ use Rattle.theory.proofs.Relation.{Rel, All, Model, E}
 use Rattle.theory.proofs.Fundamental.{Same, same}
 use Rattle.theory.proofs.SoundReduce.{sound₂}
 use Rattle.theory.proofs.SoundInsert.{sound₁}
-use Rattle.theory.proofs.SoundStep.{sound₃, sounds}
+use Rattle.theory.proofs.Forms.{never}
+use Rattle.theory.proofs.FormsKept.{form-step}
+use Rattle.theory.proofs.DropsOfOperations.{DropsOperation, form-drops}
+use Rattle.theory.proofs.QuietOperations.{dropped-quiet}
+use Rattle.theory.proofs.StruckTraces.{Struck, struck-refl, struck-join, struck-trans, struck-skip}
+use Rattle.theory.proofs.SoundStep.{Strikes, sound₃, sounds}
 use Rattle.reduction.proofs.Fits.{Root}
 use Rattle.reduction.proofs.Search.{one-step}
 use Rattle.reduction.proofs.AlongSequence.{in-either}
 use Rattle.theory.proofs.TypesKept.{step-typed, steps-typed}
-use Rattle.syntax.proofs.Sublists.{sublist-refl, sublist-join, sublist-skip, sublist-trans}
 use Rattle.theory.proofs.FunctionFree.{free-equal, has-rel, all-equal, all-have}
 
 abbrev Equal : Trace → Trace → Type 0
 Equal c d = c ≡ d
 
-abbrev Struck : Trace → Trace → Type 0
-Struck c d = Sublist d c
-
-module _ (tables : Tables) (wf : Earlier tables) (pure : Term → Bool) (A : ℕ) (t₀ : Term) (free : FirstOrder tables A t₀) (ρ : Values)
+module _ (tables : Tables) (wf : Earlier tables) (A : ℕ) (t₀ : Term) (free : FirstOrder tables A t₀) (ρ : Values)
     (answer : ℕ → Values → Value) (feed : Feed tables t₀ ρ answer) where
+  -- what may be dropped, and how a drop changes the trace
+  abbrev pure : Term → Bool
+  pure = mayDrop (tables .calls)
+
+  abbrev Strikes-out : Trace → Trace → Type 0
+  Strikes-out = Struck (tables .calls)
+
   abbrev Ok : ℕ → Type 0
   Ok k = k ∈ callsIn t₀
 
@@ -75,11 +85,11 @@ module _ (tables : Tables) (wf : Earlier tables) (pure : Term → Bool) (A : ℕ
     wf = wf;
     ok = Ok;
     answer = answer;
-    C = Struck;
-    none = nothing;
-    one = λ m. kept nothing;
-    join = sublist-join;
-    answers = answers Struck;
+    C = Strikes-out;
+    none = struck-refl (tables .calls) [];
+    one = λ m. struck-refl (tables .calls) (m ∷ []);
+    join = struck-join (tables .calls);
+    answers = answers Strikes-out;
   }
 
   -- the inputs' values are related to themselves
@@ -97,7 +107,7 @@ module _ (tables : Tables) (wf : Earlier tables) (pure : Term → Bool) (A : ℕ
 
   same-striking : Same striking (tables .inputs) ρ ρ
   same-striking = record {
-    at = λ n B x. let b = held Struck x (feed .inputs)
+    at = λ n B x. let b = held Strikes-out x (feed .inputs)
         in record { v = b .0; w = b .0; p = b .1; q = b .1; vals = b .2 };
   }
 
@@ -155,43 +165,50 @@ module _ (tables : Tables) (wf : Earlier tables) (pure : Term → Bool) (A : ℕ
   record Fewer (u : Term) (v : Value) (c : Trace) : Type 0 where
     d : Trace
     ends : Ends answer ρ u v d
-    sublist : Sublist d c
+    struck : Strikes-out c d
 
-  drop-one : (t : Term) (s : Stepped) {v : Value} {c : Trace} → step pure Dropping t ≡ some s → Has t → Ends answer ρ t v c
-      → Fewer (s .next) v c
-  drop-one t s {v} {c} e x r =
-      let b = sounds striking (Root pure Dropping) (λ t t′ r Γ B σ σ′ y o. sound₃ striking pure sublist-skip r y o)
-      (one-step pure Dropping t s e) x same-striking in
+  strikes : Strikes striking pure
+  strikes = record { strike = λ a c d o h r s. struck-skip (tables .calls) a (dropped-quiet (tables .calls) answer o h r) s }
+
+  drop-one : (t : Term) (s : Stepped) {v : Value} {c : Trace} → step pure Dropping t ≡ some s → Normal never t → Has t
+      → Ends answer ρ t v c → Fewer (s .next) v c
+  drop-one t s {v} {c} e f x r =
+      let b = sounds striking (DropsOperation pure) (λ t t′ r Γ B σ σ′ y o. sound₃ striking strikes r y o)
+      (form-drops pure f (one-step pure Dropping t s e)) x same-striking in
       let i = ends-one answer (b .p) r in
       record {
         d = b .d;
         ends = subst (λ (z : Value). Ends answer ρ (s .next) z (b .d))
-            (sym (free-equal tables wf answer Struck (free .result′) (b .vals)) ∙ i .0) (b .q);
-        sublist = subst (λ (z : Trace). Sublist (b .d) z) (i .1) (b .calls);
+            (sym (free-equal tables wf answer Strikes-out (free .result′) (b .vals)) ∙ i .0) (b .q);
+        struck = subst (λ (z : Trace). Strikes-out z (b .d)) (i .1) (b .calls);
       }
 
-  drops : {t u : Term} {ss : List Stepped} {v : Value} {c : Trace} → Steps pure Dropping t ss u → Has t → Ends answer ρ t v c → Fewer u v c
-  drops (ended e) x r = record { d = _; ends = r; sublist = sublist-refl _ }
-  drops (stepped {t = t} {s = s} e q) x r =
-      let a = drop-one t s e x r in
-      let b = drops q (step-typed tables Ok pure Dropping t s e x) (a .ends) in
-      record { d = b .d; ends = b .ends; sublist = sublist-trans (a .sublist) (b .sublist) }
+  drops : {t u : Term} {ss : List Stepped} {v : Value} {c : Trace} → Steps pure Dropping t ss u → Normal never t → Has t
+      → Ends answer ρ t v c → Fewer u v c
+  drops (ended e) f x r = record { d = _; ends = r; struck = struck-refl (tables .calls) _ }
+  drops (stepped {t = t} {s = s} e q) f x r =
+      let a = drop-one t s e f x r in
+      let b = drops q (form-step pure f (one-step pure Dropping t s e)) (step-typed tables Ok pure Dropping t s e x) (a .ends) in
+      record { d = b .d; ends = b .ends; struck = struck-trans (tables .calls) (a .struck) (b .struck) }
 
-  pub same-runs : {u : Term} (q : Sequence pure t₀ u) → Has t₀ → SameRuns answer ρ t₀ u (beforeDropping pure q)
-  same-runs {u} q x =
+  -- phase 3 starts from a term whose lets bind one operation each
+  pub same-runs : {u : Term} (q : Sequence pure t₀ u) → Normal never (q .reduced) → Has t₀
+      → SameRuns (tables .calls) answer ρ t₀ u (beforeDropping pure q)
+  same-runs {u} q f x =
       let e = ending x in
       let a = along in₁ (q .phase₁) x (e .ends) in
       let x₁ = steps-typed tables Ok pure Insertion (q .phase₁) x in
       let b = along in₂ (q .phase₂) x₁ (a .last) in
       let x₂ = steps-typed tables Ok pure Reduction (q .phase₂) x₁ in
-      let d = drops (q .phase₃) x₂ (b .last) in
+      let d = drops (q .phase₃) f x₂ (b .last) in
       record {
         value = e .v;
         trace = e .c;
         trace′ = d .d;
         source-ends = e .ends;
         normal-ends = d .ends;
-        calls-struck = d .sublist;
+        calls-struck = d .struck .sublist;
+        acting-kept = d .struck .acting;
         between-ends = λ w i. go e a b i;
       }
     where

@@ -1,32 +1,40 @@
--- A step anywhere keeps what a run ends with, if the rule at the node does; a drop only strikes calls out.
+-- A step anywhere keeps what a run ends with, if the rule at the node does; a drop of one operation only strikes out the calls it makes.
 use mathlib.Core.List.{List, _∷_, _++_}
 use mathlib.Core.Bool.{Bool}
-use lib.Dec.{eqb→eq}
+use lib.Dec.{T, eqb→eq}
 use Prim.Native.Nat.{ℕ, _≤_}
 use native.Mathlib.Omega.{arith}
 use Rattle.syntax.specs.Term.{Term, Terms}
 use Rattle.syntax.specs.Values.{uses}
 use Rattle.typing.specs.Infer.{Context}
 use Rattle.reduction.specs.Rules.{lower}
+use Rattle.reduction.specs.NormalForm.{Operation}
 use Rattle.semantics.specs.Value.{Value, Values, also, Trace}
+use Rattle.semantics.specs.Run.{Ends}
 use Rattle.typing.proofs.Typing.{At, here, there, Typed, TypedAll, t-call, t-lam, t-app, t-bind, t-pair, t-fst, t-snd, t-inl, t-inr, t-case}
 use Rattle.typing.proofs.Typing.{t-arg}
 use Rattle.theory.proofs.Ends.{ends-bind}
+use Rattle.theory.proofs.Forms.{never}
+use Rattle.theory.proofs.DropsOfOperations.{DropsOperation, drops}
 use Rattle.theory.proofs.Relation.{Model, E, EAll, ends-related}
 use Rattle.theory.proofs.Compatible.{Bound, past-left, e-lam, e-app, e-bind, e-pair, e-fst, e-snd, e-inl, e-inr, e-case}
 use Rattle.theory.proofs.Compatible.{e-arg, e-call}
 use Rattle.theory.proofs.Fundamental.{renamed, Same, same-up, same, sameAll}
-use Rattle.reduction.proofs.Roots.{Drops, r-drop, Step, StepAll, s-root, s-call, s-lam, s-app₁, s-app₂, s-bind₁, s-bind₂, s-pair₁, s-pair₂}
+use Rattle.reduction.proofs.Roots.{Step, StepAll, s-root, s-call, s-lam, s-app₁, s-app₂, s-bind₁, s-bind₂, s-pair₁, s-pair₂}
 use Rattle.reduction.proofs.Roots.{s-fst, s-snd, s-inl, s-inr, s-case₁, s-case₂, s-case₃, s-this, s-next}
 
 module _ (M : Model) where
-  pub sound₃ : (pure : Term → Bool) → ((a c d : Trace) → M .C c d → M .C (a ++ c) d)
-      → {t t′ : Term} → Drops pure t t′ → {Γ : Context} {A : ℕ} {ρ ρ′ : Values} → Typed (M .tables) (M .ok) Γ t A → Same M Γ ρ ρ′
-      → E M A ρ t ρ′ t′
-  sound₃ pure skip (r-drop {b = b} _ _ h) {Γ = Γ} {ρ = ρ} {ρ′ = ρ′} (t-bind {A = A} x y) o =
+  -- the calls that an operation makes may be struck out, if it may be dropped
+  pub record Strikes (pure : Term → Bool) : Type 0 where
+    pub strike : {e : Term} {ρ : Values} {v : Value} (a c d : Trace) → Operation never e → T (pure e) → Ends (M .answer) ρ e v a
+        → M .C c d → M .C (a ++ c) d
+
+  pub sound₃ : {pure : Term → Bool} → Strikes pure → {t t′ : Term} → DropsOperation pure t t′
+      → {Γ : Context} {A : ℕ} {ρ ρ′ : Values} → Typed (M .tables) (M .ok) Γ t A → Same M Γ ρ ρ′ → E M A ρ t ρ′ t′
+  sound₃ s (drops {b = b} i k h) {Γ = Γ} {ρ = ρ} {ρ′ = ρ′} (t-bind {A = A} x y) o =
       let e = same M x o in
       let f = renamed M y (record { at = go (e .v) }) in
-      ends-related M (ends-bind (M .answer) (e .p) (f .p)) (f .q) (skip (e .c) (f .c) (f .d) (f .calls)) (f .vals)
+      ends-related M (ends-bind (M .answer) (e .p) (f .p)) (f .q) (s .strike (e .c) (f .c) (f .d) i k (e .p) (f .calls)) (f .vals)
     where
       go : (v : Value) (n D : ℕ) → At (A ∷ Γ) n D → 1 ≤ uses b n → Bound M D (also v ρ) n ρ′ (lower n)
       go v n D here u = absurd (omega (arith, eqb→eq (uses b 0) 0 h, u))

@@ -10,14 +10,11 @@ use native.Mathlib.Omega.{arith}
 use Rattle.syntax.specs.Kinds.{usesNumber}
 use Rattle.syntax.specs.Words.{kindOf, leftOf, rightOf, numberOf, typeOf}
 use Rattle.syntax.specs.Tables.{Tables, base, sum, unitType}
-use Rattle.syntax.specs.Decoding.{decode}
 use Rattle.syntax.proofs.Options.{and-left, and-right, both-true}
-use Rattle.typing.specs.Infer.{infer}
-use Rattle.typing.specs.TableChecks.{every, lengthsFit, wellFormedTypes, distinct, wellFormedCalls, wellFormedInputs}
-use Rattle.typing.specs.TermChecks.{fieldFits, wellFormedFields, wellFormedWord, scoped}
-use Rattle.typing.specs.Refusals.{Verdict, accepted, _>>=_, require, TypedTerm, lengthsPlace, termPlace, scopePlace, typePlace}
-use Rattle.typing.specs.Refusals.{elaborate}
-use Rattle.typing.proofs.Accepted.{Verdicts, refusal, passed, after, required, provided}
+use Rattle.typing.specs.TableChecks.{every, wellFormedTypes, wellFormedCalls}
+use Rattle.typing.specs.TermChecks.{fieldFits, wellFormedFields, wellFormedWord}
+use Rattle.typing.specs.Refusals.{Verdict, accepted, TypedTerm, elaborate}
+use Rattle.typing.proofs.PlacesBy.{elaborateBy, elaborate-by, accepted-by}
 
 -- former check 2
 abbrev pub formerType : ℕ → ℕ → Bool
@@ -40,34 +37,11 @@ formerFields tables k n A =
 abbrev pub formerWord : Tables → ℕ → Bool
 formerWord tables w = formerFields tables (kindOf w) (numberOf w) (typeOf w)
 
--- the places 2 to 5, and all places in order, given what 2 and 6 answer
-abbrev pub tablesPlaceBy : Bool → Tables → Verdict Bool
-tablesPlaceBy check₂ tables = do
-  _ ← require 2 check₂
-  _ ← require 3 (distinct (tables .types))
-  _ ← require 4 (wellFormedCalls tables)
-  require 5 (wellFormedInputs tables)
-
-unfoldable pub elaborateBy : Bool → Bool → ℕ → Tables → List ℕ → Verdict TypedTerm
-elaborateBy check₂ check₆ limit tables words = do
-  _ ← lengthsPlace limit tables words
-  _ ← tablesPlaceBy check₂ tables
-  _ ← require 6 check₆
-  t ← termPlace tables words
-  _ ← scopePlace tables t
-  A ← typePlace tables t
-  accepted (record { term = t; type = A })
-
--- the checks as they were. Places 7 to 9 are today's: words that passed the former check 6 have no unit, and of such words and terms they
--- say what they did.
+-- the checks without units. Places 7 to 9 are today's: words that passed the former check 6 have no unit, and of such words and terms they
+-- say what they did. Check 4 is today's too, with calls that act (BeforeActing).
 abbrev pub formerElaborate : ℕ → Tables → List ℕ → Verdict TypedTerm
-formerElaborate limit tables words = elaborateBy (formerTypes 0 (tables .types)) (every (formerWord tables) words) limit tables words
-
-pub elaborate-by : (limit : ℕ) (tables : Tables) (words : List ℕ)
-    → elaborate limit tables words
-    ≡ elaborateBy (wellFormedTypes 0 (tables .types)) (every (wellFormedWord tables) words) limit tables words
-unfolding elaborate elaborateBy
-elaborate-by limit tables words = refl
+formerElaborate limit tables words =
+    elaborateBy (formerTypes 0 (tables .types)) (wellFormedCalls tables) (every (formerWord tables) words) limit tables words
 
 -- words of other kinds than a unit's
 abbrev pub NoUnitType : List ℕ → Type 0
@@ -121,7 +95,7 @@ module _ (tables : Tables) where
   pub same-without-units : (limit : ℕ) (words : List ℕ) → NoUnitType (tables .types) → NoUnitNode words
       → elaborate limit tables words ≡ formerElaborate limit tables words
   same-without-units limit words h j = elaborate-by limit tables words
-      ∙ ap₂ (λ (a b : Bool). elaborateBy a b limit tables words) (types-same 0 (tables .types) h) (words-same words j)
+      ∙ ap₂ (λ (a b : Bool). elaborateBy a (wellFormedCalls tables) b limit tables words) (types-same 0 (tables .types) h) (words-same words j)
 
 -- what the former checks 2 and 6 passed has no unit
 pub types-without : (i : ℕ) (ws : List ℕ) → T (formerTypes i ws) → NoUnitType ws
@@ -149,29 +123,6 @@ words-without tables (w ∷ ws) h =
     (other-kind k 10 (leb→le k 10 (and-left (leb k 10) number (and-left (leb k 10 && number) type f))))
     (words-without tables ws (and-right (formerWord tables w) (every (formerWord tables) ws) h))
 
--- what an accepted verdict of the places says of 2 and 6
-whatever : {X : Type 0} {P : X → Type 0} {Q : Type 0} {v : Verdict X} → Q → Verdicts P v → Verdicts (λ _. Q) v
-whatever q (refusal n) = refusal n
-whatever q (passed p) = passed q
-
-tables-passed : (tables : Tables) (a : Bool) → Verdicts (λ _. T a) (tablesPlaceBy a tables)
-tables-passed tables a =
-    after _ (required 1 a) λ _ h.
-    after _ (required 2 (distinct (tables .types))) λ _ _.
-    after _ (required 3 (wellFormedCalls tables)) λ _ _.
-    whatever h (required 4 (wellFormedInputs tables))
-
-both-passed : (limit : ℕ) (tables : Tables) (words : List ℕ) (a b : Bool) → Verdicts (λ _. T a × T b) (elaborateBy a b limit tables words)
-unfolding elaborateBy
-both-passed limit tables words a b =
-    after _ (required 0 (lengthsFit limit tables words)) λ _ _.
-    after _ (tables-passed tables a) λ _ h.
-    after _ (required 5 b) λ _ k.
-    after _ (provided 6 (decode (tables .calls) words)) λ t _.
-    after _ (required 7 (scoped tables t)) λ _ _.
-    after _ (provided 8 (infer tables t (tables .inputs))) λ A _.
-    passed (h, k)
-
 -- neither a unit type word nor a unit node
 pub record WithoutUnits (tables : Tables) (words : List ℕ) : Type 0 where
   pub types : NoUnitType (tables .types)
@@ -180,10 +131,8 @@ pub record WithoutUnits (tables : Tables) (words : List ℕ) : Type 0 where
 pub former-without : (limit : ℕ) (tables : Tables) (words : List ℕ) (x : TypedTerm) → formerElaborate limit tables words ≡ accepted x
     → WithoutUnits tables words
 former-without limit tables words x e =
-    at (subst (Verdicts _) e (both-passed limit tables words (formerTypes 0 (tables .types)) (every (formerWord tables) words)))
-  where
-    at : Verdicts (λ _. T (formerTypes 0 (tables .types)) × T (every (formerWord tables) words)) (accepted x) → WithoutUnits tables words
-    at (passed p) = record { types = types-without 0 (tables .types) (p .0); nodes = words-without tables words (p .1) }
+    let p = accepted-by limit tables words _ _ _ e in
+    record { types = types-without 0 (tables .types) (p .0); nodes = words-without tables words (p .2) }
 
 -- every bundle that was accepted is accepted, as the same term of the same type
 pub former-accepted : (limit : ℕ) (tables : Tables) (words : List ℕ) (x : TypedTerm) → formerElaborate limit tables words ≡ accepted x

@@ -5,10 +5,13 @@ pub mod Typing
 pub mod InferTyped
 pub mod Order
 pub mod LengthsFit
+pub mod CallCounts
 pub mod Accepted
 pub mod Trees
 pub mod TypeNumbers
 pub mod ScopedNode
 pub mod TypedScoped
+pub mod PlacesBy
 pub mod BeforeUnits
 pub mod RefusedBeforeUnits
+pub mod BeforeActing

@@ -9,7 +9,8 @@ use Rattle.syntax.specs.Tables.{Tables}
 use Rattle.typing.specs.TableChecks.{every, lengthsFit, wellFormedTypes, distinct, wellFormedCalls, wellFormedInputs}
 use Rattle.typing.specs.TermChecks.{wellFormedWord}
 use Rattle.typing.specs.Refusals.{Verdict, refused, accepted, _>>=_, require, TypedTerm, elaborate}
-use Rattle.typing.proofs.BeforeUnits.{formerTypes, formerWord, elaborateBy, formerElaborate, elaborate-by, types-without, types-same}
+use Rattle.typing.proofs.PlacesBy.{elaborateBy, elaborate-by}
+use Rattle.typing.proofs.BeforeUnits.{formerTypes, formerWord, formerElaborate, types-without, types-same}
 use Rattle.typing.proofs.BeforeUnits.{words-without, words-same, former-accepted}
 
 -- where the first verdict refuses with m, the second does
@@ -40,7 +41,8 @@ first-test-keeps {m = m} n false true f h k p q s = record { kept = λ e. absurd
 
 module _ (limit : ℕ) (tables : Tables) (words : List ℕ) where
   places-keep : (m : ℕ) (a a′ b b′ : Bool) → (T a → T a′) → (T b → T b′) → m ≢ 2 → m ≢ 6
-      → Keeps m (elaborateBy a b limit tables words) (elaborateBy a′ b′ limit tables words)
+      → Keeps m (elaborateBy a (wellFormedCalls tables) b limit tables words)
+      (elaborateBy a′ (wellFormedCalls tables) b′ limit tables words)
   unfolding elaborateBy
   places-keep m a a′ b b′ p q x y =
       test-keeps 1 (lengthsFit limit tables words) _ _ _ (λ h. h) (λ _. refl)
