@@ -8,7 +8,7 @@ use native.Mathlib.Omega.{arith}
 use lib.Dec.{eqb}
 use lib.ListN.{length, take, getElem?, length-take}
 use Rattle.syntax.specs.Maybe.{_>>=_, given}
-use Rattle.syntax.specs.Words.{countOf, argumentFields}
+use Rattle.syntax.specs.Words.{arityOf, argumentFields}
 use Rattle.syntax.specs.Tables.{Tables, Signature, signatureOf, signature, arity}
 use Rattle.syntax.specs.Term.{Terms, call, done, arg}
 use Rattle.syntax.specs.Kinds.{bindersAt}
@@ -71,7 +71,7 @@ too-long : (o : Option ℕ) (q : Option (List ℕ)) → ((As : List ℕ) → q �
 too-long none q h = refl
 too-long (some w) none h = refl
 too-long (some w) (some As) h = ap (λ (b : Bool). given b (signatureOf w .result))
-    (longer As (take (countOf w) (argumentFields w)) (omega (arith, h As refl, length-take (countOf w) (argumentFields w))))
+    (longer As (take (arityOf w) (argumentFields w)) (omega (arith, h As refl, length-take (arityOf w) (argumentFields w))))
 
 module _ (tables : Tables) where
   all-typed : (ts : Terms) (Γ : Context) (As : List ℕ) → inferAll tables ts Γ ≡ some As → length As ≡ count ts

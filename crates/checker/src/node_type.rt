@@ -5,12 +5,13 @@ ghost use mathlib.Core.List.{[], _∷_};
 ghost use Prim.Native.Nat.{_+_, _<_};
 ghost use lib.ListN.{length, getD, take};
 ghost use Rattle.syntax.specs.Maybe.{given as givenOf};
-ghost use Rattle.syntax.specs.Words.{countOf, argumentFields, kindOf, numberOf, typeOf};
+ghost use Rattle.syntax.specs.Words.{arityOf, argumentFields, kindOf, numberOf, typeOf};
 ghost use Rattle.syntax.specs.Tables.{over, components as componentsAt};
 ghost use Rattle.typing.specs.Infer.{equal};
 ghost use Rattle.checker.specs.Answers.{inferredOf};
 ghost use Rattle.checker.specs.Nodes.{componentsOf, binderType, formOf, judge as judgeOf, callType, nodeType, typesTo};
 use words::fields::argument;
+use words::fields::arguments;
 use words::fields::kind;
 use words::fields::number;
 use words::fields::result;
@@ -106,9 +107,9 @@ fn form(k: u64) -> u64
 
 // whether the first types are those of a call's arguments
 fn arguments_agree(w: u64, a: u64, b: u64, c: u64) -> bool
-    ensures { λ r. ⌜ r ≡ equal (take (countOf w) (a ∷ b ∷ c ∷ [])) (take (countOf w) (argumentFields w)) ⌝ }
+    ensures { λ r. ⌜ r ≡ equal (take (arityOf w) (a ∷ b ∷ c ∷ [])) (take (arityOf w) (argumentFields w)) ⌝ }
 {
-    let n = kind(w);
+    let n = arguments(w);
     if n == 0 {
         return true;
     }

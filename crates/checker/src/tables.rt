@@ -11,6 +11,7 @@ ghost use Rattle.typing.specs.Refusals.{tablesPlace};
 ghost use Rattle.checker.specs.Places.{refusalNumber};
 ghost use Rattle.checker.specs.Residues.{residueOf, Noted};
 use words::fields::argument;
+use words::fields::arguments;
 use words::fields::kind;
 use words::fields::number;
 use words::fields::result;
@@ -139,7 +140,7 @@ pub fn field_fits(used: bool, bound: usize, x: u64) -> bool
 fn call_fits(types: usize, w: u64) -> bool
     ensures { λ r. ⌜ r ≡ wellFormedCall types w ⌝ }
 {
-    let n = kind(w);
+    let n = arguments(w);
     if 3 < n {
         return false;
     }

@@ -1,8 +1,8 @@
 -- The grammar by parts, one law for each kind of node: an operation, a let or a case is in normal form exactly if each of its parts is in
--- normal form, begins with a node that can be what the part has to be, and uses the variable if it is a let's body. A pair, an injection
+-- normal form, begins with a node that can be what the part has to be, and uses the variable if it has to. A pair, an injection
 -- and a unit are normal values exactly if their parts are, because the kind of a normal form says whether it is a value.
 use mathlib.Core.Path.{_≡_, refl, sym, _∙_, ap, ap₂}
-use mathlib.Core.Bool.{Bool, true, false, _&&_, _||_, cond, and-true, true≢false}
+use mathlib.Core.Bool.{Bool, true, false, _&&_, _||_, not, cond, and-true, true≢false}
 use mathlib.Core.List.{List}
 use Prim.Native.Nat.{ℕ, suc}
 use lib.Dec.{eqb, leb}
@@ -26,9 +26,15 @@ unfoldable pub allPass : (ℕ → Term → Bool) → ℕ → Terms → Bool
 allPass test j done = true
 allPass test j (arg t ts) = test j t && allPass test (suc j) ts
 
--- the test of part j of a node of kind k
-unfoldable pub partPasses : List ℕ → ℕ → ℕ → Term → Bool
-partPasses calls k j t = suits (roleOf k j) (node t .kind) && inGrammar (mayDrop calls) t && keepsVariable k j (uses t 0)
+-- whether the first part may be dropped
+unfoldable pub firstMayDrop : List ℕ → Terms → Bool
+firstMayDrop calls done = true
+firstMayDrop calls (arg e ts) = mayDrop calls e
+
+-- the test of part j of a node of kind k whose first part may be dropped or not
+unfoldable pub partPasses : List ℕ → ℕ → Bool → ℕ → Term → Bool
+partPasses calls k droppable j t =
+    suits (roleOf k j) (node t .kind) && inGrammar (mayDrop calls) t && keepsVariable k j droppable (uses t 0)
 
 value-provided : (b : Bool) → isAValue (provided b aValue) ≡ isInGrammar (provided b aValue)
 value-provided true = refl
@@ -66,10 +72,10 @@ value-passes false = refl
 two : {a a′ b b′ : Bool} → a ≡ a′ → b ≡ b′ → (a && b) ≡ (a′ && (b′ && true))
 two e d = ap₂ _&&_ e (and-last d)
 
-let-parts : {a a′ : Bool} → a ≡ a′ → (u b : Bool) → (a && (u || false) && b) ≡ (a′ && ((true && b && u) && true))
-let-parts {a} {a′} e u b = ap (λ (x : Bool). x && (u || false) && b) e ∙ go a′ u b
+let-parts : {a a′ : Bool} → a ≡ a′ → (u b : Bool) → (a && u && b) ≡ (a′ && ((true && b && u) && true))
+let-parts {a} {a′} e u b = ap (λ (x : Bool). x && u && b) e ∙ go a′ u b
   where
-    go : (a u b : Bool) → (a && (u || false) && b) ≡ (a && ((true && b && u) && true))
+    go : (a u b : Bool) → (a && u && b) ≡ (a && ((true && b && u) && true))
     go true true true = refl
     go true true false = refl
     go true false true = refl
@@ -152,22 +158,22 @@ module _ (calls : List ℕ) where
       go true = refl
       go false = refl
 
-  arguments-pass : (j : ℕ) (ts : Terms) → areValues pure ts ≡ allPass (partPasses calls 1) j ts
+  arguments-pass : (d : Bool) (j : ℕ) (ts : Terms) → areValues pure ts ≡ allPass (partPasses calls 1 d) j ts
   unfolding class allPass partPasses keepsVariable
-  arguments-pass j done = refl
-  arguments-pass j (arg t ts) =
+  arguments-pass d j done = refl
+  arguments-pass d j (arg t ts) =
       ap₂ _&&_ (value-part t ∙ ap (λ (r : Role). suits r (node t .kind) && inGrammar pure t && true) (sym (argument-role j)))
-      (arguments-pass (suc j) ts)
+      (arguments-pass d (suc j) ts)
 
   -- an operation, a let and a case
-  pub grammar-parts : (t : Term) → valueKind (node t .kind) ≡ false → inGrammar pure t ≡ allPass (partPasses calls (node t .kind)) 0
-      (node t .parts)
-  unfolding inGrammar class node allPass partPasses roleOf suits keepsVariable valueKind needed mayDrop
+  pub grammar-parts : (t : Term) → valueKind (node t .kind) ≡ false
+      → inGrammar pure t ≡ allPass (partPasses calls (node t .kind) (firstMayDrop calls (node t .parts))) 0 (node t .parts)
+  unfolding inGrammar class node allPass firstMayDrop partPasses roleOf suits keepsVariable valueKind needed
   grammar-parts (var n) h = absurd (true≢false h)
-  grammar-parts (call k ts) h = passes _ anOperation refl ∙ arguments-pass 0 ts
+  grammar-parts (call k ts) h = passes _ anOperation refl ∙ arguments-pass (firstMayDrop calls ts) 0 ts
   grammar-parts (lam A b) h = absurd (true≢false h)
   grammar-parts (app f a) h = passes _ anOperation refl ∙ two (variable-part f) (value-part a)
-  grammar-parts (bind e b) h = passes _ aBlock refl ∙ let-parts (operation-part e) (leb 1 (uses b 0)) (inGrammar pure b)
+  grammar-parts (bind e b) h = passes _ aBlock refl ∙ let-parts (operation-part e) (leb 1 (uses b 0) || not (mayDrop calls e)) (inGrammar pure b)
   grammar-parts (pair A a b) h = absurd (true≢false h)
   grammar-parts (fst a) h = passes _ anOperation refl ∙ and-last (variable-part a)
   grammar-parts (snd a) h = passes _ anOperation refl ∙ and-last (variable-part a)

@@ -48,11 +48,12 @@ module _ (test : List ℕ → Term → Bool) (each : ℕ → Term → Bool) (cal
 
   -- before the first part
   pub test-enter : (n : ℕ) → Starts calls words → k ≡ kindOf (getD words 0 0) → (k ≡ 0 → ⊥) → n ≡ partCount calls (getD words 0 0)
-      → ((t : Term) → node t .kind ≡ k → test calls t ≡ allPass each 0 (node t .parts)) → Testing old n 1 0
+      → ((t : Term) (rest : List ℕ) → Holds calls words t rest → node t .kind ≡ k → test calls t ≡ allPass each 0 (node t .parts))
+      → Testing old n 1 0
   test-enter n s ke z e law = record {
     going = enter calls words (PassingParts (test calls) each old old depth k 0) n s e λ t rest h.
         let f : node t .kind ≡ k = sym (front-of h .kind) ∙ sym ke in
-        record { whole = law t f; marking = mark-enter old depth k t z f };
+        record { whole = law t rest h f; marking = mark-enter old depth k t z f };
     grown = grown-none old depth 1;
   }
 

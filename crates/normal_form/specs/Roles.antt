@@ -1,6 +1,6 @@
 -- What each part of an operation, a let or a case has to be in a normal form, and the kinds of node that can be that.
 use Prim.Native.Nat.{ℕ}
-use mathlib.Core.Bool.{Bool, true, cond, _||_}
+use mathlib.Core.Bool.{Bool, true, cond, _||_, not}
 use lib.Dec.{eqb, leb}
 use Rattle.reduction.specs.FitByKinds.{valueKind}
 use Rattle.normal_form.specs.declared.normal.Role.{Role}
@@ -29,6 +29,6 @@ suits Value h = valueKind h
 suits Operation h = operationKind h
 suits Normal h = true
 
--- a let's body, its second part, has to use the variable
-unfoldable pub keepsVariable : ℕ → ℕ → ℕ → Bool
-keepsVariable k j uses = cond (eqb k 4) (cond (eqb j 0) true (leb 1 uses)) true
+-- a let's body, its second part, has to use the variable, if what the let binds may be dropped
+unfoldable pub keepsVariable : ℕ → ℕ → Bool → ℕ → Bool
+keepsVariable k j droppable uses = cond (eqb k 4) (cond (eqb j 0) true (leb 1 uses || not droppable)) true

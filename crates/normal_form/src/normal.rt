@@ -2,13 +2,18 @@
 ghost use mathlib.Core.Path.{_≡_};
 ghost use Prim.Native.Nat.{_≤_};
 ghost use lib.ListN.{length};
+ghost use Rattle.syntax.specs.Tables.{someActs};
+ghost use Rattle.syntax.specs.Words.{kindOf, numberOf};
 ghost use Rattle.words.specs.Fronts.{Starts};
 ghost use Rattle.search.specs.Marks.{Space};
+ghost use Rattle.search.specs.NodeMayDrop.{nodeMayDrop};
 ghost use Rattle.normal_form.specs.Roles.{firstRole, laterRole, roleOf, suits, operationKind, keepsVariable};
 ghost use Rattle.normal_form.specs.NormalTest.{isNormalForm, isNormalValue, TestsNormal, Decides};
 use checker::check::OTHER_LIMIT;
 use search::marks::mark;
+use search::may_drop::may_drop;
 use search::value::value_kind;
+use words::acting::some_acts;
 use words::fields::kind;
 use words::fields::number;
 use words::shape::binders;
@@ -81,22 +86,27 @@ fn admits(role: Role, h: u64) -> bool
     }
 }
 
-// whether the variable that part j of a node of kind k binds has to be used, and if so whether it is
-fn keeps(k: u64, j: usize, uses: u64) -> bool
-    ensures { λ r. ⌜ r ≡ keepsVariable k j uses ⌝ }
+// whether the variable that part j of a node of kind k binds has to be used, and if so whether it is. A let stays without a use if what it
+// binds, which begins with the word `bound`, may not be dropped.
+fn keeps(calls: &[u64], acting: bool, k: u64, j: usize, bound: u64, uses: u64) -> bool
+    requires { ⌜ acting ≡ someActs (now calls) ⌝ }
+    ensures { λ r. ⌜ r ≡ keepsVariable k j (nodeMayDrop (now (calls .entry)) (kindOf bound) (numberOf bound)) uses ⌝ }
 {
     if k == 4 {
         if j == 0 {
             return true;
         }
-        return 1 <= uses;
+        if 1 <= uses {
+            return true;
+        }
+        return !may_drop(calls, acting, bound);
     }
     true
 }
 
 // whether the part at the front is a value in normal form, and where it ends
-fn normal_value_test(calls: &[u64], t: &[u64], used: &mut [u64], depth: usize) -> Part
-    requires { ⌜ Starts (now calls) (now t) × Space 1 (now used) depth (length (now t)) ⌝ }
+fn normal_value_test(calls: &[u64], acting: bool, t: &[u64], used: &mut [u64], depth: usize) -> Part
+    requires { ⌜ Starts (now calls) (now t) × Space 1 (now used) depth (length (now t)) × (acting ≡ someActs (now calls)) ⌝ }
     ensures { λ r. ⌜ TestsNormal isNormalValue (now (calls .entry)) (now (t .entry)) depth (now (used .entry)) (now (used .exit)) r ⌝ }
 {
     let w = t[0];
@@ -107,7 +117,7 @@ fn normal_value_test(calls: &[u64], t: &[u64], used: &mut [u64], depth: usize) -
     }
     if k == 2 {
         used[depth] = 0;
-        let body = normal_test(calls, &t[1..], used, depth + 1);
+        let body = normal_test(calls, acting, &t[1..], used, depth + 1);
         if !body.ok {
             return Part { end: 0, ok: false };
         }
@@ -123,7 +133,7 @@ fn normal_value_test(calls: &[u64], t: &[u64], used: &mut [u64], depth: usize) -
     let mut at: usize = 1;
     let mut j: usize = 0;
     while j < n {
-        let part = normal_value_test(calls, &t[at..], used, depth);
+        let part = normal_value_test(calls, acting, &t[at..], used, depth);
         if !part.ok {
             return Part { end: 0, ok: false };
         }
@@ -134,14 +144,14 @@ fn normal_value_test(calls: &[u64], t: &[u64], used: &mut [u64], depth: usize) -
 }
 
 // whether the part at the front is in normal form, and where it ends
-fn normal_test(calls: &[u64], t: &[u64], used: &mut [u64], depth: usize) -> Part
-    requires { ⌜ Starts (now calls) (now t) × Space 1 (now used) depth (length (now t)) ⌝ }
+fn normal_test(calls: &[u64], acting: bool, t: &[u64], used: &mut [u64], depth: usize) -> Part
+    requires { ⌜ Starts (now calls) (now t) × Space 1 (now used) depth (length (now t)) × (acting ≡ someActs (now calls)) ⌝ }
     ensures { λ r. ⌜ TestsNormal isNormalForm (now (calls .entry)) (now (t .entry)) depth (now (used .entry)) (now (used .exit)) r ⌝ }
 {
     let w = t[0];
     let k = kind(w);
     if value_kind(k) {
-        return normal_value_test(calls, t, used, depth);
+        return normal_value_test(calls, acting, t, used, depth);
     }
     let n = part_count(calls, w);
     let mut at: usize = 1;
@@ -152,11 +162,11 @@ fn normal_test(calls: &[u64], t: &[u64], used: &mut [u64], depth: usize) -> Part
         }
         used[depth] = 0;
         let inner = depth + binders(k, j);
-        let part = normal_test(calls, &t[at..], used, inner);
+        let part = normal_test(calls, acting, &t[at..], used, inner);
         if !part.ok {
             return Part { end: 0, ok: false };
         }
-        if !keeps(k, j, used[depth]) {
+        if !keeps(calls, acting, k, j, t[1], used[depth]) {
             return Part { end: 0, ok: false };
         }
         at = at + part.end;
@@ -171,6 +181,6 @@ pub fn is_normal_form(calls: &[u64], t: &[u64]) -> bool
     ensures { λ r. ⌜ Decides (now (calls .entry)) (now (t .entry)) r ⌝ }
 {
     let mut used: [u64; OTHER_LIMIT] = [0; OTHER_LIMIT];
-    let part = normal_test(calls, t, &mut used, 0);
+    let part = normal_test(calls, some_acts(calls), t, &mut used, 0);
     part.ok
 }

@@ -6,6 +6,7 @@ use step::gap::seek;
 use step::turn::Turn;
 use step::turn::take_turn;
 use words::PENDING;
+use words::acting::some_acts;
 
 // refusal 0 and where the last term begins, or 10 or 11; and the counts of the steps taken
 pub struct Reduced {
@@ -25,6 +26,8 @@ pub fn reduce(
     requires { ⌜ Reducible (now calls) (now current) begin (now second) ⌝ }
     ensures { λ r. ⌜ Reduces (now (calls .entry)) (now (current .entry)) begin budget (now (current .exit)) r ⌝ }
 {
+    // asked once, for every search
+    let acting = some_acts(calls);
     // space in which a step goes through the parts of its redex
     let mut pending: [u64; PENDING] = [0; PENDING];
     let mut counts: [u32; 10] = [0; 10];
@@ -38,6 +41,7 @@ pub fn reduce(
             let turn = take_turn(
                 phase,
                 calls,
+                acting,
                 current,
                 start,
                 end,

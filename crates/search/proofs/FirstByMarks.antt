@@ -4,7 +4,7 @@ use Prim.Native.Nat.{ℕ, _+_, _-_, _≤_, _<_}
 use native.Mathlib.Omega.{arith}
 use native.Mathlib.Decide.{ℕ-discrete, decLt}
 use mathlib.Core.Path.{_≡_, refl, sym, _∙_, ap, ap₂, subst}
-use mathlib.Core.Bool.{Bool, true, false, cond, not, _&&_}
+use mathlib.Core.Bool.{Bool, true, false, cond, _&&_}
 use mathlib.Core.List.{List, [], append-nil}
 use mathlib.Core.Option.{Option, some, none}
 use lib.Dec.{eqb}
@@ -16,7 +16,7 @@ use Rattle.syntax.specs.Substitution.{rename}
 use Rattle.syntax.specs.Term.{Term, var, call, lam, app, bind, pair, fst, snd, inl, inr, case, unit, node, asBind, partsOf}
 use Rattle.syntax.specs.Encoding.{encode, size}
 use Rattle.syntax.specs.Shaped.{count, Shaped}
-use Rattle.syntax.specs.Values.{isValue, isComputation, uses}
+use Rattle.syntax.specs.Values.{isComputation, uses}
 use Rattle.syntax.specs.Positions.{Position, positions}
 use Rattle.syntax.proofs.Nodes.{tail-part}
 use Rattle.syntax.proofs.Sites.{site, drop-site, PositionAt, position-at, index-below}
@@ -52,12 +52,12 @@ module _ {calls words : List ℕ} {base x : ℕ} where
 
   -- one node more
   pub passed-next : {n : ℕ} → NoUnusedBefore calls words base x n
-      → ((t : Term) (rest : List ℕ) → Holds calls (from words n) t rest → x ≤ finalMark (base + n) t)
+      → ((t : Term) (rest : List ℕ) → Holds calls (from words n) t rest → x ≤ finalMark calls (base + n) t)
       → NoUnusedBefore calls words base x (n + 1)
   passed-next {n} p q = record { marks = λ i t rest l h. go i t rest l h (ℕ-discrete i n) }
     where
-      go : (i : ℕ) (t : Term) (rest : List ℕ) → i < n + 1 → Holds calls (from words i) t rest → Dec (i ≡ n) → x ≤ finalMark (base + i) t
-      go i t rest l h (yes e) = subst (λ (j : ℕ). Holds calls (from words j) t rest → x ≤ finalMark (base + j) t) (sym e) (q t rest) h
+      go : (i : ℕ) (t : Term) (rest : List ℕ) → i < n + 1 → Holds calls (from words i) t rest → Dec (i ≡ n) → x ≤ finalMark calls (base + i) t
+      go i t rest l h (yes e) = subst (λ (j : ℕ). Holds calls (from words j) t rest → x ≤ finalMark calls (base + j) t) (sym e) (q t rest) h
       go i t rest l h (no e) = p .marks i t rest (omega (arith, l, e)) h
 
   -- the nodes of the words from n on
@@ -65,7 +65,7 @@ module _ {calls words : List ℕ} {base x : ℕ} where
     pub passed-behind : NoUnusedBefore calls words base x (n + l) → NoUnusedBefore calls (from words n) (base + n) x l
     passed-behind p = record {
       marks = λ i t rest lt h.
-          subst (λ (j : ℕ). x ≤ finalMark j t) (sym (placed base n i))
+          subst (λ (j : ℕ). x ≤ finalMark calls j t) (sym (placed base n i))
           (p .marks (n + i) t rest (omega (arith, lt)) (subst (λ (ws : List ℕ). Holds calls ws t rest) (from-from words n i) h));
     }
 
@@ -73,57 +73,57 @@ module _ {calls words : List ℕ} {base x : ℕ} where
         → NoUnusedBefore calls words base x (n + l)
     passed-row p q = record { marks = λ i t rest lt h. go i t rest lt h (decLt i n) }
       where
-        behind : (i : ℕ) (t : Term) (rest : List ℕ) → i < l → Holds calls (from words (n + i)) t rest → x ≤ finalMark (base + (n + i)) t
-        behind i t rest lt h = subst (λ (j : ℕ). x ≤ finalMark j t) (placed base n i)
+        behind : (i : ℕ) (t : Term) (rest : List ℕ) → i < l → Holds calls (from words (n + i)) t rest → x ≤ finalMark calls (base + (n + i)) t
+        behind i t rest lt h = subst (λ (j : ℕ). x ≤ finalMark calls j t) (placed base n i)
             (q .marks i t rest lt (subst (λ (ws : List ℕ). Holds calls ws t rest) (sym (from-from words n i)) h))
 
-        go : (i : ℕ) (t : Term) (rest : List ℕ) → i < n + l → Holds calls (from words i) t rest → Dec (i < n) → x ≤ finalMark (base + i) t
+        go : (i : ℕ) (t : Term) (rest : List ℕ) → i < n + l → Holds calls (from words i) t rest → Dec (i < n) → x ≤ finalMark calls (base + i) t
         go i t rest lt h (yes b) = p .marks i t rest b h
         go i t rest lt h (no b) =
             let e : n + (i - n) ≡ i = omega (arith, b) in
-            subst (λ (j : ℕ). Holds calls (from words j) t rest → x ≤ finalMark (base + j) t) e
+            subst (λ (j : ℕ). Holds calls (from words j) t rest → x ≤ finalMark calls (base + j) t) e
             (behind (i - n) t rest (omega (arith, lt, b))) h
 
 -- a node without inner parts is no let
-pub flat-mark : (p : ℕ) (t : Term) → count (inner t) ≡ 0 → 65536 ≤ finalMark p t
+pub flat-mark : (calls : List ℕ) (p : ℕ) (t : Term) → count (inner t) ≡ 0 → 65536 ≤ finalMark calls p t
 unfolding finalMark openMark inner count
-flat-mark p (var n) e = omega arith
-flat-mark p (call k ts) e = omega arith
-flat-mark p (lam A b) e = absurd (omega (arith, e))
-flat-mark p (app f a) e = omega arith
-flat-mark p (bind d b) e = absurd (omega (arith, e))
-flat-mark p (pair A a b) e = omega arith
-flat-mark p (fst a) e = omega arith
-flat-mark p (snd a) e = omega arith
-flat-mark p (inl A a) e = omega arith
-flat-mark p (inr A a) e = omega arith
-flat-mark p (case s l r) e = absurd (omega (arith, e))
-flat-mark p (unit A) e = omega arith
+flat-mark calls p (var n) e = omega arith
+flat-mark calls p (call k ts) e = omega arith
+flat-mark calls p (lam A b) e = absurd (omega (arith, e))
+flat-mark calls p (app f a) e = omega arith
+flat-mark calls p (bind d b) e = absurd (omega (arith, e))
+flat-mark calls p (pair A a b) e = omega arith
+flat-mark calls p (fst a) e = omega arith
+flat-mark calls p (snd a) e = omega arith
+flat-mark calls p (inl A a) e = omega arith
+flat-mark calls p (inr A a) e = omega arith
+flat-mark calls p (case s l r) e = absurd (omega (arith, e))
+flat-mark calls p (unit A) e = omega arith
 
 -- whether a node is a let that can be dropped, and its mark
 data Judged (calls : List ℕ) (p : ℕ) (t : Term) : Type 0 where
-  stays : contract (mayDrop calls) (rules Dropping) t ≡ none → 65536 ≤ finalMark p t → Judged calls p t
-  drops : (c : Contraction) → contract (mayDrop calls) (rules Dropping) t ≡ some c → c .rule ≡ Drop → finalMark p t ≡ p → Judged calls p t
+  stays : contract (mayDrop calls) (rules Dropping) t ≡ none → 65536 ≤ finalMark calls p t → Judged calls p t
+  drops : (c : Contraction) → contract (mayDrop calls) (rules Dropping) t ≡ some c → c .rule ≡ Drop → finalMark calls p t ≡ p → Judged calls p t
 
 judge : (calls : List ℕ) (p : ℕ) (t : Term) → Judged calls p t
-unfolding contract fire rules dropRule asBind partsOf node isComputation mayDrop finalMark openMark inner uses
+unfolding contract fire rules dropRule asBind partsOf node finalMark openMark inner uses
 judge calls p (var n) = stays refl (omega arith)
 judge calls p (call k ts) = stays refl (omega arith)
 judge calls p (lam A b) = stays refl (omega arith)
 judge calls p (app f a) = stays refl (omega arith)
-judge calls p (bind e b) = go (isValue e) refl (eqb (uses b 0) 0) refl
+judge calls p (bind e b) = go (isComputation e && mayDrop calls e) refl (eqb (uses b 0) 0) refl
   where
     made : Bool → Bool → Option Contraction
-    made v z = elim (given (not v && true && z) (rename b lower)) [
+    made d z = elim (given (d && z) (rename b lower)) [
       | some u ↦ some (record { rule = Drop; contractum = u })
       | none ↦ none
     ]
 
-    go : (v : Bool) → isValue e ≡ v → (z : Bool) → eqb (uses b 0) 0 ≡ z → Judged calls p (bind e b)
-    go true ev z ez = stays (ap (λ (v : Bool). made v (eqb (uses b 0) 0)) ev) (omega (arith, ap (λ (v : Bool). cond v 65536 p) ev))
-    go false ev true ez = drops (record { rule = Drop; contractum = rename b lower }) (ap₂ made ev ez) refl
-        (omega (arith, ap (λ (v : Bool). cond v 65536 p) ev, eqb-true (uses b 0) 0 ez))
-    go false ev false ez = stays (ap₂ made ev ez) (omega (arith, eqb-false (uses b 0) 0 ez))
+    go : (d : Bool) → (isComputation e && mayDrop calls e) ≡ d → (z : Bool) → eqb (uses b 0) 0 ≡ z → Judged calls p (bind e b)
+    go false ed z ez = stays (ap (λ (d : Bool). made d (eqb (uses b 0) 0)) ed) (omega (arith, ap (λ (d : Bool). cond d p 65536) ed))
+    go true ed true ez = drops (record { rule = Drop; contractum = rename b lower }) (ap₂ made ed ez) refl
+        (omega (arith, ap (λ (d : Bool). cond d p 65536) ed, eqb-true (uses b 0) 0 ez))
+    go true ed false ez = stays (ap₂ made ed ez) (omega (arith, eqb-false (uses b 0) 0 ez))
 judge calls p (pair A a b) = stays refl (omega arith)
 judge calls p (fst a) = stays refl (omega arith)
 judge calls p (snd a) = stays refl (omega arith)
@@ -157,7 +157,7 @@ finds-none {calls} {words} free small = record {
         let below : j < length words = omega (arith, index-below t j p e, ap (λ (l : List ℕ). length l) w) in
         let same : kindOf (getD words j 0) ≡ node (p .subterm) .kind =
         ap kindOf (sym (first-from words j)) ∙ front-of (subterm-at t s w j p e) .kind in
-        absurd (omega (arith, m, other-mark j (p .subterm) (λ z. free j below (same ∙ z)), below, small))
+        absurd (omega (arith, m, other-mark calls j (p .subterm) (λ z. free j below (same ∙ z)), below, small))
 
 module _ {calls words old new : List ℕ} {r : PartScan} (a : Scans calls words 0 0 old new r) (t : Term) (s : Shaped calls t)
     (w : words ≡ encode t) (small : size t ≤ 8192) where
@@ -184,11 +184,11 @@ module _ {calls words old new : List ℕ} {r : PartScan} (a : Scans calls words 
   module _ (lt : r .first < 65536) where
     -- the node at the place found cannot stay
     no-further : ((u : Term) (rest : List ℕ) → r .first < r .end → Holds calls (from words (r .first)) u rest
-        → 65536 ≤ finalMark (0 + r .first) u) → ⊥
+        → 65536 ≤ finalMark calls (0 + r .first) u) → ⊥
     no-further q = let le = a .greatest (r .first + 1) (omega (arith, lt)) passed in omega (arith, le)
       where
         go : (i : ℕ) (u : Term) (rest : List ℕ) → i < r .end → Holds calls (from words i) u rest → Dec (i < r .first) → Dec (i ≡ r .first)
-            → finalMark (0 + i) u ≡ 0 + i → r .first + 1 ≤ finalMark (0 + i) u
+            → finalMark calls (0 + i) u ≡ 0 + i → r .first + 1 ≤ finalMark calls (0 + i) u
         go i u rest l h (yes b) e m =
             absurd (omega (arith, b, m, a .before (r .first) (omega arith) (omega (arith, lt)) .marks i u rest l h))
         go i u rest l h (no b) (yes e) m = absurd (omega (
@@ -196,12 +196,12 @@ module _ {calls words old new : List ℕ} {r : PartScan} (a : Scans calls words 
           m,
           e,
           lt,
-          subst (λ (j : ℕ). j < r .end → Holds calls (from words j) u rest → 65536 ≤ finalMark (0 + j) u) (sym e) (q u rest) l h,
+          subst (λ (j : ℕ). j < r .end → Holds calls (from words j) u rest → 65536 ≤ finalMark calls (0 + j) u) (sym e) (q u rest) l h,
         ))
         go i u rest l h (no b) (no e) m = omega (arith, b, e, m)
 
         judged : (i : ℕ) (u : Term) (rest : List ℕ) → i < r .end → Holds calls (from words i) u rest → Judged calls (0 + i) u
-            → r .first + 1 ≤ finalMark (0 + i) u
+            → r .first + 1 ≤ finalMark calls (0 + i) u
         judged i u rest l h (stays f m) = omega (arith, m, lt)
         judged i u rest l h (drops c f e m) = go i u rest l h (decLt i (r .first)) (ℕ-discrete i (r .first)) m
 
@@ -215,7 +215,7 @@ module _ {calls words old new : List ℕ} {r : PartScan} (a : Scans calls words 
         here : (p : PositionAt t (r .first)) → Judged calls (0 + r .first) (p .position .subterm)
             → firstRedex (mayDrop calls) Dropping t ≡ Redex Drop (r .first)
         here p (stays f m) = absurd (no-further λ u rest l h.
-            subst (λ (z : Term). 65536 ≤ finalMark (0 + r .first) z)
+            subst (λ (z : Term). 65536 ≤ finalMark calls (0 + r .first) z)
             (sym (same-term h (subterm-at t s w (r .first) (p .position) (p .is)))) m)
         here p (drops c f q m) =
             ap foundOf (first-at (mayDrop calls) Dropping t (r .first) (p .position) c

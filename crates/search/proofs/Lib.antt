@@ -4,9 +4,9 @@ pub mod FirstOperand
 pub mod RuleFits
 pub mod ForwardScan
 pub mod MarkedUses
+pub mod NodeMayDrop
 pub mod OpenMarks
 pub mod FirstByMarks
-pub mod Lets
 pub mod RowInTwo
 pub mod UnusedRows
 pub mod UnusedSteps

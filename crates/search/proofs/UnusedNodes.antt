@@ -142,7 +142,7 @@ module _ {calls words : List ℕ} {base depth : ℕ} {old cur : List ℕ} {owed 
           around = c .facts .around;
           passes = λ x lim b. passed-next
               (c .facts .passes x lim (record { found = b .found; spine = b .spine; opened = λ l. absurd (omega (arith, l, e, lt)) }))
-              λ u more hu. subst (λ (s : Term). x ≤ finalMark (base + at) s) (same-term h hu)
+              λ u more hu. subst (λ (s : Term). x ≤ finalMark calls (base + at) s) (same-term h hu)
               (omega (arith, b .opened (omega (arith, ne, outer-few)), own));
           bounds = λ x lim p.
               let b = c .facts .bounds x lim (passed-back at (omega arith) p) in
@@ -160,5 +160,5 @@ module _ {calls words : List ℕ} {base depth : ℕ} {old cur : List ℕ} {owed 
           backs : count (c .back) ≡ 0
           backs = omega (arith, ap count (c .is), count-joined (c .others) (c .back), none)
 
-          own : r + 65536 * usesAll (joined (inner t) us) 0 ≡ openMark (base + at) t + 65536 * usesAll (inner t) 0
+          own : r + 65536 * usesAll (joined (inner t) us) 0 ≡ openMark calls (base + at) t + 65536 * usesAll (inner t) 0
           own = omega (arith, op .told t rest h, uses-joined (inner t) us 0, uses-none us 0 none)

@@ -47,7 +47,7 @@ module _ {calls words : List ℕ} {base depth : ℕ} {old cur : List ℕ} {owed 
   module _ {ts front back : Terms} (f : Known cur under later at fresh first ts front back)
       (e : outerCount (kindOf (getD words at 0)) (partCount calls (getD words at 0)) ≡ partCount calls (getD words at 0)) where
     pub passes-on : (x : ℕ) → x ≤ 65536 → Limits (f .final) under later fresh first back x → NoUnusedBefore calls words base x (at + 1)
-    passes-on x l b = passed-next (f .passes x l b) λ t rest h. omega (arith, l, flat-mark (base + at) t (flat-at words at h e))
+    passes-on x l b = passed-next (f .passes x l b) λ t rest h. omega (arith, l, flat-mark calls (base + at) t (flat-at words at h e))
 
     pub bounds-on : (x : ℕ) → x ≤ 65536 → NoUnusedBefore calls words base x (at + 1) → Limits (f .final) under later fresh first back x
     bounds-on x l p = f .bounds x l (passed-back at (omega arith) p)

@@ -3,6 +3,7 @@ pub mod Operands
 pub mod Fits
 pub mod Searches
 pub mod Marks
+pub mod NodeMayDrop
 pub mod Unused
 pub mod PhasePremise
 pub mod Finds

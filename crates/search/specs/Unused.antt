@@ -1,16 +1,17 @@
--- The search of phase 3 by marks of binders: the mark of a let that binds a computation begins as the let's place, any
+-- The search of phase 3 by marks of binders: the mark of a let that binds a computation that may be dropped begins as the let's place, any
 -- other as 65536, and each use adds 65536. So a mark is in the end below 65536 exactly for a let that can be dropped, and then its place.
 use Prim.Native.Nat.{ℕ, _+_, _*_, _≤_, _<_}
 use mathlib.Core.Path.{_≡_}
-use mathlib.Core.Bool.{Bool, false, cond, _||_}
-use mathlib.Core.List.{List, [], _∷_}
+use mathlib.Core.Bool.{Bool, cond, _&&_}
+use mathlib.Core.List.{List}
 use lib.Dec.{eqb}
 use lib.ListN.{length, getD}
+use Rattle.syntax.specs.Lists.{any}
 use Rattle.syntax.specs.Words.{kindOf}
 use Rattle.syntax.specs.Term.{Term, var, call, lam, app, bind, pair, fst, snd, inl, inr, case, unit}
 use Rattle.syntax.specs.Encoding.{encode, size}
 use Rattle.syntax.specs.Shaped.{Shaped}
-use Rattle.syntax.specs.Values.{isValue, usesAll}
+use Rattle.syntax.specs.Values.{isComputation, usesAll}
 use Rattle.words.specs.Fronts.{Holds, from}
 use Rattle.words.specs.Reach.{inner}
 use Rattle.reduction.specs.declared.Phase.the-variants.{Dropping}
@@ -20,33 +21,35 @@ use Rattle.reduction.specs.Redex.{firstRedex}
 use Rattle.search.specs.Marks.{Marked, Space}
 use Rattle.search.specs.declared.unused.PartScan.{PartScan}
 
--- whether some word is a let's
-unfoldable pub hasLet : List ℕ → Bool
-hasLet [] = false
-hasLet (w ∷ ws) = eqb (kindOf w) 4 || hasLet ws
+-- whether a word is a let's, and whether some word is
+abbrev pub isLet : ℕ → Bool
+isLet w = eqb (kindOf w) 4
 
--- the mark of a node's binder before any use
-unfoldable pub openMark : ℕ → Term → ℕ
-openMark p (var n) = 65536
-openMark p (call k ts) = 65536
-openMark p (lam A b) = 65536
-openMark p (app f a) = 65536
-openMark p (bind e b) = cond (isValue e) 65536 p
-openMark p (pair A a b) = 65536
-openMark p (fst a) = 65536
-openMark p (snd a) = 65536
-openMark p (inl A a) = 65536
-openMark p (inr A a) = 65536
-openMark p (case s l r) = 65536
-openMark p (unit A) = 65536
+abbrev pub hasLet : List ℕ → Bool
+hasLet ws = any isLet ws
+
+-- the mark of a node's binder before any use, over a call table
+unfoldable pub openMark : List ℕ → ℕ → Term → ℕ
+openMark calls p (var n) = 65536
+openMark calls p (call k ts) = 65536
+openMark calls p (lam A b) = 65536
+openMark calls p (app f a) = 65536
+openMark calls p (bind e b) = cond (isComputation e && mayDrop calls e) p 65536
+openMark calls p (pair A a b) = 65536
+openMark calls p (fst a) = 65536
+openMark calls p (snd a) = 65536
+openMark calls p (inl A a) = 65536
+openMark calls p (inr A a) = 65536
+openMark calls p (case s l r) = 65536
+openMark calls p (unit A) = 65536
 
 -- and after all uses, for a node at the place p
-unfoldable pub finalMark : ℕ → Term → ℕ
-finalMark p t = openMark p t + 65536 * usesAll (inner t) 0
+unfoldable pub finalMark : List ℕ → ℕ → Term → ℕ
+finalMark calls p t = openMark calls p t + 65536 * usesAll (inner t) 0
 
 -- of the nodes at the first n words, none is a let before place x that can be dropped; places are counted from base
 pub record NoUnusedBefore (calls words : List ℕ) (base x n : ℕ) : Type 0 where
-  pub marks : (i : ℕ) (t : Term) (rest : List ℕ) → i < n → Holds calls (from words i) t rest → x ≤ finalMark (base + i) t
+  pub marks : (i : ℕ) (t : Term) (rest : List ℕ) → i < n → Holds calls (from words i) t rest → x ≤ finalMark calls (base + i) t
 
 -- so many words more can be gone through
 abbrev pub MarkSpace : List ℕ → ℕ → ℕ → Type 0
@@ -55,7 +58,7 @@ MarkSpace used depth more = Space 65536 used depth more
 -- the mark of the binder of whatever term is at the front
 pub record MarksBinder (calls words : List ℕ) (place r : ℕ) : Type 0 where
   pub small : r ≤ 65536
-  pub told : (t : Term) (rest : List ℕ) → Holds calls words t rest → r ≡ openMark place t
+  pub told : (t : Term) (rest : List ℕ) → Holds calls words t rest → r ≡ openMark calls place t
 
 -- the least of a number and the marks of so many binders
 pub record LeastMark (used : List ℕ) (start end first r : ℕ) : Type 0 where

@@ -1,6 +1,8 @@
 // One turn of the reduction: search, the two limits, and the step in place.
+ghost use mathlib.Core.Path.{_≡_};
 ghost use Prim.Native.Nat.{_≤_};
 ghost use lib.ListN.{length as lengthOf};
+ghost use Rattle.syntax.specs.Tables.{someActs};
 ghost use Rattle.step.specs.Turns.{Ready, Turns};
 use crate::gap::seek;
 use crate::rewrite::Rewritten;
@@ -22,6 +24,7 @@ pub enum Turn {
 pub fn take_turn(
     phase: Phase,
     calls: &[u64],
+    acting: bool,
     current: &mut [u64],
     start: usize,
     end: usize,
@@ -30,9 +33,10 @@ pub fn take_turn(
     pending: &mut [u64],
 ) -> Turn
     requires { ⌜ Ready phase (now calls) (now current) start end (now second) × (8194 ≤ lengthOf (now pending)) ⌝ }
+    requires { ⌜ acting ≡ someActs (now calls) ⌝ }
     ensures { λ r. ⌜ Turns phase (now (calls .entry)) (now (current .entry)) start end left (now (current .exit)) r ⌝ }
 {
-    let found = find(phase, calls, &current[end..], second);
+    let found = find(phase, calls, acting, &current[end..], second);
     match found {
         Found::Nothing => Turn::Stop,
         Found::Redex(rule, ahead) => {

@@ -1,3 +1,4 @@
+pub mod AnyWord
 pub mod Extents
 pub mod PartCounts
 pub mod Traversal

@@ -1,9 +1,10 @@
 // The fields of type, call and term words.
 ghost use mathlib.Core.Path.{_≡_};
-ghost use Rattle.syntax.specs.Words.{kindOf, numberOf, typeOf, resultOf};
+ghost use Prim.Native.Nat.{_≤_};
+ghost use Rattle.syntax.specs.Words.{kindOf, numberOf, typeOf, countOf, actsOf, arityOf, resultOf};
 ghost use Rattle.words.specs.Shapes.{argumentOf};
 
-// the kind of a type word or a term word; a call word's argument count
+// the kind of a type word or a term word
 pub fn kind(w: u64) -> u64
     ensures { λ r. ⌜ r ≡ kindOf w ⌝ }
 {
@@ -22,6 +23,27 @@ pub fn ty(w: u64) -> u64
     ensures { λ r. ⌜ r ≡ typeOf w ⌝ }
 {
     w % 1073741824
+}
+
+// a call word's count: the number of its arguments, and 8 more if the call acts
+pub fn count(w: u64) -> u64
+    ensures { λ r. ⌜ r ≡ countOf w ⌝ }
+{
+    w / 1152921504606846976
+}
+
+// whether a call word's call acts
+pub fn acts(w: u64) -> bool
+    ensures { λ r. ⌜ r ≡ actsOf w ⌝ }
+{
+    8 <= count(w)
+}
+
+// how many arguments a call word's call takes: its count, less 8 if it acts
+pub fn arguments(w: u64) -> u64
+    ensures { λ r. ⌜ (r ≡ arityOf w) × (r ≤ 7) ⌝ }
+{
+    count(w) % 8
 }
 
 // a call word's result type

@@ -5,6 +5,7 @@ pub const PENDING: usize = 8194;
 
 pub mod fields; // fields.rt: the fields of type, call and term words
 pub mod shape; // shape.rt: what a kind decides, by one match; the number of parts of a node
+pub mod acting; // acting.rt: which calls of a table act
 pub mod ends; // ends.rt: where a part ends
 pub mod depths; // depths.rt: the depths of the parts still to come
 pub mod moves; // moves.rt: words copied, moved and cleared

@@ -8,6 +8,7 @@ ghost use Rattle.syntax.specs.Parts.{partCount};
 ghost use Rattle.syntax.specs.Values.{counts};
 ghost use Rattle.words.specs.Shapes.{Shaping, Tabled, valueParts, operandCount};
 ghost use Rattle.words.specs.Reach.{outerCount};
+use crate::fields::arguments;
 use crate::fields::kind;
 use crate::fields::number;
 
@@ -132,7 +133,7 @@ pub fn arity(calls: &[u64], n: u64) -> usize
 {
     let i = n as usize;
     if i < calls.len() {
-        return kind(calls[i]) as usize;
+        return arguments(calls[i]) as usize;
     }
     0
 }

@@ -7,7 +7,7 @@ use lib.Dec.{eqb}
 use lib.ListN.{take}
 use borrow.Author.Needs.{needs}
 use borrow.Author.Tests.{eq-eqb, ne-eqb}
-use Rattle.syntax.specs.Words.{countOf, argumentFields}
+use Rattle.syntax.specs.Words.{arityOf, argumentFields}
 use Rattle.syntax.proofs.Options.{and-last}
 use Rattle.words.specs.Shapes.{argumentOf}
 use Rattle.typing.specs.Infer.{equal}
@@ -57,7 +57,7 @@ module _ (w a b c : ℕ) where
 
 -- the places: the count is known, and the first and then the second argument agree
 abbrev Counted : Type 0
-Counted = tie.After-kind
+Counted = tie.After-arguments
 
 abbrev First : Type 0
 First = tie.Else2
@@ -71,9 +71,9 @@ Second = tie.Else4
 abbrev first : Second → First
 first c = c .before .before .before
 
-agrees : (c : Counted) (r : Bool) → (let a = c .before .args in r ≡ agree (a .w) (a .a) (a .b) (a .c) (c .kind .result))
-    → (let a = c .before .args in r ≡ agree (a .w) (a .a) (a .b) (a .c) (countOf (a .w)))
-agrees c r h = let a = c .before .args in h ∙ ap (agree (a .w) (a .a) (a .b) (a .c)) (c .kind .ensures)
+agrees : (c : Counted) (r : Bool) → (let a = c .before .args in r ≡ agree (a .w) (a .a) (a .b) (a .c) (c .arguments .result))
+    → (let a = c .before .args in r ≡ agree (a .w) (a .a) (a .b) (a .c) (arityOf (a .w)))
+agrees c r h = let a = c .before .args in h ∙ ap (agree (a .w) (a .a) (a .b) (a .c)) (c .arguments .ensures .0)
 
 first-agrees : (c : First) → let a = counted c .before .args in a .a ≡ argumentOf (a .w) 0
 first-agrees c = c .if2 .left ∙ c .before .argument .ensures

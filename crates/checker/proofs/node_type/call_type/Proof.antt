@@ -6,7 +6,7 @@ use mathlib.Core.Option.{Option, some}
 use Prim.Native.Nat.{ℕ, _≤_, _<_}
 use lib.ListN.{length, getD, take}
 use borrow.Author.Needs.{needs}
-use Rattle.syntax.specs.Words.{countOf, resultOf, argumentFields}
+use Rattle.syntax.specs.Words.{arityOf, resultOf, argumentFields}
 use Rattle.syntax.specs.Maybe.{_>>=_, given}
 use Rattle.syntax.specs.Tables.{over, Signature, signatureOf, arity}
 use Rattle.typing.specs.Infer.{equal}
@@ -29,7 +29,7 @@ module _ (calls : List ℕ) (n : ℕ) (F : List ℕ) where
   word = getD calls n 0
 
   known : (ok : Bool) (A : ℕ) (r : Inferred) → n < length calls
-      → ok ≡ equal (take (countOf word) F) (take (countOf word) (argumentFields word)) → A ≡ resultOf word
+      → ok ≡ equal (take (arityOf word) F) (take (arityOf word) (argumentFields word)) → A ≡ resultOf word
       → r ≡ inferredOf (given ok A) → r ≡ inferredOf (callType (over [] calls []) n F)
   unfolding callType
   known ok A r h e f g = g ∙ ap₂ {C = Inferred} (λ (x : Bool) (B : ℕ). inferredOf (given x B)) e f ∙ sym (ap answer (there calls n h))

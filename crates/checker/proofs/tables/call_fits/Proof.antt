@@ -10,7 +10,7 @@ use lib.Dec.{ltb, eqb}
 use lib.ListN.{take, drop}
 use borrow.Author.Needs.{needs}
 use borrow.Author.Tests.{le-leb, lt-leb, lt-ltb, le-ltb}
-use Rattle.syntax.specs.Words.{countOf, resultOf}
+use Rattle.syntax.specs.Words.{arityOf, resultOf}
 use Rattle.words.specs.Shapes.{argumentOf}
 use Rattle.typing.specs.TableChecks.{every, wellFormedCall}
 use Rattle.typing.specs.TermChecks.{fieldFits}
@@ -52,15 +52,15 @@ module _ {t w : ℕ} {a : Bool} {bs : List Bool} (p : Left t w (a ∷ bs)) where
 last : {t w : ℕ} {a : Bool} → Left t w (a ∷ []) → (x : Bool) → x ≡ a → x ≡ wellFormedCall t w
 last {a = a} p x e = e ∙ sym (and-true a) ∙ p .same
 
-module _ (t w n : ℕ) (e : n ≡ countOf w) where
+module _ (t w n : ℕ) (e : n ≡ arityOf w) where
   many : 3 < n → false ≡ wellFormedCall t w
-  many h = simp (lt-leb (countOf w) 3 (rw (← e) h))
+  many h = simp (lt-leb (arityOf w) 3 (rw (← e) h))
 
   module _ (h : n ≤ 3) (r : ℕ) (re : r ≡ resultOf w) where
     unknown : t ≤ r → false ≡ wellFormedCall t w
-    unknown g = simp (le-leb (countOf w) 3 (rw (← e) h), le-ltb (resultOf w) t (rw (← re) g))
+    unknown g = simp (le-leb (arityOf w) 3 (rw (← e) h), le-ltb (resultOf w) t (rw (← re) g))
 
-    -- count and result fit
+    -- the number of arguments and the result fit
     fields-left : r < t → Left t w (field t n 0 (argumentOf w 0) ∷ field t n 1 (argumentOf w 1) ∷ field t n 2 (argumentOf w 2) ∷ [])
     unfolding argumentOf
     fields-left g = record {
@@ -68,14 +68,14 @@ module _ (t w n : ℕ) (e : n ≡ countOf w) where
           ∙ ap (λ (m : ℕ). listed t m (argumentOf w 0) (argumentOf w 1) (argumentOf w 2)) e ∙ known;
     }
       where
-        known : listed t (countOf w) (argumentOf w 0) (argumentOf w 1) (argumentOf w 2) ≡ wellFormedCall t w
-        known = simp (le-leb (countOf w) 3 (rw (← e) h), lt-ltb (resultOf w) t (rw (← re) g))
+        known : listed t (arityOf w) (argumentOf w 0) (argumentOf w 1) (argumentOf w 2) ≡ wellFormedCall t w
+        known = simp (le-leb (arityOf w) 3 (rw (← e) h), lt-ltb (resultOf w) t (rw (← re) g))
 
--- the places: the count and the result fit, and then one field after the other
+-- the places: the number of arguments and the result fit, and then one field after the other
 abbrev Known : Type 0
 Known = tie.Else2
 
-abbrev counted : Known → tie.After-kind
+abbrev counted : Known → tie.After-arguments
 counted c = c .before .before .before
 
 abbrev First : Type 0
@@ -104,10 +104,10 @@ word c = counted c .before .args .w
 
 -- the test of field i
 abbrev test : Known → ℕ → Bool
-test c i = field (types c) (counted c .kind .result) i (argumentOf (word c) i)
+test c i = field (types c) (counted c .arguments .result) i (argumentOf (word c) i)
 
-tested : (c : Known) (i a : ℕ) (b : Bool) → a ≡ argumentOf (word c) i → b ≡ field (types c) (counted c .kind .result) i a → b ≡ test c i
-tested c i a b e h = h ∙ ap (field (types c) (counted c .kind .result) i) e
+tested : (c : Known) (i a : ℕ) (b : Bool) → a ≡ argumentOf (word c) i → b ≡ field (types c) (counted c .arguments .result) i a → b ≡ test c i
+tested c i a b e h = h ∙ ap (field (types c) (counted c .arguments .result) i) e
 
 first-test : (c : First) → c .field-fits .result ≡ test (known c) 0
 first-test c = tested (known c) 0 _ _ (c .before .argument .ensures) (c .field-fits .ensures)
@@ -119,7 +119,7 @@ second-test c = tested (known (first (at-second c))) 1 _ _ (c .before .argument2
 left-0 : (c : Known) → Left (types c) (word c) (test c 0 ∷ test c 1 ∷ test c 2 ∷ [])
 left-0 c =
     let r : tie.After-result = search in
-    fields-left (types c) (word c) _ (counted c .kind .ensures) (r .before .if1 .left) _ (r .result .ensures) (c .if2 .left)
+    fields-left (types c) (word c) _ (counted c .arguments .ensures .0) (r .before .if1 .left) _ (r .result .ensures) (c .if2 .left)
 
 left-1 : (c : tie.Else3) → let k = known (first c) in Left (types k) (word k) (test k 1 ∷ test k 2 ∷ [])
 left-1 c = passes (left-0 (known (first c))) (first-test (first c)) (c .if3 .left)
@@ -132,12 +132,12 @@ call-fits-spec =
     tie.close
     (tie.spec
     (λ c κs. search needs)
-    (λ c. let k : tie.After-kind = search in many _ (k .before .args .w) _ (k .kind .ensures) (c .if1 .taken))
+    (λ c. let k : tie.After-arguments = search in many _ (k .before .args .w) _ (k .arguments .ensures .0) (c .if1 .taken))
     (λ c κs. search needs)
     (λ c.
-    let k : tie.After-kind = search in
+    let k : tie.After-arguments = search in
     let r : tie.After-result = search in
-    unknown _ (k .before .args .w) _ (k .kind .ensures) (r .before .if1 .left) _ (r .result .ensures) (c .if2 .taken))
+    unknown _ (k .before .args .w) _ (k .arguments .ensures .0) (r .before .if1 .left) _ (r .result .ensures) (c .if2 .taken))
     (λ c κs. search needs)
     (λ c κs. search needs)
     (λ c. fails (left-0 (search)) (first-test (search)) (c .if3 .taken))

@@ -32,28 +32,31 @@ state phase words start end left counts second refusal = record {
 }
 
 abbrev Inv-loop : tie.InvT-loop
-Inv-loop calls current₀ begin budget second₀ pending₀ counts₀ left₀ phase refusal₀ start₀ end₀ current second pending counts left refusal
+Inv-loop calls current₀ begin budget second₀ acting pending₀ counts₀ left₀ phase refusal₀ start₀ end₀ current second pending counts left refusal
     start end =
     Arrives calls (state phase current₀ start₀ end₀ left₀ counts₀ second₀ refusal₀)
     (state phase current start end left counts second refusal) × (length pending ≡ 8194)
 
 abbrev μ-loop : tie.MeasureT-loop
-μ-loop calls current₀ begin budget second₀ pending₀ counts₀ left₀ phase refusal₀ start₀ end₀ current second pending counts left refusal
+μ-loop calls current₀ begin budget second₀ acting pending₀ counts₀ left₀ phase refusal₀ start₀ end₀ current second pending counts left refusal
     start end = left
 
 abbrev Inv-reduce : tie.InvT-reduce
-Inv-reduce calls current₀ begin budget second₀ pending₀ counts₀ left₀ phase₀ refusal₀ start₀ end₀ current second pending counts left phase
+Inv-reduce calls current₀ begin budget second₀ acting pending₀ counts₀ left₀ phase₀ refusal₀ start₀ end₀ current second pending counts left phase
     refusal start end =
     Arrives calls (initial current₀ begin budget second₀) (state phase current start end left counts second refusal)
     × (length pending ≡ 8194)
 
 abbrev μ-reduce : tie.MeasureT-reduce
-μ-reduce calls current₀ begin budget second₀ pending₀ counts₀ left₀ phase₀ refusal₀ start₀ end₀ current second pending counts left phase
+μ-reduce calls current₀ begin budget second₀ acting pending₀ counts₀ left₀ phase₀ refusal₀ start₀ end₀ current second pending counts left phase
     refusal start end = phasesAfter phase
 
 -- the places, and the way back from each to the one above it
 abbrev Entry : Type 0
 Entry = tie.Start Inv-loop μ-loop Inv-reduce μ-reduce
+
+abbrev Asked : Type 0
+Asked = tie.After-some-acts Inv-loop μ-loop Inv-reduce μ-reduce
 
 abbrev InPhase : Type 0
 InPhase = tie.At-reduce Inv-loop μ-loop Inv-reduce μ-reduce
@@ -74,7 +77,7 @@ abbrev Sought : Type 0
 Sought = tie.After-seek Inv-loop μ-loop Inv-reduce μ-reduce
 
 abbrev entry : InPhase → Entry
-entry c = c .before .before .before .before
+entry c = c .before .before .before .before .before
 
 abbrev phase-of : InTurn → InPhase
 phase-of c = c .before
@@ -89,14 +92,14 @@ abbrev turned : Sought → Turned
 turned c = c .before .before .before .before .before .before .before .before .before
 
 -- after a turn the buffers are as long as before it
-same-words : (c : Turned) → length (c .take-turn .last .1 .1 .0) ≡ length (head c .loop .current)
-same-words c = c .take-turn .kept .1 .1 .0
+same-words : (c : Turned) → length (c .take-turn .last .1 .1 .1 .0) ≡ length (head c .loop .current)
+same-words c = c .take-turn .kept .1 .1 .1 .0
 
-same-second : (c : Turned) → length (c .take-turn .last .1 .1 .1 .1 .1 .1 .0) ≡ length (head c .loop .second)
-same-second c = c .take-turn .kept .1 .1 .1 .1 .1 .1 .0
+same-second : (c : Turned) → length (c .take-turn .last .1 .1 .1 .1 .1 .1 .1 .0) ≡ length (head c .loop .second)
+same-second c = c .take-turn .kept .1 .1 .1 .1 .1 .1 .1 .0
 
-same-pending : (c : Turned) → length (c .take-turn .last .1 .1 .1 .1 .1 .1 .1 .0) ≡ 8194
-same-pending c = c .take-turn .kept .1 .1 .1 .1 .1 .1 .1 .0 ∙ head c .loop .inv .1
+same-pending : (c : Turned) → length (c .take-turn .last .1 .1 .1 .1 .1 .1 .1 .1 .0) ≡ 8194
+same-pending c = c .take-turn .kept .1 .1 .1 .1 .1 .1 .1 .1 .0 ∙ head c .loop .inv .1
 
 -- a turn that takes a step
 positive : (c : Stepping) → 0 < head (stepping c) .loop .left
@@ -142,7 +145,7 @@ onward : (c : Sought) (next : Phase)
     let s = entry (phase-of h) .args in
     let l = h .loop in
     Follows (phase-of h .reduce .phase) next → Arrives (s .calls .now) (initial (s .current .now) (s .begin) (s .budget) (s .second .now))
-    (state next (c .seek .last .0) 0 (c .seek .result) (l .left) (l .counts) (turned c .take-turn .last .1 .1 .1 .1 .1 .1 .0) (l .refusal)))
+    (state next (c .seek .last .0) 0 (c .seek .result) (l .left) (l .counts) (turned c .take-turn .last .1 .1 .1 .1 .1 .1 .1 .0) (l .refusal)))
 onward c next f =
     let s : Stopped = search in
     let t = turned c in
@@ -167,6 +170,7 @@ reduce-spec =
     μ-loop
     Inv-reduce
     μ-reduce
+    (λ c κs. search needs)
     (λ c.
     let s : Entry = search in
     (arrives-initial (omega (arith, s .fits .budget)) (s .pre), (search needs)))
@@ -176,7 +180,8 @@ reduce-spec =
     sym (h .loop .inv .1))
     (λ c κs.
     let h : InTurn = search in
-    (turn-ready (h .loop .inv .0), omega (arith, h .loop .inv .1)))
+    let a : Asked = search in
+    ((turn-ready (h .loop .inv .0), omega (arith, h .loop .inv .1)), a .some-acts .ensures))
     (λ c. search needs)
     (λ c. search needs)
     (λ c. search needs)

@@ -31,14 +31,14 @@ find-spec =
     (tie.spec
     (λ c. search needs)
     (λ c κs.
-    let pre = c .before .before .before .before .before .pre in (
+    let pre = c .before .before .before .before .before .pre .0 in (
       continues-at Insertion (c .enum-told .given .1) (continues insertion-ready
           (searchable-at Insertion (c .enum-told .given .1) (pre))),
       pre .small,
     ))
     (λ c. search needs)
     (λ c κs.
-    let pre = c .before .before .before .before .before .pre in (
+    let pre = c .before .before .before .before .before .pre .0 in (
       continues-at Reduction (c .enum-told2 .given .1) (continues reduction-ready
           (searchable-at Reduction (c .enum-told2 .given .1) (pre))),
       pre .small,
@@ -47,7 +47,7 @@ find-spec =
     (λ c κs.
     let at-enum-told3 = c .before in
     let pre = at-enum-told3 .before .before .before .before .before .pre in
-    (whole-starts (searchable-at Dropping (at-enum-told3 .enum-told3 .given .1) (pre)), marks-open (pre), pre .small))
+    ((whole-starts (searchable-at Dropping (at-enum-told3 .enum-told3 .given .1) (pre .0)), marks-open (pre .0), pre .0 .small), pre .1))
     (λ c.
     let enum-told = c .before .enum-told in
     finds-at Insertion (enum-told .given .1) (finds-first insertion-ready

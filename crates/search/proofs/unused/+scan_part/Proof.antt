@@ -26,11 +26,11 @@ use Rattle.search.proofs.unused.+scan_part.Tie.{close}
 use Rattle.search.proofs.unused.+scan_part.Proof.Measures.{μ-scan-part, scan-part-at, claims}
 
 abbrev Inv-loop : lts.InvT-loop
-Inv-loop calls t used₀ depth base owed₀ later₀ fresh₀ under₀ at₀ first₀ used owed later fresh under at first =
+Inv-loop calls acting t used₀ depth base owed₀ later₀ fresh₀ under₀ at₀ first₀ used owed later fresh under at first =
     Scanning calls t base depth used₀ used owed later under at fresh first
 
 abbrev μ-loop : lts.MeasureT-loop
-μ-loop calls t used₀ depth base owed₀ later₀ fresh₀ under₀ at₀ first₀ used owed later fresh under at first = 16 * (length t - at) + later
+μ-loop calls acting t used₀ depth base owed₀ later₀ fresh₀ under₀ at₀ first₀ used owed later fresh under at first = 16 * (length t - at) + later
 
 -- the type of a place of the code
 abbrev Place : Type 1
@@ -207,7 +207,9 @@ module _ (m : ℕ) where
       (λ c. omega (arith, reach (search)))
       (λ c. omega (arith, reach (search)))
       (λ c. omega (arith, reach (search)))
-      (λ c κs. (starts (search), omega (arith, rest (search), reach (search)), omega (arith, reach (search))))
+      (λ c κs.
+      let l : Head = search in
+      (starts (search), omega (arith, rest (search), reach (search)), omega (arith, reach (search)), entry l .pre .1 .0 .2))
       (λ c. omega (arith, reach (search)))
       (λ c.
       let l : Head = search in
@@ -224,7 +226,7 @@ module _ (m : ℕ) where
       (λ c. omega (arith, reach (search)))
       (λ c κs. (
         omega (arith, fewer (search)),
-        ((starts (search), room (search)), (omega (arith, rest (search), reach (search)), omega (arith, rest (search), reach (search)))),
+        ((starts (search), room (search), let l : Head = search in entry l .pre .1 .0 .2), (omega (arith, rest (search), reach (search)), omega (arith, rest (search), reach (search)))),
       ))
       (λ c κs. search needs)
       (λ c. omega (arith, moved (search), reach (search)))
@@ -232,7 +234,7 @@ module _ (m : ℕ) where
       (λ c. omega (arith, moved (search)))
       (λ c.
       let a : Called = search in
-      scan-part (turn (counted a) .loop .inv) (some (search)) _ _ _ (a .scan-part .ensures) (search) (a .scan-part .kept .1 .1 .0))
+      scan-part (turn (counted a) .loop .inv) (some (search)) _ _ _ (a .scan-part .ensures) (search) (a .scan-part .kept .1 .1 .1 .0))
       (λ c κs. (c .before .before .loop .inv .known, deep (search)))
       (λ c.
       let l : Head = search in

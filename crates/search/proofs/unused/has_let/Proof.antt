@@ -2,13 +2,15 @@
 use Prim.Native.Nat.{_-_}
 use mathlib.Core.Path.{sym, _∙_}
 use lib.ListN.{length}
-use Rattle.search.proofs.Lets.{Before, before-first, before-let, before-next, before-end}
+use borrow.Author.Tests.{eq-eqb, ne-eqb}
+use Rattle.words.proofs.AnyWord.{NoneBefore, none-before-first, word-passes, word-fails, none-passes}
+use Rattle.search.specs.Unused.{isLet}
 use borrow.Author.Needs.{needs}
 use Rattle.search.proofs.unused.has_let.Statement.{statement}
 use Rattle.search.proofs.unused.has_let.Tie as tie
 
 abbrev Inv-loop : tie.InvT-loop
-Inv-loop t i₀ i = Before t i
+Inv-loop t i₀ i = NoneBefore isLet t i
 
 abbrev μ-loop : tie.MeasureT-loop
 μ-loop t i₀ i = length t - i
@@ -19,18 +21,20 @@ has-let-spec =
     (tie.spec
     Inv-loop
     μ-loop
-    (λ c. before-first _)
+    (λ c. none-before-first isLet _)
     (λ c. search needs)
     (λ c. search needs)
     (λ c κs. search needs)
     (λ c.
     let at-kind = c .before in
     let at-loop-test = at-kind .before .before in
-    before-let (at-loop-test .before .loop .inv) (at-loop-test .loop-test .taken) (sym (at-kind .kind .ensures) ∙ c .if1 .taken))
+    word-passes isLet (at-loop-test .before .loop .inv) (at-loop-test .loop-test .taken)
+    (eq-eqb _ 4 (sym (at-kind .kind .ensures) ∙ c .if1 .taken)))
     (λ c. search needs)
     (λ c. search needs)
     (λ c.
     let at-kind = c .before in
     let at-loop-test = at-kind .before .before in
-    before-next (at-loop-test .before .loop .inv) (at-loop-test .loop-test .taken) (λ z. c .if1 .left (at-kind .kind .ensures ∙ z)))
-    (λ c. before-end (c .before .loop .inv) (c .loop-test .left)))
+    word-fails isLet (at-loop-test .before .loop .inv) (at-loop-test .loop-test .taken)
+    (ne-eqb _ 4 λ z. c .if1 .left (at-kind .kind .ensures ∙ z)))
+    (λ c. none-passes isLet (c .before .loop .inv) (c .loop-test .left)))

@@ -79,18 +79,18 @@ take-turn-spec =
     (λ c. search needs)
     (λ c. search needs)
     (λ c. search needs)
-    (λ c κs. let s : tie.Start = search in turn-searchable (s .pre .0))
+    (λ c κs. let s : tie.Start = search in (turn-searchable (s .pre .0 .0), s .pre .1))
     (λ c. search needs)
     (λ c. search needs)
     (λ c. search needs)
     (λ c. search needs)
     (λ c. turned-spent (redex (search)) (c .if1 .taken))
-    (λ c. let f : Found = search in omega (arith, place-small (redex f) (entry (searched f) .pre .0)))
-    (λ c κs. let f : Found = search in redex-seekable (redex f) (entry (searched f) .pre .0))
+    (λ c. let f : Found = search in omega (arith, place-small (redex f) (entry (searched f) .pre .0 .0)))
+    (λ c κs. let f : Found = search in redex-seekable (redex f) (entry (searched f) .pre .0 .0))
     (λ c κs.
     let k : Sought = search in
     let s = entry (searched (found (budgeted k))) in
-    (turn-rewritable (at-redex k) (s .pre .0) _ (search needs), s .pre .1))
+    (turn-rewritable (at-redex k) (s .pre .0 .0) _ (search needs), s .pre .0 .1))
     (λ c. search needs)
     (λ c. search needs)
     (λ c κs. search needs)
@@ -98,7 +98,7 @@ take-turn-spec =
     let t : There = search in
     let k = sought (rewritten t) in
     let s = entry (searched (found (budgeted k))) in
-    next-seekable (at-redex k) (next t) (s .pre .0) (c .before .next-from .ensures))
+    next-seekable (at-redex k) (next t) (s .pre .0 .0) (c .before .next-from .ensures))
     (λ c. search needs)
     (λ c. search needs)
     (λ c. let f : tie.After-find = search in turned-stops (f .find .ensures) (c .enum-told .given .1))

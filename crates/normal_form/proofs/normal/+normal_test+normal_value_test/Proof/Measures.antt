@@ -21,10 +21,10 @@ use Rattle.normal_form.proofs.normal.+normal_test+normal_value_test.Lts
 use Rattle.normal_form.proofs.normal.+normal_test+normal_value_test.Lts-normal_value_test as normal-value-test-lts
 
 abbrev pub μ-normal-test : Measures 3 normal-test-kinds.ps ℕ
-μ-normal-test κs a = 2 * length (a .1 .0 .now) + 1
+μ-normal-test κs a = 2 * length (a .1 .1 .0 .now) + 1
 
 abbrev pub μ-normal-value-test : Measures 3 normal-value-test-kinds.ps ℕ
-μ-normal-value-test κs a = 2 * length (a .1 .0 .now)
+μ-normal-value-test κs a = 2 * length (a .1 .1 .0 .now)
 
 abbrev pub normal-test-at : ℕ → In 3 normal-test-kinds.ps
 normal-test-at t =

@@ -24,16 +24,16 @@ use Rattle.normal_form.specs.Roles.{roleOf, suits}
 use Rattle.normal_form.specs.NormalTest.{isNormalForm}
 use Rattle.normal_form.proofs.GrammarByParts.{partPasses}
 use Rattle.normal_form.proofs.TestedParts.{Testable, testable, Testing, test-leave, test-space}
-use Rattle.normal_form.proofs.NormalTests.{value-normal, normal-enter, role-fails, form-fails, use-fails, parts-next}
+use Rattle.normal_form.proofs.NormalTests.{firstDroppable, value-normal, normal-enter, role-fails, form-fails, use-fails, parts-next}
 use Rattle.normal_form.proofs.normal.normal_test.Reads as normal-test
 use Rattle.normal_form.proofs.normal.+normal_test+normal_value_test.Lts-normal_test as lts
 use Rattle.normal_form.proofs.normal.+normal_test+normal_value_test.Proof.Measures.{normal-test-at, normal-test-claims}
 
 abbrev Inv-loop : lts.InvT-loop
-Inv-loop calls t used₀ depth w k n at₀ j₀ used at j = Testing isNormalForm (partPasses calls k) calls t used₀ depth k used n at j
+Inv-loop calls acting t used₀ depth w k n at₀ j₀ used at j = Testing isNormalForm (partPasses calls k (firstDroppable calls t)) calls t used₀ depth k used n at j
 
 abbrev μ-loop : lts.MeasureT-loop
-μ-loop calls t used₀ depth w k n at₀ j₀ used at j = n - j
+μ-loop calls acting t used₀ depth w k n at₀ j₀ used at j = n - j
 
 -- the type of a place of the code
 abbrev Place : Type 1
@@ -88,7 +88,7 @@ module _ (m : ℕ) where
   bound c = c .before .before .before
 
   abbrev tested : PartPassed → PartTested
-  tested c = c .before .before .before .before .before .before .before
+  tested c = c .before .before .before .before .before .before .before .before
 
   abbrev start : Head → Entry
   start c = entry (kinded c)
@@ -98,7 +98,7 @@ module _ (m : ℕ) where
 
   -- at the entry
   begins : (c : Entry) → Testable (c .args .t .now) (c .args .used .now) (c .args .depth)
-  begins c = testable (c .pre .1)
+  begins c = testable (c .pre .1 .0, c .pre .1 .1)
 
   -- where the node is of the kind of a value
   is-value : (c : place lts.Then1) → true ≡ valueKind (c .before .before .kind .result)
@@ -124,6 +124,9 @@ module _ (m : ℕ) where
   inside : (c : Turn) → top c .loop .at < length (start (top c) .args .t .now)
   inside c = omega (arith, not-empty (part c), from-length (start (top c) .args .t .now) (top c .loop .at))
 
+  first-inside : (c : Turn) → 1 < length (start (top c) .args .t .now)
+  first-inside c = omega (arith, inside c, top c .loop .inv .going .low)
+
   suited : (c : Admitted)
       → (let l = head c .loop in
       c .admits .result
@@ -146,10 +149,10 @@ module _ (m : ℕ) where
       test-space _ _ _ _ _ _ _ (l .loop .inv) (search) (opened c) (c .binders .ensures .1) (start l .pre .1 .1)
 
   -- where the part is tested
-  same : (c : PartTested) → length (c .normal-test .last .1 .1 .0) ≡ length (start (turn c) .args .used .now)
-  same c = c .normal-test .kept .1 .1 .0 ∙ length-set (turn c .loop .used) _ 0 ∙ held (search)
+  same : (c : PartTested) → length (c .normal-test .last .1 .1 .1 .0) ≡ length (start (turn c) .args .used .now)
+  same c = c .normal-test .kept .1 .1 .1 .0 ∙ length-set (turn c .loop .used) _ 0 ∙ held (search)
 
-  mark : (c : PartTested) → start (turn c) .args .depth < length (c .normal-test .last .1 .1 .0)
+  mark : (c : PartTested) → start (turn c) .args .depth < length (c .normal-test .last .1 .1 .1 .0)
   mark c = omega (arith, begins (start (turn c)) .deep, same c)
 
   -- where the part has passed
@@ -158,14 +161,15 @@ module _ (m : ℕ) where
       let l = turn p .loop in
       let s = start (turn p) .args in
       let k = kinded (turn p) .kind .result in
-      Testing isNormalForm (partPasses (s .calls .now) k) (s .calls .now) (s .t .now) (s .used .now) (s .depth) k
-      (p .normal-test .last .1 .1 .0)
+      Testing isNormalForm (partPasses (s .calls .now) k (firstDroppable (s .calls .now) (s .t .now))) (s .calls .now) (s .t .now)
+      (s .used .now) (s .depth) k
+      (p .normal-test .last .1 .1 .1 .0)
       (turn p .before .part-count .result) (l .at + p .normal-test .result .end) (l .j + 1))
   next c =
       let p = tested c in
       let b = bound p in
       parts-next (turn p .loop .inv) (search) _ (suited (search)) _ (p .normal-test .ensures) (opened (search)) (b .binders .ensures .0)
-      (search) _ (c .before .keeps .ensures) (search) (c .if4 .left) (b .binders .ensures .1) (p .normal-test .kept .1 .1 .0)
+      (search) _ (c .before .keeps .ensures) (search) (c .if4 .left) (b .binders .ensures .1) (p .normal-test .kept .1 .1 .1 .0)
 
   reached : (c : PartPassed) → turn (tested c) .loop .at + tested c .normal-test .result .end ≤ 65536
   reached c = omega (arith, next c .going .high, begins (start (turn (tested c))) .short)
@@ -210,14 +214,17 @@ module _ (m : ℕ) where
       (λ c. search needs)
       (λ c. search needs)
       (λ c. search needs)
-      (λ c κs. (omega (arith, less (search)), (part (search), space (search))))
+      (λ c κs.
+      let s : Entry = search in
+      (omega (arith, less (search)), (part (search), space (search), s .pre .1 .2)))
       (λ c. same (search))
       (λ c.
       let p : PartTested = search in
       form-fails (turn p .loop .inv) (search) _ (suited (search)) _ (p .normal-test .ensures) (c .if3 .taken))
+      (λ c. first-inside (search))
       (λ c. omega (arith, near (search)))
       (λ c. mark (search))
-      (λ c κs. search needs)
+      (λ c κs. let s : Entry = search in s .pre .1 .2)
       (λ c. same (search))
       (λ c.
       let p : PartTested = search in

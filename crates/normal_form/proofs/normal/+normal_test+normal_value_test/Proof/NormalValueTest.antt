@@ -26,10 +26,10 @@ use Rattle.normal_form.proofs.normal.+normal_test+normal_value_test.Lts
 use Rattle.normal_form.proofs.normal.+normal_test+normal_value_test.Proof.Measures.{normal-value-test-at, normal-value-test-claims}
 
 abbrev Inv-loop : lts.InvT-loop
-Inv-loop calls t used₀ depth w k n at₀ j₀ used at j = Testing isNormalValue (λ j. isNormalValue calls) calls t used₀ depth k used n at j
+Inv-loop calls acting t used₀ depth w k n at₀ j₀ used at j = Testing isNormalValue (λ j. isNormalValue calls) calls t used₀ depth k used n at j
 
 abbrev μ-loop : lts.MeasureT-loop
-μ-loop calls t used₀ depth w k n at₀ j₀ used at j = n - j
+μ-loop calls acting t used₀ depth w k n at₀ j₀ used at j = n - j
 
 -- the type of a place of the code
 abbrev Place : Type 1
@@ -76,7 +76,7 @@ module _ (m : ℕ) where
 
   -- at the entry
   begins : (c : Entry) → Testable (c .args .t .now) (c .args .used .now) (c .args .depth)
-  begins c = testable (c .pre .1)
+  begins c = testable (c .pre .1 .0, c .pre .1 .1)
 
   -- at a function: its body is its one part, and stands under a mark of its own
   body : (c : Function)
@@ -94,19 +94,19 @@ module _ (m : ℕ) where
   less : (c : Function) → length (from (entry (kinded c) .args .t .now) 1) < length (entry (kinded c) .args .t .now)
   less c = omega (arith, from-length (entry (kinded c) .args .t .now) 1, begins (search) .some)
 
-  same : (c : Body) → length (c .normal-test .last .1 .1 .0) ≡ length (entry (kinded (function c)) .args .used .now)
-  same c = c .normal-test .kept .1 .1 .0 ∙ length-set (entry (kinded (function c)) .args .used .now) _ 0
+  same : (c : Body) → length (c .normal-test .last .1 .1 .1 .0) ≡ length (entry (kinded (function c)) .args .used .now)
+  same c = c .normal-test .kept .1 .1 .1 .0 ∙ length-set (entry (kinded (function c)) .args .used .now) _ 0
 
   passed : (c : place lts.Else3)
       → (let b = c .before .before .before .before in
       let s = entry (kinded (function b)) .args in
       Testing isNormalValue (λ j. isNormalForm (s .calls .now)) (s .calls .now) (s .t .now) (s .used .now) (s .depth)
-      (kinded (function b) .kind .result) (b .normal-test .last .1 .1 .0) 1 (1 + b .normal-test .result .end) (0 + 1))
+      (kinded (function b) .kind .result) (b .normal-test .last .1 .1 .1 .0) 1 (1 + b .normal-test .result .end) (0 + 1))
   passed c =
       let b : Body = search in
       let a = b .normal-test .ensures in
       test-next _ _ _ _ _ _ _ (body (search)) (omega arith) (opened (search)) (omega arith) (function-binds _ (function b .if2 .taken)) _
-      (said-yes a (c .if3 .left)) (did-pass a (c .if3 .left)) (b .normal-test .kept .1 .1 .0)
+      (said-yes a (c .if3 .left)) (did-pass a (c .if3 .left)) (b .normal-test .kept .1 .1 .1 .0)
 
   -- at the head of the loop
   held : (c : Head) → length (c .loop .used) ≡ length (entry (headed c) .args .used .now)
@@ -126,11 +126,11 @@ module _ (m : ℕ) where
       let l = head p .loop in
       Testing isNormalValue (λ j. isNormalValue (s .calls .now)) (s .calls .now) (s .t .now) (s .used .now) (s .depth)
       (headed (head p) .kind .result)
-      (p .normal-value-test .last .1 .1 .0) (head p .before .part-count .result) (l .at + p .normal-value-test .result .end) (l .j + 1))
+      (p .normal-value-test .last .1 .1 .1 .0) (head p .before .part-count .result) (l .at + p .normal-value-test .result .end) (l .j + 1))
   next c =
       let p : PartTested = search in
       values-next (head p .loop .inv) (search) (p .normal-value-test .ensures) (search) (bare (search))
-      (p .normal-value-test .kept .1 .1 .0)
+      (p .normal-value-test .kept .1 .1 .1 .0)
 
   pub normal-value-test-meets : {M : Type 1} → lts.Closed (normal-value-test-claims m) (normal-value-test-at m) normal-value-test.Post M
   normal-value-test-meets =
@@ -164,6 +164,7 @@ module _ (m : ℕ) where
         (
           part-starts _ _ (body f .going) (omega arith),
           test-space _ _ _ _ _ _ _ (body f) (omega arith) (opened f) (omega arith) (entry (kinded f) .pre .1 .1),
+          entry (kinded f) .pre .1 .2,
         ),
       ))
       (λ c. same (search))
@@ -194,11 +195,12 @@ module _ (m : ℕ) where
         (
           part-starts _ _ (l .before .loop .inv .going) (l .loop-test .taken),
           values-space (l .before .loop .inv) (l .loop-test .taken) (s .pre .1 .1),
+          s .pre .1 .2,
         ),
       ))
       (λ c.
       let p : PartTested = search in
-      p .normal-value-test .kept .1 .1 .0 ∙ held (search))
+      p .normal-value-test .kept .1 .1 .1 .0 ∙ held (search))
       (λ c.
       let p : PartTested = search in
       test-fails _ _ _ _ _ _ _ (head p .loop .inv) (search) (said-no (p .normal-value-test .ensures) (c .if5 .taken)))

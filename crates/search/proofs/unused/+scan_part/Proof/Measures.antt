@@ -16,7 +16,7 @@ use Rattle.search.proofs.unused.scan_part.Kinds as scan-part-kinds
 use Rattle.search.proofs.unused.+scan_part.Lts-scan_part as lts
 
 abbrev pub μ-scan-part : Measures 3 scan-part-kinds.ps ℕ
-μ-scan-part κs a = length (a .1 .0 .now)
+μ-scan-part κs a = length (a .1 .1 .0 .now)
 
 abbrev pub scan-part-at : ℕ → In 3 scan-part-kinds.ps
 scan-part-at m = and 3 scan-part-kinds.ps (is 3 scan-part-kinds.ps μ-scan-part m) scan-part-reads.Pre
