@@ -15,15 +15,15 @@ use Rattle.outcomes.specs.declared.Checked.{Checked}
 use Rattle.outcomes.specs.declared.Tested.{Tested}
 use Rattle.outcomes.specs.ReadBundle.{Reading, unreadable}
 use Rattle.outcomes.specs.Text.{ascii}
-use Rattle.cases.specs.Table.{Case, roomy, nines, tablesWith, c, d, v0, v1, A, A′, accepts, refuses}
+use Rattle.cases.specs.Table.{Case, nines, tablesWith, c, d, v0, v1, A, A′, acceptsOver, accepts, refuses}
 use Rattle.cases.specs.Sample.{bundleOf, bundle}
 
--- a call word: how many arguments, the result type, the argument types
-abbrev callWord : ℕ → ℕ → ℕ → ℕ → ℕ → ℕ
+-- a call word: the count, the result type, the argument types
+abbrev pub callWord : ℕ → ℕ → ℕ → ℕ → ℕ → ℕ
 callWord n r a b c = n * 2 ^ 60 + (r * 2 ^ 45 + (a * 2 ^ 30 + (b * 2 ^ 15 + c)))
 
 -- paper 01's types, with one call, and an input of type 0
-abbrev calling : ℕ → Tables
+abbrev pub calling : ℕ → Tables
 calling w = over (tablesWith [] .types) (w ∷ []) (0 ∷ [])
 
 -- these types, no call, and an input of type 0
@@ -32,22 +32,12 @@ typing types = over types [] (0 ∷ [])
 
 -- accepted with a product as its type
 abbrev pairs : List ℕ → Term → Term → Counts → Case
-pairs inputs t u counts =
-    record {
-      tables = tablesWith inputs;
-      words = encode t;
-      budget = 1000000;
-      buffers = roomy;
-      refusal = 0;
-      type = 2;
-      counts = counts;
-      result = encode u;
-    }
+pairs inputs t u counts = acceptsOver 2 (tablesWith inputs) t u counts
 
-abbrev v2 : Term
+abbrev pub v2 : Term
 v2 = var 2
 
-abbrev v3 : Term
+abbrev pub v3 : Term
 v3 = var 3
 
 unfoldable pub further : List Case

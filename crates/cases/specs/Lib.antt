@@ -5,3 +5,4 @@ pub mod Further
 pub mod Runs
 pub mod Reading
 pub mod Units
+pub mod Acting

@@ -57,19 +57,22 @@ v0 = var 0
 abbrev pub v1 : Term
 v1 = var 1
 
--- the counts, in the order of `Rule`
-abbrev pub accepts : List ℕ → Term → Term → Counts → Case
-accepts inputs t u counts =
+-- accepted with a type; the counts, in the order of `Rule`
+abbrev pub acceptsOver : ℕ → Tables → Term → Term → Counts → Case
+acceptsOver type tables t u counts =
     record {
-      tables = tablesWith inputs;
+      tables = tables;
       words = encode t;
       budget = 1000000;
       buffers = roomy;
       refusal = 0;
-      type = 0;
+      type = type;
       counts = counts;
       result = encode u;
     }
+
+abbrev pub accepts : List ℕ → Term → Term → Counts → Case
+accepts inputs t u counts = acceptsOver 0 (tablesWith inputs) t u counts
 
 abbrev pub limited : ℕ → BufferLengths → Term → ℕ → Counts → List ℕ → Case
 limited budget buffers t refusal counts result =

@@ -6,9 +6,9 @@ use Rattle.syntax.specs.Words.{pack}
 use Rattle.syntax.specs.Tables.{Tables, over}
 use Rattle.syntax.specs.Term.{Term, lam, app, bind, inl, inr, case, unit}
 use Rattle.syntax.specs.Encoding.{encode}
-use Rattle.reduction.specs.Reduction.{Counts, zeroCounts}
+use Rattle.reduction.specs.Reduction.{zeroCounts}
 use Rattle.semantics.specs.Value.{num, right, trivial}
-use Rattle.cases.specs.Table.{Case, roomy, c, d, v0, v1, refuses}
+use Rattle.cases.specs.Table.{Case, c, d, v0, v1, acceptsOver as accepts, refuses}
 use Rattle.cases.specs.Further.{Question, asks}
 use Rattle.cases.specs.Reading.{Reading, none, first}
 use Rattle.cases.specs.Runs.{Trial, trial, made, counting}
@@ -24,19 +24,6 @@ withUnit inputs = over types (0 ∷ (2 ^ 60 + 2 ^ 30) ∷ []) inputs
 -- these types behind a base type, and an input of the base type
 abbrev typing : List ℕ → Tables
 typing more = over (pack 0 0 0 ∷ more) [] (0 ∷ [])
-
-abbrev accepts : ℕ → Tables → Term → Term → Counts → Case
-accepts type tables t u counts =
-    record {
-      tables = tables;
-      words = encode t;
-      budget = 1000000;
-      buffers = roomy;
-      refusal = 0;
-      type = type;
-      counts = counts;
-      result = encode u;
-    }
 
 abbrev u : Term
 u = unit 1

@@ -1,5 +1,5 @@
-pub mod MayDrop
 pub mod FirstRedex
+pub mod MayDrop
 pub mod Structure
 pub mod Disjoint
 pub mod Unique
