@@ -41,22 +41,14 @@ fn replace_units(term: &mut Term, number: u32) {
 /// Both reduce alike, within any limits; answers whether there are units in the normal form.
 fn check_as_input(sample: &Sample, limits: Limits) -> Option<bool> {
     let base = with_an_input_for_units(sample)?;
-    let Sample {
-        types,
-        calls,
-        inputs,
-        term,
-    } = &base;
     let mut expected = limits.lengths.map(|length| vec![7; length]);
-    let lent = expected.each_mut().map(|buffer| &mut buffer[..]);
-    let answer = Dialect::Base.normalize(types, calls, inputs, term, limits.budget, lent);
+    let answer = base.normalize_in(Dialect::Base, limits.budget, &mut expected);
     let mut found = limits.lengths.map(|length| vec![7; length]);
     assert_eq!(
         sample.normalize(normalize, limits.budget, &mut found),
         answer
     );
-    let normal = Dialect::Base.is_normal(types, calls, inputs, term);
-    assert_eq!(sample.is_normal(), normal);
+    assert_eq!(sample.is_normal(), base.is_normal_in(Dialect::Base));
     if answer.refusal != 0 {
         return None;
     }

@@ -66,37 +66,27 @@ fn number(text: &str) -> u32 {
     text.parse().expect("a refusal number")
 }
 
-/// The tables and the term of a record, unless it is a damaged bundle.
-fn sample_of(record: &Record) -> Option<Sample> {
-    match record {
-        Record::Respond(bundle) => Sample::from_bundle(bundle).ok(),
-        Record::Check(sample)
-        | Record::IsNormal(sample)
-        | Record::Normalize(sample, _)
-        | Record::FreeInputs(sample) => Some(sample.clone()),
-    }
-}
-
-#[test]
-fn every_refusal_of_units_is_covered() {
+/// The calls and refusals of the answers to the records whose sample is wanted.
+fn seen(wanted: impl Fn(&Sample) -> bool) -> BTreeSet<(String, u32)> {
     let mut seen = BTreeSet::new();
     for record in records() {
-        let Some(sample) = sample_of(&record) else {
-            continue;
-        };
-        if !sample.types.contains(&pack_type(UNIT_TYPE, 0, 0)) {
-            continue;
+        if record.sample().is_some_and(|sample| wanted(&sample)) {
+            let line = String::from_utf8(answer(&record)).expect("answers are text");
+            let fields: Vec<&str> = line.split_whitespace().collect();
+            seen.insert(match fields[0] {
+                "ok" => (String::from("respond"), 0),
+                "no" => (String::from("respond"), number(fields[1])),
+                call => (call.to_owned(), number(fields[1])),
+            });
         }
-        let line = String::from_utf8(answer(&record)).expect("answers are text");
-        let fields: Vec<&str> = line.split_whitespace().collect();
-        match fields[0] {
-            "ok" => seen.insert((String::from("respond"), 0)),
-            "no" => seen.insert((String::from("respond"), number(fields[1]))),
-            call => seen.insert((call.to_owned(), number(fields[1]))),
-        };
     }
+    seen
+}
+
+/// Asserts that each call has each of these refusals, and normalize 10 and 11 too.
+fn assert_covered(seen: &BTreeSet<(String, u32)>, refusals: &[u32]) {
     for call in ["respond", "check", "normal", "normalize", "inputs"] {
-        for refusal in [0, 2, 3, 6, 7, 9] {
+        for &refusal in refusals {
             assert!(
                 seen.contains(&(call.to_owned(), refusal)),
                 "{call} {refusal}"
@@ -106,6 +96,18 @@ fn every_refusal_of_units_is_covered() {
     for refusal in [10, 11] {
         assert!(seen.contains(&(String::from("normalize"), refusal)));
     }
+}
+
+#[test]
+fn every_refusal_of_units_is_covered() {
+    let seen = seen(|sample| sample.types.contains(&pack_type(UNIT_TYPE, 0, 0)));
+    assert_covered(&seen, &[0, 2, 3, 6, 7, 9]);
+}
+
+#[test]
+fn every_refusal_beside_acting_calls_is_covered() {
+    let seen = seen(Sample::has_acting_call);
+    assert_covered(&seen, &[0, 1, 2, 3, 4, 5, 6, 7, 8, 9]);
 }
 
 #[test]

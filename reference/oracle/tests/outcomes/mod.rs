@@ -20,20 +20,13 @@ pub struct Outcome {
 }
 
 pub fn outcome(dialect: Dialect, sample: &Sample, limits: Limits) -> Outcome {
-    let Sample {
-        types,
-        calls,
-        inputs,
-        term,
-    } = sample;
     let mut buffers = limits.lengths.map(|length| vec![9; length]);
-    let lent = buffers.each_mut().map(|buffer| &mut buffer[..]);
     Outcome {
-        checked: dialect.check(types, calls, inputs, term),
-        normal: dialect.is_normal(types, calls, inputs, term),
-        normalized: dialect.normalize(types, calls, inputs, term, limits.budget, lent),
+        checked: sample.check_in(dialect),
+        normal: sample.is_normal_in(dialect),
+        normalized: sample.normalize_in(dialect, limits.budget, &mut buffers),
         buffers,
-        read: dialect.free_inputs(types, calls, inputs, term),
+        read: sample.free_inputs_in(dialect),
         response: dialect.respond(&sample.bundle()),
     }
 }

@@ -7,38 +7,54 @@
 use super::records::Record;
 use crate::generate::limits::Limits;
 use crate::generate::Sample;
-use oracle::api::{normalize, Normalize};
-use oracle::free_inputs::{free_inputs, FindFreeInputs};
-use oracle::listing::respond;
+use oracle::api::{Answer, Normalize};
+use oracle::dialect::Dialect;
+use oracle::free_inputs::{FindFreeInputs, FreeInputs};
 
 /// The bytes written for a record.
 pub fn answer(record: &Record) -> Vec<u8> {
-    match record {
-        Record::Respond(bundle) => respond(bundle),
+    answer_in(Dialect::CURRENT, record)
+}
+
+/// The same in any dialect.
+pub fn answer_in(dialect: Dialect, record: &Record) -> Vec<u8> {
+    let line = match record {
+        Record::Respond(bundle) => return dialect.respond(bundle),
         Record::Check(sample) => {
-            let answer = sample.check();
-            format!("check {} {}\n", answer.refusal, answer.type_number).into_bytes()
+            let answer = sample.check_in(dialect);
+            format!("check {} {}\n", answer.refusal, answer.type_number)
         }
         Record::IsNormal(sample) => {
-            let answer = sample.is_normal();
-            format!("normal {} {}\n", answer.refusal, u8::from(answer.normal)).into_bytes()
+            let answer = sample.is_normal_in(dialect);
+            format!("normal {} {}\n", answer.refusal, u8::from(answer.normal))
         }
-        Record::Normalize(sample, limits) => {
-            normalize_line(normalize, sample, *limits).into_bytes()
-        }
-        Record::FreeInputs(sample) => free_inputs_line(free_inputs, sample).into_bytes(),
-    }
+        Record::Normalize(sample, limits) => line_of_normalize(*limits, |buffers| {
+            sample.normalize_in(dialect, limits.budget, buffers)
+        }),
+        Record::FreeInputs(sample) => line_of_free_inputs(sample.free_inputs_in(dialect)),
+    };
+    line.into_bytes()
 }
 
 /// The line for call 3, by any implementation of it.
 pub fn normalize_line(normalize: Normalize, sample: &Sample, limits: Limits) -> String {
+    line_of_normalize(limits, |buffers| {
+        sample.normalize(normalize, limits.budget, buffers)
+    })
+}
+
+/// The line for call 3 and what it leaves in the buffers.
+fn line_of_normalize(
+    limits: Limits,
+    normalize: impl FnOnce(&mut [Vec<u64>; 3]) -> Answer,
+) -> String {
     let [output, first, second] = limits.lengths;
     let mut buffers = [
         filled(output, 1_000_003, 7),
         filled(first, 31, 1),
         filled(second, 17, 5),
     ];
-    let answer = sample.normalize(normalize, limits.budget, &mut buffers);
+    let answer = normalize(&mut buffers);
     let counts: String = answer.counts.iter().map(|n| format!("{n} ")).collect();
     format!(
         "normalize {} {} {} {counts}{:016x}\n",
@@ -51,7 +67,10 @@ pub fn normalize_line(normalize: Normalize, sample: &Sample, limits: Limits) -> 
 
 /// The line for call 4, by any implementation of it.
 pub fn free_inputs_line(free_inputs: FindFreeInputs, sample: &Sample) -> String {
-    let answer = sample.free_inputs(free_inputs);
+    line_of_free_inputs(sample.free_inputs(free_inputs))
+}
+
+fn line_of_free_inputs(answer: FreeInputs) -> String {
     let [first, second, third, fourth] = answer.marks;
     format!(
         "inputs {} {} {first:016x} {second:016x} {third:016x} {fourth:016x}\n",

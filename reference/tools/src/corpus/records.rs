@@ -28,6 +28,17 @@ const NO_LIMITS: Limits = Limits {
 };
 
 impl Record {
+    /// The tables and the term, unless it is a bundle that cannot be read.
+    pub fn sample(&self) -> Option<Sample> {
+        match self {
+            Record::Respond(bundle) => Sample::from_bundle(bundle).ok(),
+            Record::Check(sample)
+            | Record::IsNormal(sample)
+            | Record::Normalize(sample, _)
+            | Record::FreeInputs(sample) => Some(sample.clone()),
+        }
+    }
+
     /// Writes the record to the end of `bytes`.
     pub fn write(&self, bytes: &mut Vec<u8>) {
         match self {

@@ -2,6 +2,7 @@
 
 use super::Sample;
 use oracle::api::{self, Answer, CheckAnswer, NormalAnswer, Normalize};
+use oracle::dialect::Dialect;
 use oracle::free_inputs::{FindFreeInputs, FreeInputs};
 
 impl Sample {
@@ -36,5 +37,31 @@ impl Sample {
             first,
             second,
         )
+    }
+}
+
+/// The same calls in any dialect.
+impl Sample {
+    pub fn check_in(&self, dialect: Dialect) -> CheckAnswer {
+        dialect.check(&self.types, &self.calls, &self.inputs, &self.term)
+    }
+
+    pub fn is_normal_in(&self, dialect: Dialect) -> NormalAnswer {
+        dialect.is_normal(&self.types, &self.calls, &self.inputs, &self.term)
+    }
+
+    pub fn free_inputs_in(&self, dialect: Dialect) -> FreeInputs {
+        dialect.free_inputs(&self.types, &self.calls, &self.inputs, &self.term)
+    }
+
+    pub fn normalize_in(
+        &self,
+        dialect: Dialect,
+        budget: u32,
+        buffers: &mut [Vec<u64>; 3],
+    ) -> Answer {
+        let lent = buffers.each_mut().map(|buffer| &mut buffer[..]);
+        let (calls, inputs) = (&self.calls, &self.inputs);
+        dialect.normalize(&self.types, calls, inputs, &self.term, budget, lent)
     }
 }

@@ -38,7 +38,7 @@ impl Contents {
     }
 
     /// The sample's normal form, and the terms one and two steps before it.
-    fn end_of_walk(&mut self, sample: &Sample) {
+    pub fn end_of_walk(&mut self, sample: &Sample) {
         let checked = sample.examine().ok();
         let walk =
             checked.and_then(|checked| sequence(&checked.tables, &checked.term, MOST_WORDS_LISTED));

@@ -1,6 +1,7 @@
 //! The records of the corpus: accepted and refused samples of every kind for every call.
 
 mod accepted;
+mod acting;
 mod boundaries;
 mod free_inputs;
 mod limits;
@@ -35,6 +36,8 @@ pub fn records() -> Vec<Record> {
         contents.free_inputs();
         contents.random = Random::new(2028);
         contents.units();
+        contents.random = Random::new(2029);
+        contents.acting();
         contents.records
     })
 }
@@ -51,6 +54,12 @@ impl Contents {
         self.check(sample);
         self.is_normal(sample);
         self.normalize(sample, limits);
+    }
+
+    /// A record for each of the calls 0 to 4.
+    fn five_calls(&mut self, sample: &Sample, limits: Limits) {
+        self.all_calls(sample, limits);
+        self.free_inputs_of(sample);
     }
 
     fn respond(&mut self, bundle: Vec<u8>) {
@@ -75,6 +84,32 @@ impl Contents {
             ..limits
         };
         self.records.push(Record::Normalize(sample.clone(), limits));
+    }
+
+    /// One of the calls that do not normalize, by turns.
+    fn another_call(&mut self, turn: usize, sample: &Sample) {
+        match turn % 3 {
+            0 => self.check(sample),
+            1 => self.is_normal(sample),
+            _ => self.free_inputs_of(sample),
+        }
+    }
+
+    /// Buffers of the length that the walk needs, one word shorter, or longer, or one step less, by
+    /// turns.
+    fn near_what_is_needed(&mut self, turn: usize, sample: &Sample) {
+        let Some(needs) = needs(sample, MOST_STEPS) else {
+            return;
+        };
+        let Needs { steps, capacity } = needs;
+        let (steps, capacity) = match turn % 4 {
+            0 => (steps, capacity),
+            1 => (steps, capacity - 1),
+            2 => (steps, capacity + 40),
+            _ => (steps.saturating_sub(1), capacity),
+        };
+        let limits = Limits::with_capacity(&mut self.random, steps, capacity);
+        self.normalize(sample, limits);
     }
 
     /// A well-typed sample whose walk is not long, and what it needs.

@@ -1,9 +1,9 @@
 //! Samples with units: accepted ones, buffers that just suffice and that do not, each refusal, and
 //! terms at their limits.
 
-use super::{Contents, LONGEST_BUFFER, MOST_STEPS};
+use super::{Contents, LONGEST_BUFFER};
 use crate::generate::examples::plate;
-use crate::generate::limits::{needs, Limits, Needs};
+use crate::generate::limits::Limits;
 use crate::generate::terms::random_sample;
 use crate::generate::unit_damage::{broken_unit_samples, UNIT_DAMAGES};
 use crate::generate::unit_shapes::*;
@@ -32,37 +32,6 @@ impl Contents {
         }
         self.refused_units();
         self.units_at_their_limits();
-    }
-
-    fn five_calls(&mut self, sample: &Sample, limits: Limits) {
-        self.all_calls(sample, limits);
-        self.free_inputs_of(sample);
-    }
-
-    /// One of the calls that do not normalize, by turns.
-    fn another_call(&mut self, turn: usize, sample: &Sample) {
-        match turn % 3 {
-            0 => self.check(sample),
-            1 => self.is_normal(sample),
-            _ => self.free_inputs_of(sample),
-        }
-    }
-
-    /// Buffers of the length that the walk needs, one word shorter, or longer, or one step less, by
-    /// turns.
-    fn near_what_is_needed(&mut self, turn: usize, sample: &Sample) {
-        let Some(needs) = needs(sample, MOST_STEPS) else {
-            return;
-        };
-        let Needs { steps, capacity } = needs;
-        let (steps, capacity) = match turn % 4 {
-            0 => (steps, capacity),
-            1 => (steps, capacity - 1),
-            2 => (steps, capacity + 40),
-            _ => (steps.saturating_sub(1), capacity),
-        };
-        let limits = Limits::with_capacity(&mut self.random, steps, capacity);
-        self.normalize(sample, limits);
     }
 
     /// A random term with units, of 10 to 30 words.
