@@ -56,6 +56,7 @@ impl<'a> Usage<'a> {
     }
 
     fn count(&mut self, term: &[u64]) {
+        let calls = self.calls;
         self.uses.clear();
         self.uses.resize(term.len(), 0);
         self.binders.resize(term.len(), 0);
@@ -81,7 +82,7 @@ impl<'a> Usage<'a> {
                     }
                 }
                 CALL => {
-                    for _ in 0..number_of_arguments(self.calls[number(word)]) {
+                    for _ in 0..number_of_arguments(calls[number(word)]) {
                         self.pending.push(scope);
                     }
                 }

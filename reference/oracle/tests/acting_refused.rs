@@ -150,6 +150,25 @@ fn damages_of_samples_with_acting_calls() {
 }
 
 #[test]
+fn a_field_past_the_arguments_may_not_name_a_known_type_either() {
+    let mut known = 0;
+    let past = ACTING_DAMAGES
+        .iter()
+        .filter(|damage| damage.name.contains(" past "));
+    for damage in past {
+        each_acting_sample(105, 200, 30, |random, mut sample| {
+            (damage.apply)(random, &mut sample);
+            assert_eq!(refusal(&sample), 4, "{}", damage.name);
+            let types = sample.types.len() as u64;
+            let mut fields = sample.calls.iter().map(|&word| unpack_call(word).2);
+            known += usize::from(fields.all(|fields| fields.iter().all(|&field| field < types)));
+        });
+    }
+    // A reader that took all three fields for arguments would not refuse these.
+    assert!(known > 200, "{known} with known types");
+}
+
+#[test]
 fn flipped_bits() {
     let mut refusals = [0; 10];
     each_acting_sample(104, 10_000, 40, |random, mut sample| {

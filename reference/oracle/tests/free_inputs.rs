@@ -7,7 +7,7 @@ use oracle::substitution::{occurrences, raise};
 use oracle::term::Term;
 use std::collections::BTreeSet;
 use tools::generate::boundaries::with_inputs;
-use tools::generate::each::{each_random_sample, each_sample_of_inputs};
+use tools::generate::each::{each_acting_sample, each_random_sample, each_sample_of_inputs};
 use tools::generate::examples::examples;
 use tools::generate::inputs::*;
 use tools::generate::long_readings::longest_readings;
@@ -33,8 +33,9 @@ fn named(sample: &Sample) -> BTreeSet<u64> {
         let depth = depths.pop().expect("a part to come");
         let number = word >> 30 & 0x3fff_ffff;
         let binders_from_the_last_part: &[u64] = match word >> 60 {
-            0 => &[],
-            1 => &[0; 3][..(sample.calls[number as usize] >> 60) as usize],
+            0 | 11 => &[],
+            // Eight more in the count say that the call acts.
+            1 => &[0; 3][..(sample.calls[number as usize] >> 60 & 7) as usize],
             2 => &[1],
             4 => &[1, 0],
             3 | 5 => &[0, 0],
@@ -172,6 +173,10 @@ fn the_marks_are_the_inputs_that_variables_name() {
 #[test]
 fn samples_of_few_inputs() {
     each_random_sample(43, 3000, 150, |_, sample| {
+        check_marks(&sample);
+    });
+    // By turns with units and with calls that act.
+    each_acting_sample(44, 3000, 150, |_, sample| {
         check_marks(&sample);
     });
 }

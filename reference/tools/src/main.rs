@@ -34,7 +34,8 @@ const USAGE: &str = "usage: reference SUBCOMMAND
   bundles SEED COUNT  lines of small bundles with their listings
   runs SEED COUNT     lines of small terms with a run of each
   inputs SEED COUNT   lines of short terms over up to 256 inputs, with those they read
-                      (the last fifth of all these lines has the unit type in its tables)
+                      (the last fifth of all these lines has the unit type in its tables, and
+                      the fifth before it has calls that act)
   definitions REPOSITORY DIR SEED COUNT
                       the definitions of REPOSITORY/crates checked against such lines by rt, in a
                       repository written into DIR: COUNT cases, a fifth as many bundles, a quarter

@@ -142,43 +142,75 @@ fn inputs_are_few_and_many() {
     assert!(marks > 1000, "{marks} marks");
 }
 
+/// The tables of a line of any subcommand, unless it is a bundle that cannot be read.
+fn sample_of(subcommand: &str, line: &str) -> Option<Sample> {
+    let fields: Vec<&str> = line.split(';').collect();
+    if subcommand == "bundles" {
+        return Sample::from_bundle(&hexadecimal_bytes(fields[0])).ok();
+    }
+    let words = |field: &str| {
+        let words = field.split_whitespace().map(|word| word.parse());
+        words.map(|word| word.expect("a word")).collect()
+    };
+    Some(Sample {
+        types: words(fields[0]),
+        calls: words(fields[1]),
+        inputs: words(fields[2]),
+        term: words(fields[3]),
+    })
+}
+
+/// How many of the samples are wanted: among the first three fifths, the next and the last.
+fn shares(subcommand: &str, wanted: fn(&Sample) -> bool) -> [usize; 3] {
+    let lines = lines(&[subcommand, "1", "500"]);
+    [&lines[..300], &lines[300..400], &lines[400..]].map(|lines| {
+        let samples = lines.iter().filter_map(|line| sample_of(subcommand, line));
+        samples.filter(wanted).count()
+    })
+}
+
+fn has_unit_type(sample: &Sample) -> bool {
+    sample.types.contains(&pack_type(UNIT_TYPE, 0, 0))
+}
+
 #[test]
 fn the_last_lines_have_units() {
-    for subcommand in ["cases", "runs", "inputs"] {
-        let lines = lines(&[subcommand, "1", "500"]);
-        let words_of_kind = |line: &str, table: usize, kind: u64| {
-            let words = line.split(';').nth(table).expect("a table");
-            let mut words = words.split_whitespace();
-            words.any(|word| word.parse::<u64>().expect("a word") >> 60 == kind)
-        };
-        let (others, last) = lines.split_at(400);
-        let with_types = last.iter().filter(|line| words_of_kind(line, 0, 4)).count();
-        let with_units = last
-            .iter()
-            .filter(|line| words_of_kind(line, 3, 11))
-            .count();
-        assert!(with_types > 70, "{subcommand}: {with_types}");
-        assert!(with_units > 25, "{subcommand}: {with_units}");
+    for (subcommand, most_before, least) in [
+        ("cases", 10, 70),
+        ("runs", 0, 100),
+        ("inputs", 10, 80),
+        ("bundles", 10, 50),
+    ] {
+        let [plain, acting, last] = shares(subcommand, has_unit_type);
+        assert!(
+            plain + acting <= most_before && last >= least,
+            "{subcommand}"
+        );
         // The old lines keep the faults that unit words were.
-        let with_units = others
-            .iter()
-            .filter(|line| words_of_kind(line, 3, 11))
-            .count();
-        assert!(with_units < 20, "{subcommand}: {with_units}");
+        let [plain, acting, last] = shares(subcommand, Sample::has_unit);
+        assert!(plain + acting < 20 && last > 20, "{subcommand}: {last}");
     }
 }
 
 #[test]
-fn the_last_bundles_have_units() {
-    let has_unit_type = |line: &&String| {
-        let (bundle, _) = line.split_once(';').expect("two fields");
-        let sample = Sample::from_bundle(&hexadecimal_bytes(bundle));
-        sample.is_ok_and(|sample| sample.types.contains(&pack_type(UNIT_TYPE, 0, 0)))
-    };
-    let lines = lines(&["bundles", "1", "500"]);
-    let (others, last) = lines.split_at(400);
-    let counts = [others, last].map(|lines| lines.iter().filter(has_unit_type).count());
-    assert!(counts[0] < 10 && counts[1] > 50, "{counts:?}");
+fn the_lines_before_them_have_acting_calls() {
+    for (subcommand, most_before, least) in [
+        ("cases", 10, 75),
+        ("runs", 0, 100),
+        ("inputs", 10, 80),
+        ("bundles", 10, 50),
+    ] {
+        // The old lines keep the faults that the counts of acting calls were.
+        let [plain, acting, last] = shares(subcommand, Sample::has_acting_call);
+        assert!(
+            plain <= most_before && acting >= least,
+            "{subcommand}: {acting}"
+        );
+        assert!((15..=30).contains(&last), "{subcommand}: {last}");
+        let both = |sample: &Sample| sample.has_acting_call() && has_unit_type(sample);
+        let [plain, acting, last] = shares(subcommand, both);
+        assert!(plain + acting < 5 && last > 10, "{subcommand}: {last}");
+    }
 }
 
 #[test]

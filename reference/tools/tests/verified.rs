@@ -4,13 +4,16 @@ use oracle::deep_stack::with_deep_stack;
 use tools::corpus::answers::{answer, free_inputs_line};
 use tools::corpus::contents::records;
 use tools::corpus::records::Record;
+use tools::generate::acting::small_acting;
+use tools::generate::acting_shapes::{acting_shapes_of, moderate_acting_shapes};
 use tools::generate::damage::flip_a_bit;
-use tools::generate::each::each_unit_sample;
+use tools::generate::each::{each_acting_sample, each_unit_sample};
 use tools::generate::long_readings::longest_readings;
 use tools::generate::shapes::{largest_shapes, typical};
 use tools::generate::unit_shapes::{copied_units, unit_shapes_of};
 use tools::generate::units::small_units;
 use tools::generate::Sample;
+use tools::random::Random;
 
 use tools::verified::{FREE_INPUTS, RESPOND};
 
@@ -67,35 +70,49 @@ fn it_finds_the_free_inputs_of_long_terms() {
     });
 }
 
-#[test]
-fn it_answers_terms_with_units() {
-    let (Some(respond), Some(free_inputs)) = (RESPOND, FREE_INPUTS) else {
-        return;
-    };
-    let reads_alike = |sample: &Sample, name: &str| {
+/// Asserts that the library, if it was linked, agrees with the implementation on words. No bundle
+/// holds a term of 8,192 words: such a one is only read.
+fn agrees(sample: &Sample, name: &str) {
+    if let Some(free_inputs) = FREE_INPUTS {
         let expected = sample.free_inputs(baseline::free_inputs);
         assert_eq!(sample.free_inputs(free_inputs), expected, "{name}");
-    };
-    let agrees = |sample: &Sample, name: &str| {
+    }
+    if let (Some(respond), ..8192) = (RESPOND, sample.term.len()) {
         let bundle = sample.bundle();
         assert_eq!(respond(&bundle), baseline::respond(&bundle), "{name}");
-        reads_alike(sample, name);
-    };
-    each_unit_sample(32, 2000, 60, |random, mut sample| {
-        agrees(&sample, "random");
-        flip_a_bit(random, &mut sample);
-        agrees(&sample, "a flipped bit");
-    });
+    }
+}
+
+fn agrees_with_a_flipped_bit(random: &mut Random, mut sample: Sample) {
+    agrees(&sample, "random");
+    flip_a_bit(random, &mut sample);
+    agrees(&sample, "a flipped bit");
+}
+
+#[test]
+fn it_answers_terms_with_units() {
+    each_unit_sample(32, 2000, 60, agrees_with_a_flipped_bit);
     with_deep_stack(|| {
-        for shape in small_units().into_iter().chain(unit_shapes_of(4096)) {
+        let largest = unit_shapes_of(4096).into_iter().chain(unit_shapes_of(8192));
+        for shape in small_units().into_iter().chain(largest) {
             agrees(&shape.sample, shape.name);
-        }
-        // No bundle holds a term of 8,192 words.
-        for shape in unit_shapes_of(8192) {
-            reads_alike(&shape.sample, shape.name);
         }
         for injections in 0..3 {
             agrees(&copied_units(6, injections), "copies");
+        }
+    });
+}
+
+#[test]
+fn it_answers_terms_with_acting_calls() {
+    each_acting_sample(33, 2000, 60, agrees_with_a_flipped_bit);
+    with_deep_stack(|| {
+        let small = small_acting().into_iter().chain(moderate_acting_shapes());
+        let largest = acting_shapes_of(4096)
+            .into_iter()
+            .chain(acting_shapes_of(8192));
+        for shape in small.chain(largest) {
+            agrees(&shape.sample, shape.name);
         }
     });
 }

@@ -1,5 +1,6 @@
 //! What is timed: the named shapes one by one, and typical terms all together.
 
+use crate::generate::acting_shapes::largest_acting_shapes;
 use crate::generate::limits::Limits;
 use crate::generate::shapes::{doubling, largest_shapes, typical};
 use crate::generate::Sample;
@@ -59,7 +60,7 @@ pub fn all() -> Vec<Workload> {
         let name = format!("doubling, {levels} levels");
         workloads.push(workload(name, vec![doubling(levels)]));
     }
-    for shape in largest_shapes() {
+    for shape in largest_shapes().into_iter().chain(largest_acting_shapes()) {
         workloads.push(workload(shape.name.to_owned(), vec![shape.sample]));
     }
     workloads

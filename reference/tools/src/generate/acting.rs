@@ -6,8 +6,8 @@ use super::shapes::{self, shape, Shape, B, B_AND_B, B_OR_B, B_TO_B, C, D};
 use super::Sample;
 use oracle::words::*;
 
-// The calls beside c and d: those that act, of none, one, two and three arguments, one of them that
-// gives a choice, and one that does not act and takes a function.
+// The calls beside c and d. Five act: of none, one, two and three arguments, and one that gives a
+// choice. The last does not act, and takes a function.
 pub const BEGIN: u64 = 2;
 pub const STAMP: u64 = 3;
 pub const STORE: u64 = 4;

@@ -14,6 +14,15 @@ fn insert_call(random: &mut Random, sample: &mut Sample, arguments: usize, types
     random.insert(&mut sample.calls, word);
 }
 
+/// What a field is set to that should be zero: half the time a type that is known, if there is one.
+fn past_the_arguments(random: &mut Random, sample: &Sample) -> u64 {
+    let last = sample.types.len() - 1;
+    if last > 0 && random.chance(50) {
+        return random.between(1, last) as u64;
+    }
+    1 << random.below(15)
+}
+
 pub const ACTING_DAMAGES: &[Damage] = &[
     damage(4, "a count from 4 to 7", |random, sample| {
         let word = pack_call(random.between(4, 7) as u64, 0, [0; 3]);
@@ -24,20 +33,20 @@ pub const ACTING_DAMAGES: &[Damage] = &[
         random.insert(&mut sample.calls, word);
     }),
     damage(4, "a field just past no argument", |random, sample| {
-        let field = 1 << random.below(15);
+        let field = past_the_arguments(random, sample);
         insert_call(random, sample, 0, [field, 0, 0]);
     }),
     damage(4, "a field just past one argument", |random, sample| {
-        let field = 1 << random.below(15);
+        let field = past_the_arguments(random, sample);
         insert_call(random, sample, 1, [0, field, 0]);
     }),
     damage(4, "a field just past two arguments", |random, sample| {
-        let field = 1 << random.below(15);
+        let field = past_the_arguments(random, sample);
         insert_call(random, sample, 2, [0, 0, field]);
     }),
     damage(4, "a field further past the arguments", |random, sample| {
         let arguments = random.below(2);
-        let field = 1 << random.below(15);
+        let field = past_the_arguments(random, sample);
         insert_call(random, sample, arguments, [0, 0, field]);
     }),
     damage(4, "an acting call's unknown argument", |random, sample| {

@@ -120,3 +120,11 @@ pub fn acting_shapes_of(words: usize) -> Vec<Shape> {
         shape("helpers that act", acting_helpers((words - 2) / 6)),
     ]
 }
+
+/// Shapes at full size, for measuring.
+pub fn largest_acting_shapes() -> Vec<Shape> {
+    vec![
+        shape("2,047 lets of acting calls, which stay", acting_lets(2047)),
+        shape("2,046 lets, every second dropped", mixed_lets(1023)),
+    ]
+}

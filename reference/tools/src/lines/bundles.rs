@@ -5,6 +5,7 @@
 //! as a bundle (12).
 
 use super::cases::{damaged_sample, small_sample};
+use super::Additions;
 use crate::generate::bundles::{BundleDamage, BUNDLE_DAMAGES};
 use crate::generate::Sample;
 use crate::random::Random;
@@ -13,12 +14,12 @@ use oracle::listing::respond;
 const MOST_WORDS: usize = 30;
 
 /// The line of one random bundle.
-pub fn bundle_line(random: &mut Random, units: bool) -> String {
+pub fn bundle_line(random: &mut Random, additions: Additions) -> String {
     let bytes = match random.below(3) {
-        0 => short(random, units, small_sample).bundle(),
-        1 => short(random, units, damaged_sample).bundle(),
+        0 => short(random, additions, small_sample).bundle(),
+        1 => short(random, additions, damaged_sample).bundle(),
         _ => {
-            let mut bytes = short(random, units, small_sample).bundle();
+            let mut bytes = short(random, additions, small_sample).bundle();
             let small: Vec<&BundleDamage> = BUNDLE_DAMAGES.iter().filter(|d| d.is_small).collect();
             (random.pick(&small).apply)(random, &mut bytes);
             bytes
@@ -27,10 +28,12 @@ pub fn bundle_line(random: &mut Random, units: bool) -> String {
     format!("{};{}", hexadecimal(&bytes), hexadecimal(&respond(&bytes)))
 }
 
+type Generate = fn(&mut Random, Additions) -> Sample;
+
 /// A sample of at most 30 words.
-fn short(random: &mut Random, units: bool, generate: fn(&mut Random, bool) -> Sample) -> Sample {
+fn short(random: &mut Random, additions: Additions, generate: Generate) -> Sample {
     loop {
-        let sample = generate(random, units);
+        let sample = generate(random, additions);
         if sample.words() <= MOST_WORDS {
             return sample;
         }

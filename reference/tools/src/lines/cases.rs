@@ -13,7 +13,8 @@
 //! The output and the scratch buffers are as long as the line says; on acceptance the normal form
 //! fills the output's front.
 
-use super::{spaced, LONGEST_TERM};
+use super::{spaced, Additions, LONGEST_TERM};
+use crate::generate::acting_damage::ACTING_DAMAGES;
 use crate::generate::damage::{apply_damages, Damage, DAMAGES};
 use crate::generate::terms::random_sample;
 use crate::generate::unit_damage::UNIT_DAMAGES;
@@ -35,20 +36,20 @@ struct Limits {
 }
 
 /// The line of one random case.
-pub fn case_line(random: &mut Random, units: bool) -> String {
+pub fn case_line(random: &mut Random, additions: Additions) -> String {
     let (sample, limits) = match random.below(12) {
         0..4 => {
-            let sample = small_sample(random, units);
+            let sample = small_sample(random, additions);
             let limits = ample_limits(random);
             (sample, limits)
         }
         4..7 => {
-            let sample = small_sample(random, units);
+            let sample = small_sample(random, additions);
             let limits = tight_limits(random, &sample);
             (sample, limits)
         }
         _ => {
-            let sample = damaged_sample(random, units);
+            let sample = damaged_sample(random, additions);
             let limits = if random.chance(50) {
                 ample_limits(random)
             } else {
@@ -61,12 +62,12 @@ pub fn case_line(random: &mut Random, units: bool) -> String {
 }
 
 /// A well-typed small sample.
-pub fn small_sample(random: &mut Random, units: bool) -> Sample {
-    let small = Profile::SMALL;
-    sample_within(random, Profile { units, ..small })
+pub fn small_sample(random: &mut Random, additions: Additions) -> Sample {
+    sample_within(random, additions.to(Profile::SMALL))
 }
 
-/// A well-typed sample with a short term, in half of the cases with demand 3's premise.
+/// A well-typed sample with a short term, in half of the cases with demand 3's premise; if so asked,
+/// with a call that acts.
 fn sample_within(random: &mut Random, profile: Profile) -> Sample {
     loop {
         let profile = if random.chance(50) {
@@ -75,18 +76,18 @@ fn sample_within(random: &mut Random, profile: Profile) -> Sample {
             profile.first_order()
         };
         let sample = random_sample(random, &profile);
-        if sample.term.len() <= LONGEST_TERM {
+        let has_calls = !profile.acting || sample.has_acting_call();
+        if sample.term.len() <= LONGEST_TERM && has_calls {
             return sample;
         }
     }
 }
 
 /// A small sample with one fault, or two under different numbers.
-pub fn damaged_sample(random: &mut Random, units: bool) -> Sample {
-    let first = random_damage(random, units);
-    let second = random_damage(random, units);
-    let smaller = Profile::SMALLER;
-    let mut sample = sample_within(random, Profile { units, ..smaller });
+pub fn damaged_sample(random: &mut Random, additions: Additions) -> Sample {
+    let first = random_damage(random, additions);
+    let second = random_damage(random, additions);
+    let mut sample = sample_within(random, additions.to(Profile::SMALLER));
     if first.refusal != second.refusal && random.chance(25) {
         apply_damages(random, &mut sample, &[first, second]);
     } else {
@@ -95,10 +96,13 @@ pub fn damaged_sample(random: &mut Random, units: bool) -> Sample {
     sample
 }
 
-/// A fault of units, or one of the base dialect that leaves samples small; there all numbers are
-/// equally likely.
-fn random_damage(random: &mut Random, units: bool) -> &'static Damage {
-    if units {
+/// A fault of acting calls or of units, or one of the base dialect that leaves samples small; there
+/// all numbers are equally likely.
+fn random_damage(random: &mut Random, additions: Additions) -> &'static Damage {
+    if additions.acting {
+        return random.pick(ACTING_DAMAGES);
+    }
+    if additions.units {
         return random.pick(UNIT_DAMAGES);
     }
     let refusal = random.between(1, 9) as u32;

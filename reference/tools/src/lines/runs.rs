@@ -12,7 +12,7 @@
 //! a product the pair of the answers at both parts; at a sum, the left injection of the answer at the
 //! left part if N is even, else the right injection of the answer at the right part.
 
-use super::{spaced, LONGEST_TERM};
+use super::{spaced, Additions, LONGEST_TERM};
 use crate::generate::terms::random_sample;
 use crate::generate::values::{random_inputs, FixedAnswers};
 use crate::generate::Profile;
@@ -23,10 +23,10 @@ const FUEL: u64 = 1000;
 const LONGEST_TRACE: usize = 20;
 
 /// The line of one random run.
-pub fn run_line(random: &mut Random, units: bool) -> String {
-    let small = Profile::SMALL.first_order();
+pub fn run_line(random: &mut Random, additions: Additions) -> String {
+    let profile = additions.to(Profile::SMALL.first_order());
     loop {
-        let sample = random_sample(random, &Profile { units, ..small });
+        let sample = random_sample(random, &profile);
         let Ok(checked) = sample.examine() else {
             continue;
         };
@@ -38,6 +38,9 @@ pub fn run_line(random: &mut Random, units: bool) -> String {
             continue;
         };
         if sample.term.len() > LONGEST_TERM || run.trace.len() > LONGEST_TRACE {
+            continue;
+        }
+        if additions.acting && !sample.names_acting_call() {
             continue;
         }
         let trace: Vec<String> = run.trace.iter().map(call_text).collect();

@@ -22,6 +22,9 @@ impl Contents {
         for (turn, shape) in small_acting().iter().enumerate() {
             self.is_normal(&shape.sample);
             self.near_what_is_needed(turn, &shape.sample);
+            if turn % 4 == 1 {
+                self.respond(shape.sample.bundle());
+            }
         }
         for turn in 0..12 {
             let sample = self.acting_sample(turn);
@@ -80,7 +83,7 @@ impl Contents {
         }
     }
 
-    /// Terms as long and as deep as they may be, and tables as long as they may be.
+    /// Terms as long as they may be, deep ones, and a table in which only the last call acts.
     fn acting_calls_at_their_limits(&mut self) {
         let longest = acting_lets((LONGEST_TO_NORMALIZE - 2) / 2);
         let exactly = Limits {
@@ -89,15 +92,16 @@ impl Contents {
         };
         self.normalize(&longest, exactly);
         self.is_normal(&acting_lets((LONGEST_TO_EXAMINE - 2) / 2));
-        self.free_inputs_of(&acting_helpers((LONGEST_TO_EXAMINE - 2) / 6));
+        self.check(&nested_stamps(1000));
+        self.free_inputs_of(&acting_helpers(170));
         let deep = nested_stamps(80);
         for limits in near_needs(&mut self.random, &deep, MOST_STEPS) {
             self.normalize(&deep, limits);
         }
-        // The last of 1,024 calls acts: lets of applications stay, which go without it.
+        // Lets of applications stay because of the last of many calls, and go without it.
         let mut sample = dropped_applications(2);
+        sample.calls.resize(99, sample.calls[0]);
         self.is_normal(&sample);
-        sample.calls.resize(1023, sample.calls[0]);
         sample.calls.push(kept_applications(2).calls[2]);
         self.is_normal(&sample);
     }
