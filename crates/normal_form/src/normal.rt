@@ -99,7 +99,8 @@ fn keeps(calls: &[u64], acting: bool, k: u64, j: usize, bound: u64, uses: u64) -
         if 1 <= uses {
             return true;
         }
-        return !may_drop(calls, acting, bound);
+        let droppable = may_drop(calls, acting, bound);
+        return !droppable;
     }
     true
 }

@@ -15,7 +15,8 @@ pub fn may_drop(calls: &[u64], acting: bool, w: u64) -> bool
 {
     let k = kind(w);
     if k == 1 {
-        return !call_acts(calls, number(w));
+        let acts = call_acts(calls, number(w));
+        return !acts;
     }
     if k == 3 {
         return !acting;

@@ -1,6 +1,6 @@
--- A count over 3 or an unknown result type decides at once. Then the count says of each argument field whether it is used, and the fields
--- are tested in order (`left-0`, `left-1`, `left-2`): three tests by field are the two tests of the definition, on the fields up to the
--- count and past it (`by-fields`).
+-- More than 3 arguments or an unknown result type decide at once. Then the number of arguments says of each argument field whether it is
+-- used, and the fields are tested in order (`left-0`, `left-1`, `left-2`): three tests by field are the two tests of the definition, on the
+-- fields of the arguments and past them (`by-fields`).
 use mathlib.Core.Path.{_≡_, refl, sym, _∙_, ap}
 use mathlib.Core.Bool.{Bool, true, false, _&&_, not, and-assoc, and-true}
 use mathlib.Core.List.{List, [], _∷_}
@@ -119,7 +119,7 @@ second-test c = tested (known (first (at-second c))) 1 _ _ (c .before .argument2
 left-0 : (c : Known) → Left (types c) (word c) (test c 0 ∷ test c 1 ∷ test c 2 ∷ [])
 left-0 c =
     let r : tie.After-result = search in
-    fields-left (types c) (word c) _ (counted c .arguments .ensures .0) (r .before .if1 .left) _ (r .result .ensures) (c .if2 .left)
+    fields-left (types c) (word c) _ (counted c .arguments .ensures .0) (omega (arith, r .before .if1 .left)) _ (r .result .ensures) (c .if2 .left)
 
 left-1 : (c : tie.Else3) → let k = known (first c) in Left (types k) (word k) (test k 1 ∷ test k 2 ∷ [])
 left-1 c = passes (left-0 (known (first c))) (first-test (first c)) (c .if3 .left)
@@ -132,12 +132,12 @@ call-fits-spec =
     tie.close
     (tie.spec
     (λ c κs. search needs)
-    (λ c. let k : tie.After-arguments = search in many _ (k .before .args .w) _ (k .arguments .ensures .0) (c .if1 .taken))
+    (λ c. let k : tie.After-arguments = search in many _ (k .before .args .w) _ (k .arguments .ensures .0) (omega (arith, c .if1 .taken)))
     (λ c κs. search needs)
     (λ c.
     let k : tie.After-arguments = search in
     let r : tie.After-result = search in
-    unknown _ (k .before .args .w) _ (k .arguments .ensures .0) (r .before .if1 .left) _ (r .result .ensures) (c .if2 .taken))
+    unknown _ (k .before .args .w) _ (k .arguments .ensures .0) (omega (arith, r .before .if1 .left)) _ (r .result .ensures) (c .if2 .taken))
     (λ c κs. search needs)
     (λ c κs. search needs)
     (λ c. fails (left-0 (search)) (first-test (search)) (c .if3 .taken))

@@ -2,6 +2,7 @@
 use mathlib.Core.Path.{_≡_, sym, _∙_, ap}
 use mathlib.Core.Bool.{Bool, true, _||_, not}
 use Prim.Native.Nat.{ℕ, _≤_, _<_}
+use native.Mathlib.Omega.{arith}
 use lib.Dec.{leb}
 use borrow.Author.Tests.{eq-eqb, ne-eqb, le-leb, lt-leb}
 use Rattle.normal_form.specs.Roles.{keepsVariable}
@@ -31,9 +32,9 @@ keeps-spec =
     tie.close
     (tie.spec
     (λ c. bound-part _ _ _ _ (c .before .if1 .taken) (c .if2 .taken))
-    (λ c. used _ _ _ _ (c .before .before .if1 .taken) (c .before .if2 .left) (c .if3 .taken))
+    (λ c. used _ _ _ _ (c .before .before .if1 .taken) (c .before .if2 .left) (omega (arith, c .if3 .taken)))
     (λ c κs. let s : tie.Start = search in s .pre)
     (λ c.
     let n : tie.Else3 = search in
-    ap not (c .may-drop .ensures) ∙ unused _ _ _ _ (n .before .before .if1 .taken) (n .before .if2 .left) (n .if3 .left))
+    ap not (c .may-drop .ensures) ∙ unused _ _ _ _ (n .before .before .if1 .taken) (n .before .if2 .left) (omega (arith, n .if3 .left)))
     (λ c. other-node _ _ _ _ (c .if1 .left)))
