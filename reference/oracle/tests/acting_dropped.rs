@@ -129,6 +129,7 @@ fn acting_calls_stay_and_other_calls_go() {
             figures.count(&tables, bound, 1);
         }
     });
+    println!("{figures:?}");
     let Figures {
         plain_calls,
         acting_calls,

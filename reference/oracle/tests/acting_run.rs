@@ -82,6 +82,7 @@ fn each_acting_call_is_made_in_order() {
         let loses = acting_calls(&tables, &old_run.trace) != acting;
         figures.with_loss_by_the_old_drop += usize::from(loses);
     });
+    println!("{figures:?}");
     assert!(figures.compared > 4000, "{figures:?}");
     assert!(figures.with_acting_calls > 1500 && figures.with_several > 700);
     assert!(figures.with_other_calls > 500, "{figures:?}");
