@@ -22,7 +22,7 @@ FormerOutcomes tables words = OutcomesBy (mayDrop (tables .calls)) (λ limit. fo
 -- without units every outcome is the former one, refused or accepted
 pub outcomes-without-units : (tables : Tables) (words : List ℕ) → WithoutUnits tables words → FormerOutcomes tables words
 outcomes-without-units tables words h =
-    outcomes-by _ _ tables words refl (λ limit. same-without-units tables limit words (h .types) (h .nodes))
+    outcomes-by _ _ tables words (λ limit x e. refl) (λ limit. same-without-units tables limit words (h .types) (h .nodes))
 
 -- whatever was accepted has its former outcomes, by any call
 pub former-outcomes : (limit : ℕ) (tables : Tables) (words : List ℕ) (x : TypedTerm) → formerElaborate limit tables words ≡ accepted x
@@ -34,7 +34,7 @@ pub outcomes-unless-2-or-6 : (tables : Tables) (words : List ℕ)
     → ((limit : ℕ) → formerElaborate limit tables words ≢ refused 2) → ((limit : ℕ) → formerElaborate limit tables words ≢ refused 6)
     → FormerOutcomes tables words
 outcomes-unless-2-or-6 tables words x y =
-    outcomes-by _ _ tables words refl (λ limit. same-unless-2-or-6 limit tables words (x limit) (y limit))
+    outcomes-by _ _ tables words (λ limit x e. refl) (λ limit. same-unless-2-or-6 limit tables words (x limit) (y limit))
 
 -- what the program writes for a reading, by the former checks
 abbrev pub formerRespondTo : Reading → List ℕ

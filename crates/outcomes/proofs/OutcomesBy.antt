@@ -1,13 +1,13 @@
 -- The outcomes of the public calls as functions of two things: what may be dropped, and the verdict of the checks at each limit. Where these
 -- are the former ones, so is every outcome.
-use mathlib.Core.Path.{_≡_, ap, ap₂}
+use mathlib.Core.Path.{_≡_, refl, _∙_, ap}
 use mathlib.Core.Bool.{Bool}
 use mathlib.Core.List.{List, []}
 use lib.ListN.{replicate}
 use Prim.Native.Nat.{ℕ, zero, suc}
 use Rattle.syntax.specs.Tables.{Tables}
 use Rattle.syntax.specs.Term.{Term}
-use Rattle.typing.specs.Refusals.{Verdict, TypedTerm, elaborate, normalizeLimit, otherLimit}
+use Rattle.typing.specs.Refusals.{Verdict, refused, accepted, TypedTerm, elaborate, normalizeLimit, otherLimit}
 use Rattle.reduction.specs.MayDrop.{mayDrop}
 use Rattle.reduction.specs.Reduction.{Settings}
 use Rattle.outcomes.specs.Check.{checkedOf, checkOutcome}
@@ -30,18 +30,42 @@ pub record OutcomesBy (pure : Term → Bool) (verdict : ℕ → Verdict TypedTer
   pub normalize : (settings : Settings) (b : Buffers)
       → normalizeOutcome settings tables words b ≡ outcomeOf b (checkedTo pure (capacityOf b) settings (verdict normalizeLimit))
 
+-- what may be dropped plays a part only where the verdict accepts
+module _ (p q : Term → Bool) (v : Verdict TypedTerm) (same : (x : TypedTerm) → v ≡ accepted x → p ≡ q) where
+  tested-same : testedOf p v ≡ testedOf q v
+  tested-same = go v same
+    where
+      go : (v : Verdict TypedTerm) → ((x : TypedTerm) → v ≡ accepted x → p ≡ q) → testedOf p v ≡ testedOf q v
+      go (refused n) h = refl
+      go (accepted x) h = ap (λ (r : Term → Bool). testedOf r (accepted x)) (h x refl)
+
+  checked-same : (capacity : ℕ) (settings : Settings) → checkedTo p capacity settings v ≡ checkedTo q capacity settings v
+  unfolding checkedTo
+  checked-same capacity settings = go v same
+    where
+      go : (v : Verdict TypedTerm) → ((x : TypedTerm) → v ≡ accepted x → p ≡ q)
+          → checkedTo p capacity settings v ≡ checkedTo q capacity settings v
+      go (refused n) h = refl
+      go (accepted x) h = ap (λ (r : Term → Bool). checkedTo r capacity settings (accepted x)) (h x refl)
+
 pub outcomes-by : (pure : Term → Bool) (verdict : ℕ → Verdict TypedTerm) (tables : Tables) (words : List ℕ)
-    → mayDrop (tables .calls) ≡ pure → ((limit : ℕ) → elaborate limit tables words ≡ verdict limit) → OutcomesBy pure verdict tables words
+    → ((limit : ℕ) (x : TypedTerm) → verdict limit ≡ accepted x → mayDrop (tables .calls) ≡ pure)
+    → ((limit : ℕ) → elaborate limit tables words ≡ verdict limit) → OutcomesBy pure verdict tables words
 unfolding checkOutcome isNormalOutcome freeInputsOutcome normalizeWithin normalizeOutcome
-outcomes-by pure verdict tables words drops same = record {
-  check = ap checkedOf (same otherLimit);
-  normal = ap₂ testedOf drops (same otherLimit);
-  inputs = ap readOf (same otherLimit);
-  within = λ capacity settings.
-      ap₂ (λ (p : Term → Bool) (v : Verdict TypedTerm). checkedTo p capacity settings v) drops (same normalizeLimit);
-  normalize = λ settings b.
-      ap₂ (λ (p : Term → Bool) (v : Verdict TypedTerm). outcomeOf b (checkedTo p (capacityOf b) settings v)) drops (same normalizeLimit);
-}
+outcomes-by pure verdict tables words drops same =
+    let today = mayDrop (tables .calls) in
+    let checks : (capacity : ℕ) (settings : Settings)
+    → checkedTo today capacity settings (elaborate normalizeLimit tables words)
+    ≡ checkedTo pure capacity settings (verdict normalizeLimit) =
+    λ capacity settings. ap (checkedTo today capacity settings) (same normalizeLimit)
+    ∙ checked-same today pure (verdict normalizeLimit) (drops normalizeLimit) capacity settings in
+    record {
+      check = ap checkedOf (same otherLimit);
+      normal = ap (testedOf today) (same otherLimit) ∙ tested-same today pure (verdict otherLimit) (drops otherLimit);
+      inputs = ap readOf (same otherLimit);
+      within = checks;
+      normalize = λ settings b. ap (outcomeOf b) (checks (capacityOf b) settings);
+    }
 
 -- what the program writes for a reading
 abbrev pub respondToBy : (Term → Bool) → (ℕ → Verdict TypedTerm) → Reading → List ℕ
