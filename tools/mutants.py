@@ -15,6 +15,8 @@ CHECK_8, CHECK_9 = "  _ ← scopePlace tables t\n", "  A ← typePlace tables t\
 PARTS, CLAIM, VALUE_TYPES = "semantics/specs/TypeParts", "semantics/specs/Claim", "semantics/specs/ValueTypes"
 PART, OF_RESULT = "    itself : PartOf D D\n", "    of-result : PartOf tables D result → Subformula result u D\n"
 FREE, ANSWER = "outcomes/specs/FreeInputs", "-- the answer: refusal 0"
+MAY_DROP, TABLE_CHECKS, OPERANDS = "reduction/specs/MayDrop", "typing/specs/TableChecks", "theory/proofs/Operands"
+A_HALF, B_HALF = "at a (λ x. pair A x b)", "at b (λ x. pair A a x)"
 TOTAL = "abbrev total : ℕ → (ℕ → ℕ) → ℕ\ntotal zero f = 0\ntotal (suc n) f = f 0 + total n (λ i. f (suc i))\n\n"
 CAPACITY = "min (min (length (b .output)) (min (length (b .scratch₁)) (length (b .scratch₂)))) maxCapacity"
 
@@ -79,6 +81,25 @@ MUTANTS = [
         (RUN, "evaluate run ρ (unit A) = answered trivial", "evaluate run ρ (unit A) = answered (num 0)")]),
     ("the unit type has no value, so nothing can be fed", "theory", [
         (VALUE_TYPES, "product, sum, unitType,", "arrow, product, sum,"), (VALUE_TYPES, "components tables unitType A", "components tables arrow A")]),
+    ("an acting call may be dropped", "reduction", [(MAY_DROP, "(call k ts) = not (acts calls k)", "(call k ts) = true")]),
+    ("an application may be dropped over any table", "reduction", [(MAY_DROP, "(app f a) = not (someActs calls)", "(app f a) = true")]),
+    ("the term, not the table, says whether an application may be dropped", "reduction", [
+        (MAY_DROP, "use Rattle.syntax.specs.Tables.{acts, someActs}",
+            "use Rattle.syntax.specs.Lists.{any}\nuse Rattle.syntax.specs.Calls.{callsIn}\nuse Rattle.syntax.specs.Tables.{acts}"),
+        (MAY_DROP, "not (someActs calls)", "not (any (acts calls) (callsIn (app f a)))")]),
+    ("acting calls kept but reordered: a pair's second half is named before its first", "theory", [
+        (VALUES, A_HALF + " ∷ " + B_HALF, B_HALF + " ∷ " + A_HALF),
+        (ROOTS, "{Bool}", "{Bool, true}"), (ROOTS, "i-pair₂ : {A : ℕ} {a b : Term} → T (isValue a)", "i-pair₂ : {A : ℕ} {a b : Term} → T true"),
+        (FIRES, "(isValue a) (isValue b) i-pair₁ i-pair₂", "(isValue b) (isValue a) (λ h. i-pair₂ tt h) (λ k h. i-pair₁ h)"),
+        (OPERANDS, "two-values _ _ (isValue a) (isValue b) e", "let h = two-values _ _ (isValue b) (isValue a) e in (h .1, h .0)"),
+        (OPERANDS, "value-two _ _ (isValue a) (isValue b) h", "value-two _ _ (isValue b) (isValue a) (h .1, h .0)")]),
+    ("a claim that says nothing of acting calls", "theory", [
+        (CLAIM, "trace′ ≡ actingCalls calls trace\n", "trace′ ≡ actingCalls calls trace′\n"),
+        ("theory/proofs/SameRuns", "acting-kept = d .struck .acting;", "acting-kept = refl;")]),
+    ("an acting call's arity is its count", "syntax", [
+        ("syntax/specs/Words", "cond (actsOf w) (countOf w - 8) (countOf w)", "countOf w")]),
+    ("a count of 4 or of 12", "typing", [(TABLE_CHECKS, "leb (arityOf w) 3", "leb (arityOf w) 4")]),
+    ("a call acts if its count is 9 or more", "syntax", [("syntax/specs/Words", "leb 8 (countOf w)", "leb 9 (countOf w)")]),
 ]
 
 def refusal(edits):

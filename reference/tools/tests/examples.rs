@@ -237,10 +237,18 @@ fn the_readme_quotes_the_files() {
     for path in ["register.listing", "register.words"] {
         quotes(set_in(4, &text(&format!("examples/{path}"))));
     }
-    let listing = text("examples/plate.listing");
-    let first_line = listing.lines().next().expect("a line");
-    assert!(readme.contains(&format!("`{first_line}`")));
-    for name in ["register", "tithe", "plate"] {
+    for name in ["plate", "stamp"] {
+        let listing = text(&format!("examples/{name}.listing"));
+        let first_line = listing.lines().next().expect("a line");
+        assert!(readme.contains(&format!("`{first_line}`")), "{name}");
+    }
+    let words = text("examples/stamp.words");
+    let (stamp, _) = words
+        .lines()
+        .find_map(|line| line.split_once(" ").filter(|_| line.ends_with("acting")))
+        .expect("a call that acts");
+    assert!(readme.contains(&format!("`{stamp}`")));
+    for name in ["register", "tithe", "plate", "stamp"] {
         let shown = text(&format!("examples/{name}.txt"));
         for heading in ["before: ", "after: "] {
             quotes(set_in(2, term_under(heading, &shown)));

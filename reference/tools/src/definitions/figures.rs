@@ -1,6 +1,7 @@
 //! How many rows there are of which sort.
 
 use super::notation::hexadecimal_bytes;
+use super::runs::{acting_calls, number_of};
 use oracle::rules::RULE_NAMES;
 use oracle::words::{unpack_term, UNIT};
 
@@ -88,6 +89,38 @@ pub fn unit_figures(cases: &[String], runs: &[String], inputs: &[String]) -> Str
         "a unit is in {in_cases} terms of cases ({cases_accepted} accepted), in {in_runs} of runs and in \
          {in_inputs} of inputs ({inputs_accepted} accepted)\n"
     )
+}
+
+/// Of lines of `cases`, `runs` and `inputs`: the call tables with an acting call, the accepted among
+/// them, and the acting calls that the runs make.
+pub fn acting_figures(cases: &[String], runs: &[String], inputs: &[String]) -> String {
+    let acting = |lines: &[String], refusal: usize| {
+        let acting: Vec<&String> = lines.iter().filter(|line| has_acting_in(line)).collect();
+        let is_accepted = |line: &&&String| line.split(';').nth(refusal) == Some("0");
+        (acting.len(), acting.iter().filter(is_accepted).count())
+    };
+    let (in_cases, cases_accepted) = acting(cases, 8);
+    let (in_inputs, inputs_accepted) = acting(inputs, 4);
+    let in_runs = runs.iter().filter(|line| has_acting_in(line)).count();
+    let made: usize = runs.iter().map(|line| acting_calls_made(line)).sum();
+    format!(
+        "a call acts in {in_cases} tables of cases ({cases_accepted} accepted), in {in_runs} of runs, which make \
+         {made} acting calls, and in {in_inputs} of inputs ({inputs_accepted} accepted)\n"
+    )
+}
+
+/// Whether the call table of a line, its second field, has an acting call.
+fn has_acting_in(line: &str) -> bool {
+    let calls = line.split(';').nth(1).expect("a call table");
+    acting_calls(calls).contains(&true)
+}
+
+/// How many acting calls the run of a line makes.
+fn acting_calls_made(line: &str) -> usize {
+    let fields: Vec<&str> = line.split(';').collect();
+    let acts = acting_calls(fields[1]);
+    let made = fields[6].split('|').filter(|made| !made.is_empty());
+    made.filter(|made| acts[number_of(made)]).count()
 }
 
 /// Whether the term of a line, its fourth field, has a unit.

@@ -2,7 +2,9 @@
 
 use super::copy::{copy_folder, make_empty_folder_outside};
 use super::crosscheck::write_crosscheck;
-use super::figures::{bundle_figures, case_figures, inputs_figures, run_figures, unit_figures};
+use super::figures::{
+    acting_figures, bundle_figures, case_figures, inputs_figures, run_figures, unit_figures,
+};
 use super::opened::opened_definitions;
 use super::{bundles, cases, inputs, runs};
 use crate::lines::bundles::bundle_line;
@@ -52,6 +54,7 @@ pub fn write_repository(
         bundle_figures(&bundles),
         run_figures(&runs),
         inputs_figures(&inputs),
+        acting_figures(&cases, &runs, &inputs),
         unit_figures(&cases, &runs, &inputs),
     ]
     .concat())

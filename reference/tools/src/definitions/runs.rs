@@ -1,21 +1,23 @@
-//! Rows of the lines of `runs`: a run's answer and its trace.
+//! Rows of the lines of `runs`: a run's answer, its trace, and the acting calls of the trace.
 
 use super::notation::{list, words};
 use super::tables::Table;
+use oracle::words::{read_count, unpack_call};
 use std::str::SplitWhitespace;
 
 /// What the definitions make of a row, and what the line says.
 const MEANING: &str = "\
--- A line of `runs`: tables and term, the values of the inputs, and the answer and the trace of the run.
+-- A line of `runs`: tables and term, the values of the inputs, the answer and the trace of the run, and the acting calls in it.
 use Prim.Native.Nat.{ℕ, zero, suc, _+_, _*_, _%_}
-use mathlib.Core.List.{List}
+use mathlib.Core.List.{List, []}
 use mathlib.Core.Option.{Option, some, none}
 use lib.ListN.{length}
 use Rattle.syntax.specs.Tables.{Tables, over, product, sum, unitType, components, Signature, signature}
 use Rattle.syntax.specs.Term.{Term}
 use Rattle.syntax.specs.Decoding.{decode}
 use Rattle.semantics.specs.Value.{Value, Values, num, closure, tuple, left, right, trivial, empty, also, Trace}
-use Rattle.semantics.specs.Run.{RunOutcome, ended, stuck, run}
+use Rattle.semantics.specs.Run.{RunOutcome, ended, stuck, spent, run}
+use Rattle.semantics.specs.Claim.{actingCalls}
 
 pub record Row : Type 0 where
   pub types : List ℕ
@@ -25,6 +27,12 @@ pub record Row : Type 0 where
   pub values : Values
   pub answer : Value
   pub trace : Trace
+  pub acting : Trace
+
+-- how a run went, and the acting calls that it made
+pub record Ran : Type 0 where
+  pub outcome : RunOutcome Value
+  pub acting : Trace
 
 -- the sum of all numbers in a value, with 1 for each left and 2 for each right injection, and 3 for each unit
 unfoldable pub weight : Value → ℕ
@@ -72,11 +80,19 @@ unfoldable pub ran : Tables → Values → Option Term → RunOutcome Value
 ran tables ρ none = stuck
 ran tables ρ (some t) = run (answerOf tables) 1000 ρ t
 
-unfoldable pub computed : Row → RunOutcome Value
-computed x = ran (over (x .types) (x .calls) (x .inputs)) (x .values) (decode (x .calls) (x .term))
+unfoldable pub actingOf : List ℕ → RunOutcome Value → Trace
+actingOf calls (ended v trace) = actingCalls calls trace
+actingOf calls stuck = []
+actingOf calls spent = []
 
-unfoldable pub expected : Row → RunOutcome Value
-expected x = ended (x .answer) (x .trace)
+unfoldable pub told : List ℕ → RunOutcome Value → Ran
+told calls o = record { outcome = o; acting = actingOf calls o }
+
+unfoldable pub computed : Row → Ran
+computed x = told (x .calls) (ran (over (x .types) (x .calls) (x .inputs)) (x .values) (decode (x .calls) (x .term)))
+
+unfoldable pub expected : Row → Ran
+expected x = record { outcome = ended (x .answer) (x .trace); acting = x .acting }
 ";
 
 /// The table of some lines.
@@ -85,7 +101,9 @@ pub fn table(lines: &[String]) -> Table {
         name: "Runs",
         subcommand: "runs",
         meaning: MEANING,
-        own: &["weight", "weights", "spread", "answerOf", "ran"],
+        own: &[
+            "weight", "weights", "spread", "answerOf", "ran", "actingOf", "told",
+        ],
         rows: lines.iter().map(|line| row(line)).collect(),
     }
 }
@@ -96,10 +114,14 @@ pub fn row(line: &str) -> String {
     let [types, calls, inputs, term, input_values, answer, trace] = fields[..] else {
         panic!("a line of runs has seven fields");
     };
+    let acts = acting_calls(calls);
     let (types, calls, inputs, term) = (words(types), words(calls), words(inputs), words(term));
     let input_values = values(input_values);
     let answer = value(&mut answer.split_whitespace());
-    let trace = list(trace.split('|').filter(|call| !call.is_empty()).map(call));
+    let made: Vec<&str> = trace.split('|').filter(|call| !call.is_empty()).collect();
+    let trace = list(made.iter().map(|made| call(made)));
+    let acting = made.iter().filter(|made| acts[number_of(made)]);
+    let acting = list(acting.map(|made| call(made)));
     format!(
         "record {{
       types = {types};
@@ -109,8 +131,26 @@ pub fn row(line: &str) -> String {
       values = {input_values};
       answer = {answer};
       trace = {trace};
+      acting = {acting};
     }}"
     )
+}
+
+/// Which calls of a table act.
+pub fn acting_calls(calls: &str) -> Vec<bool> {
+    let words = calls
+        .split_whitespace()
+        .map(|word| word.parse::<u64>().expect("a word"));
+    let counts = words.map(|word| unpack_call(word).0);
+    counts
+        .map(|count| read_count(count).is_some_and(|(_, acts)| acts))
+        .collect()
+}
+
+/// The number of a call made.
+pub fn number_of(made: &str) -> usize {
+    let (number, _) = made.split_once(':').expect("a number and arguments");
+    number.parse().expect("a call's number")
 }
 
 /// A call made: `number:argument,argument`.
