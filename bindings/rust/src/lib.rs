@@ -31,7 +31,7 @@
 //! ```
 //!
 //! The calls use the stack of their thread. `respond` and `normalize` use the more, the deeper a
-//! term nests. The least that was enough for the deepest term: 1,028 KiB for `respond`, 772 KiB for
+//! term nests. The least that was enough for the deepest term: 924 KiB for `respond`, 668 KiB for
 //! `normalize`, 200 KiB for `free_inputs` (tests/depth.rs). A thread's default of 2 MiB is enough. A
 //! stack that is too small ends the process.
 

@@ -1,7 +1,9 @@
 //! Calls that act through `normalize`, `free_inputs` and `respond`: what stays, what goes, and each
 //! refusal.
 
-use flatten::{free_inputs, normalize, respond, Buffers, Tables};
+mod small_buffers;
+
+use flatten::{free_inputs, respond, Tables};
 
 const STAMP_EXAMPLE: &[u8] = include_bytes!("../../../examples/stamp.bundle");
 const STAMP_LISTING: &[u8] = include_bytes!("../../../examples/stamp.listing");
@@ -27,16 +29,8 @@ fn variable(number: u64) -> u64 {
 
 /// The words of the normal form and the number of drops, or the number of the refusal.
 fn normal_form(tables: Tables, term: &[u64]) -> Result<(Vec<u64>, u32), u32> {
-    let [mut output, mut first, mut second] = [[0; 16]; 3];
-    let buffers = Buffers {
-        output: &mut output,
-        first: &mut first,
-        second: &mut second,
-    };
-    match normalize(tables, term, 100, buffers) {
-        Ok(normal) => Ok((normal.words.to_vec(), normal.counts[9])),
-        Err(refused) => Err(refused.number),
-    }
+    let (words, counts) = small_buffers::normal_form(tables, term)?;
+    Ok((words, counts[9]))
 }
 
 #[test]

@@ -1,6 +1,9 @@
 //! Terms with units through `normalize`, `free_inputs` and `respond`: accepted, and each refusal.
 
-use flatten::{free_inputs, normalize, respond, Buffers, Tables};
+mod small_buffers;
+
+use flatten::{free_inputs, respond, Tables};
+use small_buffers::normal_form;
 
 const PLATE: &[u8] = include_bytes!("../../../examples/plate.bundle");
 const PLATE_LISTING: &[u8] = include_bytes!("../../../examples/plate.listing");
@@ -14,20 +17,6 @@ const TABLES: Tables = Tables {
 
 const UNIT: u64 = 11 << 60 | 1;
 const C: u64 = 1 << 60;
-
-/// The words of the normal form and the counts, or the number of the refusal.
-fn normal_form(tables: Tables, term: &[u64]) -> Result<(Vec<u64>, [u32; 10]), u32> {
-    let [mut output, mut first, mut second] = [[0; 16]; 3];
-    let buffers = Buffers {
-        output: &mut output,
-        first: &mut first,
-        second: &mut second,
-    };
-    match normalize(tables, term, 100, buffers) {
-        Ok(normal) => Ok((normal.words.to_vec(), normal.counts)),
-        Err(refused) => Err(refused.number),
-    }
-}
 
 #[test]
 fn a_unit_is_a_value() {

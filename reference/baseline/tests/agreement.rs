@@ -2,14 +2,14 @@
 
 mod compared;
 
-use compared::{agree, outcome, totals};
+use compared::{agree, agree_on_random_terms, outcome};
 use oracle::api::Answer;
 use oracle::listing;
 use tools::generate::boundaries::*;
 use tools::generate::bundles::BUNDLE_DAMAGES;
 use tools::generate::damage::{apply_damages, damages};
 use tools::generate::deep::*;
-use tools::generate::each::each_random_sample;
+use tools::generate::each::{each_random_sample, plain_sample};
 use tools::generate::ill_typed::broken_samples;
 use tools::generate::limits::{needs, Limits};
 use tools::generate::shapes::*;
@@ -20,13 +20,7 @@ fn steps(answer: &Answer) -> u32 {
 
 #[test]
 fn random_terms() {
-    let mut answers = Vec::new();
-    each_random_sample(21, 4000, 150, |random, sample| {
-        let limits = Limits::with_capacity(random, 5000, 1000);
-        answers.push(agree(&sample, limits, "random"));
-    });
-    let steps = totals(&answers);
-    assert!(steps.iter().all(|&total| total > 1000), "{steps:?}");
+    agree_on_random_terms(plain_sample, 21, 4000);
 }
 
 #[test]

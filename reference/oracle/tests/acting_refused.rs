@@ -1,21 +1,14 @@
 //! Refusals of calls that act: their counts, fields and arguments, and their order among the others.
 
-use oracle::free_inputs::free_inputs;
+mod refused;
+
 use oracle::words::*;
+use refused::*;
 use tools::generate::acting_damage::{broken_acting_samples, ACTING_DAMAGES};
 use tools::generate::acting_shapes::{acting_shapes_of, nested_stamps};
-use tools::generate::damage::{apply_damages, damages, flip_a_bit};
-use tools::generate::each::each_acting_sample;
+use tools::generate::each::{acting_sample, each_acting_sample};
 use tools::generate::phrases::*;
 use tools::generate::Sample;
-
-/// The refusal by all calls that do not normalize, which is the same.
-fn refusal(sample: &Sample) -> u32 {
-    let refusal = sample.check().refusal;
-    assert_eq!(sample.is_normal().refusal, refusal);
-    assert_eq!(sample.free_inputs(free_inputs).refusal, refusal);
-    refusal
-}
 
 /// Four base types, one call, one input of each type, and the call on so many inputs, the first one
 /// first.
@@ -127,26 +120,12 @@ fn the_call_table_comes_after_the_types_and_before_the_inputs() {
 
 #[test]
 fn ill_typed_calls() {
-    for sample in broken_acting_samples() {
-        assert_eq!(refusal(&sample), 9, "{:x?}", sample.term);
-    }
+    check_ill_typed(broken_acting_samples());
 }
 
 #[test]
 fn damages_of_samples_with_acting_calls() {
-    for damage in damages().into_iter().filter(|damage| damage.is_small) {
-        each_acting_sample(102, 150, 40, |random, mut sample| {
-            let expected = apply_damages(random, &mut sample, &[damage]);
-            assert_eq!(refusal(&sample), expected, "{}", damage.name);
-        });
-    }
-    each_acting_sample(103, 4000, 40, |random, mut sample| {
-        let (one, other) = (random.pick(ACTING_DAMAGES), *random.pick(&damages()));
-        if one.refusal != other.refusal && other.is_small {
-            let expected = apply_damages(random, &mut sample, &[one, other]);
-            assert_eq!(refusal(&sample), expected, "{}, {}", one.name, other.name);
-        }
-    });
+    check_damages(acting_sample, [102, 103], ACTING_DAMAGES);
 }
 
 #[test]
@@ -170,15 +149,7 @@ fn a_field_past_the_arguments_may_not_name_a_known_type_either() {
 
 #[test]
 fn flipped_bits() {
-    let mut refusals = [0; 10];
-    each_acting_sample(104, 10_000, 40, |random, mut sample| {
-        flip_a_bit(random, &mut sample);
-        refusals[refusal(&sample) as usize] += 1;
-    });
-    assert!(
-        refusals[2..].iter().all(|&count| count > 10),
-        "{refusals:?}"
-    );
+    check_flipped_bits(acting_sample, 104);
 }
 
 #[test]

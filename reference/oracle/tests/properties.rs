@@ -1,5 +1,6 @@
 //! Demands 1, 2 and 3 on random well-typed terms, inputs and answers.
 
+mod runs;
 mod walked;
 
 use oracle::api::{normalize, Answer};
@@ -13,6 +14,7 @@ use oracle::search::first_redex;
 use oracle::subformula::{has_first_order_interface, has_subformula_property};
 use oracle::term::Term;
 use oracle::typing::node_types;
+use runs::run_walk;
 use tools::generate::runs::{is_sublist, run_term};
 use tools::generate::terms::random_sample;
 use tools::generate::values::random_inputs;
@@ -226,32 +228,13 @@ fn runs_give_the_same_answer_and_the_same_calls() {
             type_number,
         } = checked;
         assert!(has_first_order_interface(tables, term, *type_number));
-        let Some(listed) = sequence(tables, term, 30_000) else {
-            return;
-        };
-        let (kept, dropped) = listed.terms.split_at(listed.removal_start() + 1);
-        for _ in 0..3 {
-            let inputs = random_inputs(random, tables);
-            let seed = random.bits();
-            let Some(original) = run_term(tables, term, &inputs, seed) else {
-                continue;
-            };
-            for term in kept {
-                let run = run_term(tables, term, &inputs, seed);
-                assert_eq!(run.as_ref(), Some(&original));
-            }
-            let mut last_trace = original.trace.clone();
-            for term in dropped {
-                let run = run_term(tables, term, &inputs, seed).expect("shorter runs end");
-                assert_eq!(run.answer, original.answer);
-                assert!(is_sublist(&run.trace, &last_trace));
-                last_trace = run.trace;
-            }
-            assert!(is_sublist(&last_trace, &original.trace));
+        run_walk(random, checked, 3, |_, _, runs| {
+            let (source, last) = (&runs[0], &runs[runs.len() - 1]);
+            assert!(is_sublist(&last.trace, &source.trace));
             compared += 1;
-            with_calls += usize::from(original.trace.len() > 1);
-            shorter += usize::from(last_trace.len() < original.trace.len());
-        }
+            with_calls += usize::from(source.trace.len() > 1);
+            shorter += usize::from(last.trace.len() < source.trace.len());
+        });
     });
     assert!(compared > 6000, "{compared} runs compared");
     assert!(with_calls > 2000, "{with_calls} runs with calls");

@@ -1,10 +1,11 @@
 //! Refusals of the unit type and its value: their numbers and order, bit by bit and on damaged
 //! samples with units.
 
-use oracle::free_inputs::free_inputs;
+mod refused;
+
 use oracle::words::*;
-use tools::generate::damage::{apply_damages, damages, flip_a_bit};
-use tools::generate::each::each_unit_sample;
+use refused::*;
+use tools::generate::each::unit_sample;
 use tools::generate::unit_damage::{broken_unit_samples, UNIT_DAMAGES};
 use tools::generate::unit_shapes::unit_shapes_of;
 use tools::generate::Sample;
@@ -12,14 +13,6 @@ use tools::generate::Sample;
 const BASE_WORD: u64 = 0;
 const UNIT_WORD: u64 = 4 << 60;
 const UNIT_NODE: u64 = 11 << 60;
-
-/// The refusal by all calls that do not normalize, which is the same.
-fn refusal(sample: &Sample) -> u32 {
-    let refusal = sample.check().refusal;
-    assert_eq!(sample.is_normal().refusal, refusal);
-    assert_eq!(sample.free_inputs(free_inputs).refusal, refusal);
-    refusal
-}
 
 fn refusal_of(types: &[u64], term: &[u64]) -> u32 {
     refusal(&Sample {
@@ -101,39 +94,17 @@ fn a_unit_has_no_parts() {
 
 #[test]
 fn ill_typed_units() {
-    for sample in broken_unit_samples() {
-        assert_eq!(refusal(&sample), 9, "{:x?}", sample.term);
-    }
+    check_ill_typed(broken_unit_samples());
 }
 
 #[test]
 fn damages_of_samples_with_units() {
-    for damage in damages().into_iter().filter(|damage| damage.is_small) {
-        each_unit_sample(92, 150, 40, |random, mut sample| {
-            let expected = apply_damages(random, &mut sample, &[damage]);
-            assert_eq!(refusal(&sample), expected, "{}", damage.name);
-        });
-    }
-    each_unit_sample(93, 4000, 40, |random, mut sample| {
-        let (one, other) = (random.pick(UNIT_DAMAGES), *random.pick(&damages()));
-        if one.refusal != other.refusal && other.is_small {
-            let expected = apply_damages(random, &mut sample, &[one, other]);
-            assert_eq!(refusal(&sample), expected, "{}, {}", one.name, other.name);
-        }
-    });
+    check_damages(unit_sample, [92, 93], UNIT_DAMAGES);
 }
 
 #[test]
 fn flipped_bits() {
-    let mut refusals = [0; 10];
-    each_unit_sample(94, 10_000, 40, |random, mut sample| {
-        flip_a_bit(random, &mut sample);
-        refusals[refusal(&sample) as usize] += 1;
-    });
-    assert!(
-        refusals[2..].iter().all(|&count| count > 10),
-        "{refusals:?}"
-    );
+    check_flipped_bits(unit_sample, 94);
 }
 
 #[test]

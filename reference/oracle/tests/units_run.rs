@@ -1,20 +1,19 @@
 //! Runs of terms with units in their inputs, arguments and answers: the normal form has the same
 //! answer and no further call, and a unit is the same as a unit.
 
-use oracle::checks::Checked;
-use oracle::reduction::sequence;
+mod runs;
+
 use oracle::run::{run, Value};
-use oracle::subformula::{has_first_order_interface, has_function};
+use oracle::subformula::has_function;
 use oracle::tables::Tables;
 use oracle::term::Term;
+use runs::run_walk;
 use tools::generate::each::each_unit_sample;
 use tools::generate::phrases::*;
-use tools::generate::runs::{is_sublist, run_term};
 use tools::generate::units::*;
-use tools::generate::values::{random_inputs, FixedAnswers};
+use tools::generate::values::FixedAnswers;
 use tools::generate::Sample;
 
-const MOST_WORDS: usize = 30_000;
 const FUEL: u64 = 100_000;
 
 fn has_unit(value: &Value) -> bool {
@@ -31,40 +30,16 @@ fn runs_give_the_same_answer_and_the_same_calls() {
     let (mut compared, mut shorter) = (0, 0);
     let (mut in_inputs, mut in_arguments, mut in_answers) = (0, 0, 0);
     each_unit_sample(91, 5000, 50, |random, sample| {
-        let Checked {
-            tables,
-            term,
-            type_number,
-        } = sample.examine().expect("generated samples are well typed");
-        if !has_first_order_interface(&tables, &term, type_number) {
-            return;
-        }
-        let Some(listed) = sequence(&tables, &term, MOST_WORDS) else {
-            return;
-        };
-        let inputs = random_inputs(random, &tables);
-        let seed = random.bits();
-        let Some(original) = run_term(&tables, &term, &inputs, seed) else {
-            return;
-        };
-        let (kept, dropped) = listed.terms.split_at(listed.removal_start() + 1);
-        for term in kept {
-            let run = run_term(&tables, term, &inputs, seed);
-            assert_eq!(run.as_ref(), Some(&original));
-        }
-        let mut calls = original.trace.clone();
-        for term in dropped {
-            let run = run_term(&tables, term, &inputs, seed).expect("shorter runs end");
-            assert_eq!(run.answer, original.answer);
-            assert!(is_sublist(&run.trace, &calls));
-            calls = run.trace;
-        }
-        let mut arguments = original.trace.iter().flat_map(|call| &call.arguments);
-        compared += 1;
-        shorter += usize::from(calls.len() < original.trace.len());
-        in_inputs += usize::from(inputs.iter().any(has_unit));
-        in_arguments += usize::from(arguments.any(has_unit));
-        in_answers += usize::from(has_unit(&original.answer));
+        let checked = sample.examine().expect("generated samples are well typed");
+        run_walk(random, &checked, 1, |inputs, _, runs| {
+            let (source, last) = (&runs[0], &runs[runs.len() - 1]);
+            let mut arguments = source.trace.iter().flat_map(|call| &call.arguments);
+            compared += 1;
+            shorter += usize::from(last.trace.len() < source.trace.len());
+            in_inputs += usize::from(inputs.iter().any(has_unit));
+            in_arguments += usize::from(arguments.any(has_unit));
+            in_answers += usize::from(has_unit(&source.answer));
+        });
     });
     assert!(compared > 2500 && shorter > 200, "{compared}, {shorter}");
     assert!(in_inputs > 500, "{in_inputs} with units in inputs");

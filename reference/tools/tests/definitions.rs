@@ -99,11 +99,12 @@ fn a_row_has_what_the_line_says() {
     ] {
         assert!(row.contains(field), "{field}");
     }
-    let row = runs::row("0;0;0;0;n 1 p l n 2 r n 3;n 4;1:|0:n 5,n 6");
+    let row = runs::row("0;0 9223372036854775808;0;0;n 1 p l n 2 r n 3;n 4;1:|0:n 5,n 6");
     for field in [
         "values = (also (num 1) (also (tuple (left (num 2)) (right (num 3))) empty));",
         "answer = (num 4);",
         "trace = record { number = 1; arguments = empty } ∷ record { number = 0; arguments = (also (num 5) (also (num 6) empty)) } ∷ [];",
+        "acting = record { number = 1; arguments = empty } ∷ [];",
     ] {
         assert!(row.contains(field), "{field}");
     }
@@ -112,6 +113,7 @@ fn a_row_has_what_the_line_says() {
         "values = (also trivial (also (tuple trivial (num 1)) empty));",
         "answer = (left trivial);",
         "trace = record { number = 2; arguments = (also trivial empty) } ∷ [];",
+        "acting = [];",
     ] {
         assert!(row.contains(field), "{field}");
     }

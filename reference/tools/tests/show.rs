@@ -6,6 +6,7 @@ use tools::generate::deep::named_deep_shapes;
 use tools::generate::examples::examples;
 use tools::generate::shapes::{branching, sample, typical, B, B_AND_B, B_OR_B};
 use tools::generate::{phrases, Sample};
+use tools::show::drawing::ACTING;
 use tools::show::layout::layout;
 use tools::show::legend::Legend;
 use tools::show::report::{show, Shown};
@@ -141,6 +142,11 @@ inputs
         "b000000000000000     11       0    0   0   0  c5(b0, b0, b0): b0, acting\n",
     ] {
         assert!(words.contains(line), "{words}");
+    }
+    // In the drawings such a call has a colour of its own.
+    let (before, after) = shown(&sample).drawings();
+    for drawing in [before, after.expect("a normal form")] {
+        assert_eq!(drawing.matches(ACTING).count(), 1);
     }
 }
 

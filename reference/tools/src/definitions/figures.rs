@@ -77,13 +77,8 @@ pub fn inputs_figures(lines: &[String]) -> String {
 
 /// Of lines of `cases`, `runs` and `inputs`: the terms with a unit, and the accepted among them.
 pub fn unit_figures(cases: &[String], runs: &[String], inputs: &[String]) -> String {
-    let units = |lines: &[String], refusal: usize| {
-        let units: Vec<&String> = lines.iter().filter(|line| has_unit_in(line)).collect();
-        let is_accepted = |line: &&&String| line.split(';').nth(refusal) == Some("0");
-        (units.len(), units.iter().filter(is_accepted).count())
-    };
-    let (in_cases, cases_accepted) = units(cases, 8);
-    let (in_inputs, inputs_accepted) = units(inputs, 4);
+    let (in_cases, cases_accepted) = all_and_accepted(cases, has_unit_in, 8);
+    let (in_inputs, inputs_accepted) = all_and_accepted(inputs, has_unit_in, 4);
     let in_runs = runs.iter().filter(|line| has_unit_in(line)).count();
     format!(
         "a unit is in {in_cases} terms of cases ({cases_accepted} accepted), in {in_runs} of runs and in \
@@ -94,19 +89,25 @@ pub fn unit_figures(cases: &[String], runs: &[String], inputs: &[String]) -> Str
 /// Of lines of `cases`, `runs` and `inputs`: the call tables with an acting call, the accepted among
 /// them, and the acting calls that the runs make.
 pub fn acting_figures(cases: &[String], runs: &[String], inputs: &[String]) -> String {
-    let acting = |lines: &[String], refusal: usize| {
-        let acting: Vec<&String> = lines.iter().filter(|line| has_acting_in(line)).collect();
-        let is_accepted = |line: &&&String| line.split(';').nth(refusal) == Some("0");
-        (acting.len(), acting.iter().filter(is_accepted).count())
-    };
-    let (in_cases, cases_accepted) = acting(cases, 8);
-    let (in_inputs, inputs_accepted) = acting(inputs, 4);
+    let (in_cases, cases_accepted) = all_and_accepted(cases, has_acting_in, 8);
+    let (in_inputs, inputs_accepted) = all_and_accepted(inputs, has_acting_in, 4);
     let in_runs = runs.iter().filter(|line| has_acting_in(line)).count();
     let made: usize = runs.iter().map(|line| acting_calls_made(line)).sum();
     format!(
         "a call acts in {in_cases} tables of cases ({cases_accepted} accepted), in {in_runs} of runs, which make \
          {made} acting calls, and in {in_inputs} of inputs ({inputs_accepted} accepted)\n"
     )
+}
+
+/// How many lines there are of a sort, and how many of them have refusal 0 in this field.
+fn all_and_accepted(
+    lines: &[String],
+    is_of_sort: fn(&str) -> bool,
+    refusal: usize,
+) -> (usize, usize) {
+    let all = lines.iter().filter(|line| is_of_sort(line));
+    let is_accepted = |line: &&String| line.split(';').nth(refusal) == Some("0");
+    (all.clone().count(), all.filter(is_accepted).count())
 }
 
 /// Whether the call table of a line, its second field, has an acting call.

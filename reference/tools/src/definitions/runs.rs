@@ -115,12 +115,13 @@ pub fn row(line: &str) -> String {
         panic!("a line of runs has seven fields");
     };
     let acts = acting_calls(calls);
+    let acts = |number: usize| acts.get(number) == Some(&true);
     let (types, calls, inputs, term) = (words(types), words(calls), words(inputs), words(term));
     let input_values = values(input_values);
     let answer = value(&mut answer.split_whitespace());
     let made: Vec<&str> = trace.split('|').filter(|call| !call.is_empty()).collect();
     let trace = list(made.iter().map(|made| call(made)));
-    let acting = made.iter().filter(|made| acts[number_of(made)]);
+    let acting = made.iter().filter(|made| acts(number_of(made)));
     let acting = list(acting.map(|made| call(made)));
     format!(
         "record {{

@@ -6,80 +6,51 @@ use super::{Profile, Sample};
 use crate::random::Random;
 use oracle::deep_stack::with_deep_stack;
 
-/// Hands `count` samples to `test`, each as `make` makes it in its turn.
-fn each_sample(
+/// Makes the sample of a turn.
+pub type Make = fn(&mut Random, Profile, usize) -> Sample;
+
+/// Hands `count` samples of up to about `most_fuel` words to `test`, each as `make` makes it in its
+/// turn.
+pub fn each_sample(
+    make: Make,
     seed: u64,
     count: usize,
-    make: impl Fn(&mut Random, usize) -> Sample + Sync,
+    most_fuel: usize,
     mut test: impl FnMut(&mut Random, Sample) + Send,
 ) {
     with_deep_stack(|| {
         let mut random = Random::new(seed);
         for turn in 0..count {
-            let sample = make(&mut random, turn);
+            let profile = Profile::of_size(random.between(1, most_fuel));
+            let sample = make(&mut random, profile, turn);
             test(&mut random, sample);
         }
     });
 }
 
-/// Random samples of up to about `most_fuel` words.
-pub fn each_random_sample(
-    seed: u64,
-    count: usize,
-    most_fuel: usize,
-    test: impl FnMut(&mut Random, Sample) + Send,
-) {
-    let make = |random: &mut Random, _| {
-        let profile = Profile::of_size(random.between(1, most_fuel));
-        random_sample(random, &profile)
-    };
-    each_sample(seed, count, make, test);
+/// A sample of the profile.
+pub fn plain_sample(random: &mut Random, profile: Profile, _: usize) -> Sample {
+    random_sample(random, &profile)
 }
 
-/// The same with 0 to 256 inputs, by turns.
-pub fn each_sample_of_inputs(
-    seed: u64,
-    count: usize,
-    most_fuel: usize,
-    test: impl FnMut(&mut Random, Sample) + Send,
-) {
-    let make = |random: &mut Random, turn: usize| {
-        let profile = Profile::of_size(random.between(1, most_fuel));
-        sample_of_inputs(random, &profile, INPUT_COUNTS[turn % INPUT_COUNTS.len()])
-    };
-    each_sample(seed, count, make, test);
+/// With 0 to 256 inputs, by turns.
+fn sample_by_inputs(random: &mut Random, profile: Profile, turn: usize) -> Sample {
+    sample_of_inputs(random, &profile, INPUT_COUNTS[turn % INPUT_COUNTS.len()])
 }
 
-/// The same with the unit type, in half of the cases with demand 3's premise.
-pub fn each_unit_sample(
-    seed: u64,
-    count: usize,
-    most_fuel: usize,
-    test: impl FnMut(&mut Random, Sample) + Send,
-) {
-    let make = |random: &mut Random, turn: usize| {
-        let profile = Profile::of_size(random.between(1, most_fuel)).with_units();
-        random_sample(random, &first_order_by_turns(profile, turn))
-    };
-    each_sample(seed, count, make, test);
+/// With the unit type, in half of the cases with demand 3's premise.
+pub fn unit_sample(random: &mut Random, profile: Profile, turn: usize) -> Sample {
+    random_sample(random, &first_order_by_turns(profile.with_units(), turn))
 }
 
-/// The same with calls that act in most of the cases, and by turns with the unit type.
-pub fn each_acting_sample(
-    seed: u64,
-    count: usize,
-    most_fuel: usize,
-    test: impl FnMut(&mut Random, Sample) + Send,
-) {
-    let make = |random: &mut Random, turn: usize| {
-        let profile = Profile::of_size(random.between(1, most_fuel)).with_acting_calls();
-        let profile = match turn % 4 {
-            0..2 => profile,
-            _ => profile.with_units(),
-        };
-        random_sample(random, &first_order_by_turns(profile, turn))
+/// With calls that act in most of the cases, and by turns with the unit type.
+pub fn acting_sample(random: &mut Random, profile: Profile, turn: usize) -> Sample {
+    let profile = profile.with_acting_calls();
+    let profile = match turn % 4 {
+        0..2 => profile,
+        _ => profile.with_units(),
     };
-    each_sample(seed, count, make, test);
+    random_sample(random, &first_order_by_turns(profile, turn))
 }
 
 fn first_order_by_turns(profile: Profile, turn: usize) -> Profile {
@@ -87,4 +58,40 @@ fn first_order_by_turns(profile: Profile, turn: usize) -> Profile {
         0 => profile,
         _ => profile.first_order(),
     }
+}
+
+pub fn each_random_sample(
+    seed: u64,
+    count: usize,
+    most_fuel: usize,
+    test: impl FnMut(&mut Random, Sample) + Send,
+) {
+    each_sample(plain_sample, seed, count, most_fuel, test);
+}
+
+pub fn each_sample_of_inputs(
+    seed: u64,
+    count: usize,
+    most_fuel: usize,
+    test: impl FnMut(&mut Random, Sample) + Send,
+) {
+    each_sample(sample_by_inputs, seed, count, most_fuel, test);
+}
+
+pub fn each_unit_sample(
+    seed: u64,
+    count: usize,
+    most_fuel: usize,
+    test: impl FnMut(&mut Random, Sample) + Send,
+) {
+    each_sample(unit_sample, seed, count, most_fuel, test);
+}
+
+pub fn each_acting_sample(
+    seed: u64,
+    count: usize,
+    most_fuel: usize,
+    test: impl FnMut(&mut Random, Sample) + Send,
+) {
+    each_sample(acting_sample, seed, count, most_fuel, test);
 }

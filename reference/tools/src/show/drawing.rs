@@ -1,8 +1,9 @@
-//! A term drawn as a tree: values and computations in two colours.
+//! A term drawn as a tree: values, calls that act and other computations in three colours.
 
 use super::layout::layout;
 use super::legend::Legend;
 use crate::svg::{Anchor, Drawing};
+use oracle::tables::Tables;
 use oracle::term::Term;
 
 const COLUMN: f64 = 76.0;
@@ -16,10 +17,12 @@ const TITLE: f64 = 24.0;
 const LEAST_WIDTH: f64 = 160.0;
 const VALUE: &str = "#e4f0d8";
 const COMPUTATION: &str = "#fbe3d0";
+pub const ACTING: &str = "#f2a373";
 
 /// The tree as SVG text.
-pub fn tree_drawing(term: &Term, legend: Legend, title: &str) -> String {
+pub fn tree_drawing(term: &Term, tables: &Tables, legend: Legend, title: &str) -> String {
     let nodes = layout(term, legend);
+    let terms = term.nodes();
     let right_edges = nodes.iter().map(|node| node.column + node.width / 2.0);
     let columns = right_edges.fold(0.0, f64::max);
     let rows = 1 + nodes.iter().map(|node| node.row).max().unwrap_or(0);
@@ -39,9 +42,17 @@ pub fn tree_drawing(term: &Term, legend: Legend, title: &str) -> String {
     for (index, node) in nodes.iter().enumerate() {
         let (x, y) = place(index);
         let size = (node.width * COLUMN - GAP, BOX_HEIGHT);
-        let colour = if node.is_value { VALUE } else { COMPUTATION };
+        let colour = colour_of(terms[index], tables);
         drawing.bar((x, y), size, colour);
         drawing.label((x, y + 4.0), Anchor::Middle, &node.label);
     }
     drawing.text()
+}
+
+fn colour_of(term: &Term, tables: &Tables) -> &'static str {
+    match term {
+        Term::Call(number, _) if tables.signature_at(*number).acts => ACTING,
+        _ if term.is_value() => VALUE,
+        _ => COMPUTATION,
+    }
 }

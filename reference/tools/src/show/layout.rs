@@ -7,7 +7,6 @@ use oracle::term::{Role, Term};
 /// A node's label and place; places are counted in columns and rows.
 pub struct Placed {
     pub label: String,
-    pub is_value: bool,
     /// The middle.
     pub column: f64,
     /// Columns that the label takes, with the space beside it.
@@ -41,7 +40,6 @@ impl Layout {
         let index = self.nodes.len();
         self.nodes.push(Placed {
             label: self.label(term),
-            is_value: term.is_value(),
             column: 0.0,
             width: 0.0,
             row,

@@ -99,7 +99,7 @@ impl Shown {
     pub fn drawings(&self) -> (String, Option<String>) {
         let drawing = |term: &Term, when: &str| {
             let title = format!("{when}: {} words", term.size());
-            tree_drawing(term, self.legend, &title)
+            tree_drawing(term, &self.checked.tables, self.legend, &title)
         };
         let before = drawing(&self.checked.term, "before");
         let after = self.outcome.as_ref().ok();
