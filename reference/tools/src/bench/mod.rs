@@ -3,6 +3,7 @@
 
 mod clock;
 pub mod free_inputs;
+mod heap;
 pub mod plot;
 pub mod report;
 pub mod timing;
@@ -48,6 +49,7 @@ pub fn measure(
     implementations: &[Implementation],
     mut finished: impl FnMut(&Measurement),
 ) -> Vec<Measurement> {
+    heap::keep_freed_memory();
     let mut measurements = Vec::new();
     for workload in workloads::all() {
         let timings = time_all(&workload, implementations);
