@@ -89,7 +89,8 @@ MUTANTS = [
         (MAY_DROP, "not (someActs calls)", "not (any (acts calls) (callsIn (app f a)))")]),
     ("acting calls kept but reordered: a pair's second half is named before its first", "theory", [
         (VALUES, A_HALF + " ∷ " + B_HALF, B_HALF + " ∷ " + A_HALF),
-        (ROOTS, "{Bool}", "{Bool, true}"), (ROOTS, "i-pair₂ : {A : ℕ} {a b : Term} → T (isValue a)", "i-pair₂ : {A : ℕ} {a b : Term} → T true"),
+        (ROOTS, "{Bool}", "{Bool, true}"),
+        (ROOTS, "i-pair₂ : {A : ℕ} {a b : Term} → T (isValue a)", "i-pair₂ : {A : ℕ} {a b : Term} → T true"),
         (FIRES, "(isValue a) (isValue b) i-pair₁ i-pair₂", "(isValue b) (isValue a) (λ h. i-pair₂ tt h) (λ k h. i-pair₁ h)"),
         (OPERANDS, "two-values _ _ (isValue a) (isValue b) e", "let h = two-values _ _ (isValue b) (isValue a) e in (h .1, h .0)"),
         (OPERANDS, "value-two _ _ (isValue a) (isValue b) h", "value-two _ _ (isValue b) (isValue a) (h .1, h .0)")]),

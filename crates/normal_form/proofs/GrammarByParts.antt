@@ -173,7 +173,8 @@ module _ (calls : List ℕ) where
   grammar-parts (call k ts) h = passes _ anOperation refl ∙ arguments-pass (firstMayDrop calls ts) 0 ts
   grammar-parts (lam A b) h = absurd (true≢false h)
   grammar-parts (app f a) h = passes _ anOperation refl ∙ two (variable-part f) (value-part a)
-  grammar-parts (bind e b) h = passes _ aBlock refl ∙ let-parts (operation-part e) (leb 1 (uses b 0) || not (mayDrop calls e)) (inGrammar pure b)
+  grammar-parts (bind e b) h = passes _ aBlock refl
+      ∙ let-parts (operation-part e) (leb 1 (uses b 0) || not (mayDrop calls e)) (inGrammar pure b)
   grammar-parts (pair A a b) h = absurd (true≢false h)
   grammar-parts (fst a) h = passes _ anOperation refl ∙ and-last (variable-part a)
   grammar-parts (snd a) h = passes _ anOperation refl ∙ and-last (variable-part a)

@@ -30,7 +30,8 @@ use Rattle.normal_form.specs.Roles.{roleOf, suits, keepsVariable}
 use Rattle.normal_form.specs.NormalTest.{isNormalForm, isNormalValue, PassedPart, NormalAnswer, TestsNormal, no}
 use Rattle.normal_form.specs.declared.normal.Part.{Part}
 use Rattle.search.proofs.MarkedUses.{OpenedMark, open-none, own-mark, body-binds}
-use Rattle.normal_form.proofs.GrammarByParts.{allPass, firstMayDrop, partPasses, value-kind, grammar-parts, value-parts, function-parts}
+use Rattle.normal_form.proofs.GrammarByParts.{allPass, firstMayDrop, partPasses, value-kind, grammar-parts, value-parts}
+use Rattle.normal_form.proofs.GrammarByParts.{function-parts}
 use Rattle.normal_form.proofs.TestedParts.{refused, Testing, test-enter, test-fails, test-space, test-next}
 
 -- what a test of a slice said of a term at its front
@@ -167,26 +168,31 @@ module _ {calls words old : List ℕ} {depth k : ℕ} {mid : List ℕ} {n at j :
 
     module _ (o : OpenedMark mid opened depth c) (ce : c ≡ bindersAt k j) (ok : not (r .ok) ≡ false)
         (u : Bool) (ue : u ≡ keepsVariable k j (firstDroppable calls words) (getD new depth 0)) where
-      keeps-test : {part : Term} {rest : List ℕ} → Holds calls (from words at) part rest → u ≡ keepsVariable k j (firstDroppable calls words) (uses part 0)
-      keeps-test {part} {rest} holds = ue ∙ keeps-mark k j (firstDroppable calls words) _ _ λ e. own-mark o (did-pass a ok part rest holds .marked) (ce ∙ e)
+      keeps-test : {part : Term} {rest : List ℕ} → Holds calls (from words at) part rest
+          → u ≡ keepsVariable k j (firstDroppable calls words) (uses part 0)
+      keeps-test {part} {rest} holds =
+          ue ∙ keeps-mark k j (firstDroppable calls words) _ _ λ e. own-mark o (did-pass a ok part rest holds .marked) (ce ∙ e)
 
       -- a let's body that does not use the variable
       pub use-fails : not u ≡ true → TestsNormal isNormalForm calls words depth old new no
       unfolding partPasses
-      use-fails e = test-fails isNormalForm (partPasses calls k (firstDroppable calls words)) calls words old depth k g lt λ part rest holds.
+      use-fails e =
+          test-fails isNormalForm (partPasses calls k (firstDroppable calls words)) calls words old depth k g lt λ part rest holds.
           third-false (suits (roleOf k j) (node part .kind)) (isNormalForm calls part) _ (sym (keeps-test holds) ∙ not-true u e)
 
       module _ (e : not b ≡ false) (d : not u ≡ false) (c1 : c ≤ 1) where
         -- a part that passes
-        part-passes : (part : Term) (rest : List ℕ) → Holds calls (from words at) part rest → partPasses calls k (firstDroppable calls words) j part ≡ true
+        part-passes : (part : Term) (rest : List ℕ) → Holds calls (from words at) part rest
+            → partPasses calls k (firstDroppable calls words) j part ≡ true
         unfolding partPasses
         part-passes part rest holds = all-true _ _ _ (sym (role-test holds) ∙ not-false b e) (said-yes a ok part rest holds)
             (sym (keeps-test holds) ∙ not-false u d)
 
         -- a turn of the loop over the parts of an operation, a let or a case
-        pub parts-next : length new ≡ length opened → Testing isNormalForm (partPasses calls k (firstDroppable calls words)) calls words old depth k new n (at + r .end)
-            (j + 1)
-        parts-next = test-next isNormalForm (partPasses calls k (firstDroppable calls words)) calls words old depth k g lt o c1 ce r part-passes (did-pass a ok)
+        pub parts-next : length new ≡ length opened
+            → Testing isNormalForm (partPasses calls k (firstDroppable calls words)) calls words old depth k new n (at + r .end) (j + 1)
+        parts-next = test-next isNormalForm (partPasses calls k (firstDroppable calls words)) calls words old depth k g lt o c1 ce r
+            part-passes (did-pass a ok)
 
 -- a function's body stands under its binder; the parts of any other value stand under none
 pub function-binds : (k : ℕ) → k ≡ 2 → 1 ≡ bindersAt k 0

@@ -1,5 +1,5 @@
--- Over a table where no call acts every outcome is the one that it was before calls could act: check 4 is the former one, and everything may
--- be dropped. So is every outcome of what the former checks did not refuse with 4.
+-- Over a table where no call acts every outcome is the one that it was before calls could act: check 4 is the former one, and everything
+-- may be dropped. So is every outcome of what the former checks did not refuse with 4.
 use mathlib.Core.Path.{_≡_}
 use mathlib.Core.Bool.{Bool, true}
 use mathlib.Core.List.{List}

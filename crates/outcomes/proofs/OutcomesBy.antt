@@ -1,5 +1,5 @@
--- The outcomes of the public calls as functions of two things: what may be dropped, and the verdict of the checks at each limit. Where these
--- are the former ones, so is every outcome.
+-- The outcomes of the public calls as functions of two things: what may be dropped, and the verdict of the checks at each limit. Where
+-- these are the former ones, so is every outcome.
 use mathlib.Core.Path.{_≡_, refl, _∙_, ap}
 use mathlib.Core.Bool.{Bool}
 use mathlib.Core.List.{List, []}

@@ -56,7 +56,8 @@ module _ {calls words : List ℕ} {base x : ℕ} where
       → NoUnusedBefore calls words base x (n + 1)
   passed-next {n} p q = record { marks = λ i t rest l h. go i t rest l h (ℕ-discrete i n) }
     where
-      go : (i : ℕ) (t : Term) (rest : List ℕ) → i < n + 1 → Holds calls (from words i) t rest → Dec (i ≡ n) → x ≤ finalMark calls (base + i) t
+      go : (i : ℕ) (t : Term) (rest : List ℕ) → i < n + 1 → Holds calls (from words i) t rest → Dec (i ≡ n)
+          → x ≤ finalMark calls (base + i) t
       go i t rest l h (yes e) = subst (λ (j : ℕ). Holds calls (from words j) t rest → x ≤ finalMark calls (base + j) t) (sym e) (q t rest) h
       go i t rest l h (no e) = p .marks i t rest (omega (arith, l, e)) h
 
@@ -73,11 +74,13 @@ module _ {calls words : List ℕ} {base x : ℕ} where
         → NoUnusedBefore calls words base x (n + l)
     passed-row p q = record { marks = λ i t rest lt h. go i t rest lt h (decLt i n) }
       where
-        behind : (i : ℕ) (t : Term) (rest : List ℕ) → i < l → Holds calls (from words (n + i)) t rest → x ≤ finalMark calls (base + (n + i)) t
+        behind : (i : ℕ) (t : Term) (rest : List ℕ) → i < l → Holds calls (from words (n + i)) t rest
+            → x ≤ finalMark calls (base + (n + i)) t
         behind i t rest lt h = subst (λ (j : ℕ). x ≤ finalMark calls j t) (placed base n i)
             (q .marks i t rest lt (subst (λ (ws : List ℕ). Holds calls ws t rest) (sym (from-from words n i)) h))
 
-        go : (i : ℕ) (t : Term) (rest : List ℕ) → i < n + l → Holds calls (from words i) t rest → Dec (i < n) → x ≤ finalMark calls (base + i) t
+        go : (i : ℕ) (t : Term) (rest : List ℕ) → i < n + l → Holds calls (from words i) t rest → Dec (i < n)
+            → x ≤ finalMark calls (base + i) t
         go i t rest lt h (yes b) = p .marks i t rest b h
         go i t rest lt h (no b) =
             let e : n + (i - n) ≡ i = omega (arith, b) in
@@ -103,7 +106,8 @@ flat-mark calls p (unit A) e = omega arith
 -- whether a node is a let that can be dropped, and its mark
 data Judged (calls : List ℕ) (p : ℕ) (t : Term) : Type 0 where
   stays : contract (mayDrop calls) (rules Dropping) t ≡ none → 65536 ≤ finalMark calls p t → Judged calls p t
-  drops : (c : Contraction) → contract (mayDrop calls) (rules Dropping) t ≡ some c → c .rule ≡ Drop → finalMark calls p t ≡ p → Judged calls p t
+  drops : (c : Contraction) → contract (mayDrop calls) (rules Dropping) t ≡ some c → c .rule ≡ Drop → finalMark calls p t ≡ p
+      → Judged calls p t
 
 judge : (calls : List ℕ) (p : ℕ) (t : Term) → Judged calls p t
 unfolding contract fire rules dropRule asBind partsOf node finalMark openMark inner uses

@@ -95,7 +95,8 @@ module _ (tables : Tables) where
   pub same-without-units : (limit : ℕ) (words : List ℕ) → NoUnitType (tables .types) → NoUnitNode words
       → elaborate limit tables words ≡ formerElaborate limit tables words
   same-without-units limit words h j = elaborate-by limit tables words
-      ∙ ap₂ (λ (a b : Bool). elaborateBy a (wellFormedCalls tables) b limit tables words) (types-same 0 (tables .types) h) (words-same words j)
+      ∙ ap₂ (λ (a b : Bool). elaborateBy a (wellFormedCalls tables) b limit tables words) (types-same 0 (tables .types) h)
+      (words-same words j)
 
 -- what the former checks 2 and 6 passed has no unit
 pub types-without : (i : ℕ) (ws : List ℕ) → T (formerTypes i ws) → NoUnitType ws

@@ -106,7 +106,8 @@ word c = counted c .before .args .w
 abbrev test : Known → ℕ → Bool
 test c i = field (types c) (counted c .arguments .result) i (argumentOf (word c) i)
 
-tested : (c : Known) (i a : ℕ) (b : Bool) → a ≡ argumentOf (word c) i → b ≡ field (types c) (counted c .arguments .result) i a → b ≡ test c i
+tested : (c : Known) (i a : ℕ) (b : Bool) → a ≡ argumentOf (word c) i → b ≡ field (types c) (counted c .arguments .result) i a
+    → b ≡ test c i
 tested c i a b e h = h ∙ ap (field (types c) (counted c .arguments .result) i) e
 
 first-test : (c : First) → c .field-fits .result ≡ test (known c) 0
@@ -119,7 +120,8 @@ second-test c = tested (known (first (at-second c))) 1 _ _ (c .before .argument2
 left-0 : (c : Known) → Left (types c) (word c) (test c 0 ∷ test c 1 ∷ test c 2 ∷ [])
 left-0 c =
     let r : tie.After-result = search in
-    fields-left (types c) (word c) _ (counted c .arguments .ensures .0) (omega (arith, r .before .if1 .left)) _ (r .result .ensures) (c .if2 .left)
+    fields-left (types c) (word c) _ (counted c .arguments .ensures .0) (omega (arith, r .before .if1 .left)) _ (r .result .ensures)
+    (c .if2 .left)
 
 left-1 : (c : tie.Else3) → let k = known (first c) in Left (types k) (word k) (test k 1 ∷ test k 2 ∷ [])
 left-1 c = passes (left-0 (known (first c))) (first-test (first c)) (c .if3 .left)
@@ -137,7 +139,8 @@ call-fits-spec =
     (λ c.
     let k : tie.After-arguments = search in
     let r : tie.After-result = search in
-    unknown _ (k .before .args .w) _ (k .arguments .ensures .0) (omega (arith, r .before .if1 .left)) _ (r .result .ensures) (c .if2 .taken))
+    unknown _ (k .before .args .w) _ (k .arguments .ensures .0) (omega (arith, r .before .if1 .left)) _ (r .result .ensures)
+    (c .if2 .taken))
     (λ c κs. search needs)
     (λ c κs. search needs)
     (λ c. fails (left-0 (search)) (first-test (search)) (c .if3 .taken))

@@ -32,24 +32,24 @@ state phase words start end left counts second refusal = record {
 }
 
 abbrev Inv-loop : tie.InvT-loop
-Inv-loop calls current₀ begin budget second₀ acting pending₀ counts₀ left₀ phase refusal₀ start₀ end₀ current second pending counts left refusal
-    start end =
+Inv-loop calls current₀ begin budget second₀ acting pending₀ counts₀ left₀ phase refusal₀ start₀ end₀ current second pending counts left
+    refusal start end =
     Arrives calls (state phase current₀ start₀ end₀ left₀ counts₀ second₀ refusal₀)
     (state phase current start end left counts second refusal) × (length pending ≡ 8194)
 
 abbrev μ-loop : tie.MeasureT-loop
-μ-loop calls current₀ begin budget second₀ acting pending₀ counts₀ left₀ phase refusal₀ start₀ end₀ current second pending counts left refusal
-    start end = left
+μ-loop calls current₀ begin budget second₀ acting pending₀ counts₀ left₀ phase refusal₀ start₀ end₀ current second pending counts left
+    refusal start end = left
 
 abbrev Inv-reduce : tie.InvT-reduce
-Inv-reduce calls current₀ begin budget second₀ acting pending₀ counts₀ left₀ phase₀ refusal₀ start₀ end₀ current second pending counts left phase
-    refusal start end =
+Inv-reduce calls current₀ begin budget second₀ acting pending₀ counts₀ left₀ phase₀ refusal₀ start₀ end₀ current second pending counts left
+    phase refusal start end =
     Arrives calls (initial current₀ begin budget second₀) (state phase current start end left counts second refusal)
     × (length pending ≡ 8194)
 
 abbrev μ-reduce : tie.MeasureT-reduce
-μ-reduce calls current₀ begin budget second₀ acting pending₀ counts₀ left₀ phase₀ refusal₀ start₀ end₀ current second pending counts left phase
-    refusal start end = phasesAfter phase
+μ-reduce calls current₀ begin budget second₀ acting pending₀ counts₀ left₀ phase₀ refusal₀ start₀ end₀ current second pending counts left
+    phase refusal start end = phasesAfter phase
 
 -- the places, and the way back from each to the one above it
 abbrev Entry : Type 0
@@ -145,7 +145,8 @@ onward : (c : Sought) (next : Phase)
     let s = entry (phase-of h) .args in
     let l = h .loop in
     Follows (phase-of h .reduce .phase) next → Arrives (s .calls .now) (initial (s .current .now) (s .begin) (s .budget) (s .second .now))
-    (state next (c .seek .last .0) 0 (c .seek .result) (l .left) (l .counts) (turned c .take-turn .last .1 .1 .1 .1 .1 .1 .1 .0) (l .refusal)))
+    (state next (c .seek .last .0) 0 (c .seek .result) (l .left) (l .counts) (turned c .take-turn .last .1 .1 .1 .1 .1 .1 .1 .0)
+    (l .refusal)))
 onward c next f =
     let s : Stopped = search in
     let t = turned c in

@@ -35,7 +35,8 @@ may-drop-spec =
     let k : tie.After-kind = search in
     let n : tie.After-number = search in
     let t : tie.Then1 = search in
-    ap not (c .call-acts .ensures ∙ ap (acts (s .args .calls .now)) (n .number .ensures)) ∙ a-call _ _ _ (sym (k .kind .ensures) ∙ t .if1 .taken))
+    ap not (c .call-acts .ensures ∙ ap (acts (s .args .calls .now)) (n .number .ensures))
+    ∙ a-call _ _ _ (sym (k .kind .ensures) ∙ t .if1 .taken))
     (λ c.
     let s : tie.Start = search in
     let k : tie.After-kind = search in

@@ -30,7 +30,8 @@ Inv-loop calls acting t used₀ depth base owed₀ later₀ fresh₀ under₀ at
     Scanning calls t base depth used₀ used owed later under at fresh first
 
 abbrev μ-loop : lts.MeasureT-loop
-μ-loop calls acting t used₀ depth base owed₀ later₀ fresh₀ under₀ at₀ first₀ used owed later fresh under at first = 16 * (length t - at) + later
+μ-loop calls acting t used₀ depth base owed₀ later₀ fresh₀ under₀ at₀ first₀ used owed later fresh under at first =
+    16 * (length t - at) + later
 
 -- the type of a place of the code
 abbrev Place : Type 1
@@ -226,7 +227,10 @@ module _ (m : ℕ) where
       (λ c. omega (arith, reach (search)))
       (λ c κs. (
         omega (arith, fewer (search)),
-        ((starts (search), room (search), let l : Head = search in entry l .pre .1 .0 .2), (omega (arith, rest (search), reach (search)), omega (arith, rest (search), reach (search)))),
+        (
+          (starts (search), room (search), let l : Head = search in entry l .pre .1 .0 .2),
+          (omega (arith, rest (search), reach (search)), omega (arith, rest (search), reach (search))),
+        ),
       ))
       (λ c κs. search needs)
       (λ c. omega (arith, moved (search), reach (search)))

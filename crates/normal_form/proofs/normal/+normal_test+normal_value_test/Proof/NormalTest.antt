@@ -30,7 +30,8 @@ use Rattle.normal_form.proofs.normal.+normal_test+normal_value_test.Lts
 use Rattle.normal_form.proofs.normal.+normal_test+normal_value_test.Proof.Measures.{normal-test-at, normal-test-claims}
 
 abbrev Inv-loop : lts.InvT-loop
-Inv-loop calls acting t used₀ depth w k n at₀ j₀ used at j = Testing isNormalForm (partPasses calls k (firstDroppable calls t)) calls t used₀ depth k used n at j
+Inv-loop calls acting t used₀ depth w k n at₀ j₀ used at j =
+    Testing isNormalForm (partPasses calls k (firstDroppable calls t)) calls t used₀ depth k used n at j
 
 abbrev μ-loop : lts.MeasureT-loop
 μ-loop calls acting t used₀ depth w k n at₀ j₀ used at j = n - j
