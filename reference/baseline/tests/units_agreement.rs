@@ -8,7 +8,7 @@ use oracle::listing;
 use sampled::*;
 use tools::generate::damage::flip_a_bit;
 use tools::generate::each::{each_unit_sample, unit_sample};
-use tools::generate::examples::plate;
+use tools::generate::later_examples::plate;
 use tools::generate::limits::Limits;
 use tools::generate::unit_damage::{broken_unit_samples, UNIT_DAMAGES};
 use tools::generate::unit_shapes::*;

@@ -12,6 +12,7 @@ pub mod each;
 pub mod examples;
 pub mod ill_typed;
 pub mod inputs;
+pub mod later_examples;
 pub mod limits;
 pub mod long_readings;
 pub mod phrases;

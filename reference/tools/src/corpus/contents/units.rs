@@ -2,7 +2,7 @@
 //! terms at their limits.
 
 use super::{Contents, LONGEST_BUFFER};
-use crate::generate::examples::plate;
+use crate::generate::later_examples::plate;
 use crate::generate::limits::Limits;
 use crate::generate::terms::random_sample;
 use crate::generate::unit_damage::{broken_unit_samples, UNIT_DAMAGES};
