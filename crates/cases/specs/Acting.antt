@@ -5,10 +5,10 @@ use mathlib.Core.Bool.{true, false}
 use mathlib.Core.List.{List, [], _∷_, _++_}
 use Rattle.syntax.specs.Words.{pack}
 use Rattle.syntax.specs.Tables.{Tables, over}
-use Rattle.syntax.specs.Term.{Term, call, lam, app, bind, pair, fst, snd, case, done, arg}
+use Rattle.syntax.specs.Term.{Term, call, lam, app, bind, fst, snd, case, done, arg}
 use Rattle.syntax.specs.Encoding.{encode}
 use Rattle.reduction.specs.Reduction.{Counts, zeroCounts}
-use Rattle.semantics.specs.Value.{Value, Values, num, left, right, Trace}
+use Rattle.semantics.specs.Value.{Value, num, right, Trace}
 use Rattle.semantics.specs.Run.{RunOutcome, ended, stuck, spent, run}
 use Rattle.semantics.specs.Claim.{actingCalls}
 use Rattle.cases.specs.Table.{Case, tablesWith, c, d, v0, v1, acceptsOver, refuses}

@@ -1,6 +1,6 @@
 -- What may be dropped shows at the first node, and so at the first word.
 use Prim.Native.Nat.{ℕ}
-use mathlib.Core.Path.{_≡_, refl, sym, _∙_, ap, ap₂}
+use mathlib.Core.Path.{_≡_, refl, _∙_, ap₂}
 use mathlib.Core.List.{List}
 use lib.ListN.{getD}
 use Rattle.syntax.specs.Words.{kindOf, numberOf}

@@ -8,7 +8,7 @@ use lib.Dec.{T}
 use Prim.Native.Nat.{ℕ, zero, suc}
 use native.Mathlib.Omega.{arith}
 use Rattle.syntax.specs.Tables.{acts, someActs}
-use Rattle.syntax.specs.Term.{Term, Terms, var}
+use Rattle.syntax.specs.Term.{Term, Terms}
 use Rattle.syntax.specs.Lists.{filter}
 use Rattle.syntax.proofs.CallWords.{none-acts}
 use Rattle.syntax.proofs.Filters.{filter-append, filter-none}

@@ -5,7 +5,7 @@ use mathlib.Core.Path.{_≡_, refl, sym, _∙_, ap, ap₂, subst}
 use mathlib.Core.Bool.{Bool, true, false, _&&_, _||_, not}
 use mathlib.Core.List.{List, [], _∷_}
 use mathlib.Core.Logic.{_≢_}
-use mathlib.Core.Option.{Option, some, none}
+use mathlib.Core.Option.{some}
 use lib.Dec.{T, leb, ltb, eqb, leb→le}
 use lib.ListN.{length, take, drop, getD, getElem?}
 use borrow.Author.Tests.{lt-leb}
@@ -13,7 +13,7 @@ use Prim.Native.Nat.{ℕ, zero, suc, _≤_}
 use native.Mathlib.Omega.{arith}
 use Rattle.syntax.specs.Lists.{any}
 use Rattle.syntax.specs.Maybe.{_>>=_}
-use Rattle.syntax.specs.Words.{countOf, actsOf, arityOf, resultOf, argumentFields}
+use Rattle.syntax.specs.Words.{countOf, actsOf, resultOf, argumentFields}
 use Rattle.syntax.specs.Tables.{Tables, Signature, signatureOf, signature, arity, someActs}
 use Rattle.syntax.proofs.Options.{and-left, and-right}
 use Rattle.syntax.proofs.CallWords.{arity-is-count, arities-are-counts, or-false-left, or-false-right}

@@ -1,9 +1,8 @@
 -- Only a let's body has to use its variable, and only if what the let binds may be dropped.
-use mathlib.Core.Path.{_≡_, sym, _∙_, ap}
-use mathlib.Core.Bool.{Bool, true, _||_, not}
+use mathlib.Core.Path.{_≡_, _∙_, ap}
+use mathlib.Core.Bool.{Bool, true, not}
 use Prim.Native.Nat.{ℕ, _≤_, _<_}
 use native.Mathlib.Omega.{arith}
-use lib.Dec.{leb}
 use borrow.Author.Tests.{eq-eqb, ne-eqb, le-leb, lt-leb}
 use Rattle.normal_form.specs.Roles.{keepsVariable}
 use Rattle.normal_form.proofs.normal.keeps.Statement.{statement}

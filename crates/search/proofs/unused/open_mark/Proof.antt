@@ -1,10 +1,8 @@
 -- Why `open_mark` is right. A let that binds a computation that may be dropped has its place for a mark, any other node 65536. What a let
 -- binds may be dropped or not by its first word; it is a computation if its kind is no value's, or else if the value test says so.
 use native.Mathlib.Omega.{arith}
-use Prim.Native.Nat.{ℕ, _+_, _≤_}
+use Prim.Native.Nat.{_+_, _≤_}
 use mathlib.Core.Path.{_≡_, sym, _∙_, ap}
-use mathlib.Core.Bool.{true}
-use mathlib.Core.List.{List}
 use lib.ListN.{length, getD}
 use borrow.Author.Needs.{needs}
 use borrow.Author.Tests.{not-true, not-false}

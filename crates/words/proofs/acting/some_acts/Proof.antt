@@ -1,7 +1,6 @@
 -- No call before i acts.
 use Prim.Native.Nat.{_-_}
 use mathlib.Core.Path.{sym, _∙_}
-use borrow.Author.Tests.{not-true, not-false}
 use lib.ListN.{length}
 use Rattle.syntax.specs.Words.{actsOf}
 use Rattle.words.proofs.AnyWord.{NoneBefore, none-before-first, word-passes, word-fails, none-passes}
