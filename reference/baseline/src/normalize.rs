@@ -5,6 +5,7 @@ use crate::rewrite::Buffers;
 use crate::walk::{walk, Record};
 use oracle::api::{Answer, LARGEST_CAPACITY};
 use oracle::checks::{Refusal, LONGEST_TO_NORMALIZE};
+use oracle::settings::Settings;
 
 /// Normalizes. The normal form fills the front of `output`, which is left unchanged on a refusal;
 /// the scratch buffers are zero afterwards.
@@ -14,13 +15,13 @@ pub fn normalize(
     calls: &[u64],
     inputs: &[u64],
     term: &[u64],
-    budget: u32,
+    settings: Settings,
     output: &mut [u64],
     first_scratch: &mut [u64],
     second_scratch: &mut [u64],
 ) -> Answer {
     let buffers = [output, first_scratch, second_scratch];
-    normalize_and_measure(types, calls, inputs, term, budget, buffers).0
+    normalize_and_measure(types, calls, inputs, term, settings, buffers).0
 }
 
 /// The same, and the length of the longest term on the walk.
@@ -29,7 +30,7 @@ pub fn normalize_and_measure(
     calls: &[u64],
     inputs: &[u64],
     term: &[u64],
-    budget: u32,
+    settings: Settings,
     [output, first_scratch, second_scratch]: [&mut [u64]; 3],
 ) -> (Answer, usize) {
     let capacity = output
@@ -49,7 +50,7 @@ pub fn normalize_and_measure(
             return Err(Refusal::Capacity);
         }
         buffers.current[..term.len()].copy_from_slice(term);
-        walk(&mut buffers, calls, budget, capacity, &mut record)?;
+        walk(&mut buffers, calls, settings, capacity, &mut record)?;
         Ok(type_number)
     });
     let answer = match result {

@@ -4,7 +4,7 @@ use crate::normalize;
 use oracle::api::{Answer, LARGEST_CAPACITY};
 use oracle::bundle::read_bundle;
 use oracle::checks::Refusal;
-use oracle::listing::BUDGET;
+use oracle::listing::SETTINGS;
 use std::io::Write;
 
 /// The program's output for these bytes of standard input.
@@ -26,7 +26,7 @@ pub fn respond(bytes: &[u8]) -> Vec<u8> {
         calls,
         inputs,
         &rest[..lengths.term],
-        BUDGET,
+        SETTINGS,
         &mut output,
         &mut first_scratch,
         &mut second_scratch,

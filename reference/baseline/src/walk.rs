@@ -1,4 +1,4 @@
-//! The walk: three phases, each a loop of search, budget, measure, capacity and rewriting.
+//! The walk: three phases, each a loop of search, budget, ceiling, measure, capacity and rewriting.
 
 use crate::depths::Depths;
 use crate::measure::measure;
@@ -9,6 +9,7 @@ use crate::usage::Usage;
 use oracle::checks::Refusal;
 use oracle::reduction::Counts;
 use oracle::rules::{Phase, PHASES};
+use oracle::settings::Settings;
 
 /// What a walk did, up to its end or a refusal.
 #[derive(Default)]
@@ -18,11 +19,11 @@ pub struct Record {
     pub longest: usize,
 }
 
-/// Walks the current term to its normal form within the budget and the capacity.
+/// Walks the current term to its normal form within the settings and the capacity.
 pub fn walk(
     buffers: &mut Buffers,
     calls: &[u64],
-    budget: u32,
+    settings: Settings,
     capacity: usize,
     record: &mut Record,
 ) -> Result<(), Refusal> {
@@ -30,12 +31,17 @@ pub fn walk(
     let mut depths = Depths::new();
     let mut substitution = Substitution::new();
     let mut usage = Usage::new(calls);
-    let mut remaining = budget;
+    let mut remaining = settings.budget;
+    let mut allowed = settings.ceilings;
     for phase in PHASES {
         let mut from = 0;
         while let Some(redex) = first_redex(phase, buffers.term(), from, calls, &mut usage) {
             if remaining == 0 {
                 return Err(Refusal::Budget);
+            }
+            let allowed = &mut allowed[redex.rule as usize];
+            if *allowed == 0 {
+                return Err(Refusal::Ceiling);
             }
             let measured = measure(buffers.term(), redex, calls, &mut depths);
             if measured.next_length > capacity {
@@ -43,6 +49,7 @@ pub fn walk(
             }
             buffers.rewrite(measured.plan, calls, &mut depths, &mut substitution);
             remaining -= 1;
+            *allowed -= 1;
             record.counts[redex.rule as usize] += 1;
             record.longest = record.longest.max(buffers.length);
             from = match phase {

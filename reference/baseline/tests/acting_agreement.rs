@@ -1,10 +1,12 @@
 //! Both implementations on samples with calls that act.
 
 mod compared;
+mod random_terms;
 mod sampled;
 
-use compared::{agree, agree_on_random_terms};
+use compared::agree;
 use oracle::listing;
+use random_terms::agree_on_random_terms;
 use sampled::*;
 use tools::generate::acting::small_acting;
 use tools::generate::acting_damage::{broken_acting_samples, ACTING_DAMAGES};

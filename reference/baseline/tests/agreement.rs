@@ -1,10 +1,12 @@
 //! The normalizer on words against the tree implementation: answers and all words of the buffers.
 
 mod compared;
+mod random_terms;
 
-use compared::{agree, agree_on_random_terms, outcome};
+use compared::{agree, outcome};
 use oracle::api::Answer;
 use oracle::listing;
+use random_terms::agree_on_random_terms;
 use tools::generate::boundaries::*;
 use tools::generate::bundles::BUNDLE_DAMAGES;
 use tools::generate::damage::{apply_damages, damages};
@@ -95,11 +97,7 @@ fn lengths_at_their_limits() {
 fn slow_shapes_at_moderate_size() {
     for Shape { name, sample } in moderate_shapes().into_iter().chain(moderate_deep_shapes()) {
         let answer = agree(&sample, Limits::OF_PROGRAM, name);
-        let budget = steps(&answer).saturating_sub(1);
-        let limits = Limits {
-            budget,
-            ..Limits::OF_PROGRAM
-        };
+        let limits = Limits::with_budget(steps(&answer).saturating_sub(1));
         agree(&sample, limits, name);
     }
 }
@@ -140,8 +138,8 @@ fn shapes_take_the_steps_they_are_named_for() {
     // The longest term comes within the first hundred steps; all of them take seconds.
     for (length, refusal) in [(3371, 10), (3370, 11)] {
         let limits = Limits {
-            budget: 1000,
             lengths: [length; 3],
+            ..Limits::with_budget(1000)
         };
         let answer = outcome(baseline::normalize, &padded, limits).0;
         assert_eq!(answer.refusal, refusal);
@@ -169,10 +167,6 @@ fn listings() {
 fn typical_terms() {
     for sample in typical(25, 300) {
         assert!((13..=110).contains(&sample.term.len()));
-        let limits = Limits {
-            budget: 3000,
-            ..Limits::OF_PROGRAM
-        };
-        agree(&sample, limits, "typical");
+        agree(&sample, Limits::with_budget(3000), "typical");
     }
 }

@@ -1,10 +1,12 @@
 //! Both implementations on samples with units.
 
 mod compared;
+mod random_terms;
 mod sampled;
 
-use compared::{agree, agree_on_random_terms};
+use compared::agree;
 use oracle::listing;
+use random_terms::agree_on_random_terms;
 use sampled::*;
 use tools::generate::damage::flip_a_bit;
 use tools::generate::each::{each_unit_sample, unit_sample};
@@ -47,8 +49,8 @@ fn terms_that_become_as_long_as_they_may() {
     for (injections, length, refusal) in [(0, 8192, 0), (1, 8192, 0), (1, 8191, 11), (2, 9000, 11)]
     {
         let limits = Limits {
-            budget: 1,
             lengths: [length, 9000, 8192],
+            ..Limits::with_budget(1)
         };
         let answer = agree(&copied_units(6, injections), limits, "copies");
         assert_eq!(answer.refusal, refusal);

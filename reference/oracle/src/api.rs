@@ -7,6 +7,7 @@ use crate::deep_stack::with_deep_stack;
 use crate::dialect::Dialect;
 use crate::normal_form::no_rule_fits;
 use crate::reduction::{walk, Counts};
+use crate::settings::Settings;
 
 /// The largest capacity (the paper's room).
 pub const LARGEST_CAPACITY: usize = 8192;
@@ -48,7 +49,7 @@ impl Answer {
 
 /// The signature of `normalize`, which other implementations share.
 pub type Normalize =
-    fn(&[u64], &[u64], &[u64], &[u64], u32, &mut [u64], &mut [u64], &mut [u64]) -> Answer;
+    fn(&[u64], &[u64], &[u64], &[u64], Settings, &mut [u64], &mut [u64], &mut [u64]) -> Answer;
 
 /// The type check.
 pub fn check(types: &[u64], calls: &[u64], inputs: &[u64], term: &[u64]) -> CheckAnswer {
@@ -68,13 +69,13 @@ pub fn normalize(
     calls: &[u64],
     inputs: &[u64],
     term: &[u64],
-    budget: u32,
+    settings: Settings,
     output: &mut [u64],
     first_scratch: &mut [u64],
     second_scratch: &mut [u64],
 ) -> Answer {
     let buffers = [output, first_scratch, second_scratch];
-    Dialect::CURRENT.normalize(types, calls, inputs, term, budget, buffers)
+    Dialect::CURRENT.normalize(types, calls, inputs, term, settings, buffers)
 }
 
 /// The calls in any dialect.
@@ -121,7 +122,7 @@ impl Dialect {
         calls: &[u64],
         inputs: &[u64],
         term: &[u64],
-        budget: u32,
+        settings: Settings,
         [output, first_scratch, second_scratch]: [&mut [u64]; 3],
     ) -> Answer {
         let capacity = output
@@ -131,7 +132,7 @@ impl Dialect {
             .min(LARGEST_CAPACITY);
         let result = with_deep_stack(|| {
             let checked = examine_in(self, types, calls, inputs, term, LONGEST_TO_NORMALIZE);
-            normal_form_words(checked, budget, capacity)
+            normal_form_words(checked, settings, capacity)
         });
         first_scratch.fill(0);
         second_scratch.fill(0);
@@ -148,11 +149,11 @@ impl Dialect {
 /// The answer with the normal form's words, or the refusing answer.
 fn normal_form_words(
     checked: Result<Checked, Refusal>,
-    budget: u32,
+    settings: Settings,
     capacity: usize,
 ) -> Result<(Answer, Vec<u64>), Answer> {
     let checked = checked.map_err(|refusal| Answer::refused(refusal, [0; 10]))?;
-    let (normal_form, counts) = walk(&checked.tables, checked.term, budget, capacity)
+    let (normal_form, counts) = walk(&checked.tables, checked.term, settings, capacity)
         .map_err(|stopped| Answer::refused(stopped.refusal, stopped.counts))?;
     let words = encode(&normal_form);
     let answer = Answer {

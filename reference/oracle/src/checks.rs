@@ -23,6 +23,7 @@ pub enum Refusal {
     Budget = 10,
     Capacity = 11,
     Bundle = 12,
+    Ceiling = 13,
 }
 
 impl Refusal {

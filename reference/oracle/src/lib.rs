@@ -15,6 +15,7 @@ pub mod reduction;
 pub mod rules;
 pub mod run;
 pub mod search;
+pub mod settings;
 pub mod subformula;
 pub mod substitution;
 pub mod tables;

@@ -4,9 +4,10 @@ use crate::api::{Answer, LARGEST_CAPACITY};
 use crate::bundle::read_bundle;
 use crate::checks::Refusal;
 use crate::dialect::Dialect;
+use crate::settings::Settings;
 
-/// The budget of the program.
-pub const BUDGET: u32 = 1_000_000;
+/// The settings of the program.
+pub const SETTINGS: Settings = Settings::no_ceilings(1_000_000);
 
 /// Writes the listing to the front of `text` and answers its length. If `text` is too short, or
 /// there are fewer `words` than an accepted answer's length, it answers 0 and `text` is unchanged.
@@ -61,7 +62,7 @@ impl Dialect {
             let mut first_scratch = vec![0; LARGEST_CAPACITY];
             let mut second_scratch = vec![0; LARGEST_CAPACITY];
             let buffers = [&mut output[..], &mut first_scratch, &mut second_scratch];
-            self.normalize(types, calls, inputs, term, BUDGET, buffers)
+            self.normalize(types, calls, inputs, term, SETTINGS, buffers)
         } else {
             Answer::refused(Refusal::Bundle, [0; 10])
         };

@@ -3,6 +3,7 @@
 use crate::checks::Refusal;
 use crate::rules::{growth, rewrite, Rule, PHASES};
 use crate::search::{first_redex, Redex};
+use crate::settings::Settings;
 use crate::tables::Tables;
 use crate::term::Term;
 use std::mem::replace;
@@ -33,12 +34,12 @@ pub struct Stopped {
     pub counts: Counts,
 }
 
-/// Walks to the normal form (the paper's flat form) within a budget of steps and a capacity
-/// (the paper's room) of words.
+/// Walks to the normal form (the paper's flat form) within the settings' budget and ceilings and a
+/// capacity (the paper's room) of words.
 pub fn walk(
     tables: &Tables,
     mut term: Term,
-    budget: u32,
+    settings: Settings,
     capacity: usize,
 ) -> Result<(Term, Counts), Stopped> {
     let mut counts = [0; 10];
@@ -50,8 +51,11 @@ pub fn walk(
     }
     for phase in PHASES {
         while let Some(redex) = first_redex(tables, &term, phase) {
-            if steps == budget {
+            if steps == settings.budget {
                 return stop(Refusal::Budget, counts);
+            }
+            if settings.ceiling_is_met(redex.rule, &counts) {
+                return stop(Refusal::Ceiling, counts);
             }
             let node = term.node_mut(redex.index);
             let next_size = grown(size, growth(redex.rule, node));

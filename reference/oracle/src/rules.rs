@@ -21,6 +21,20 @@ pub enum Rule {
     Drop,
 }
 
+/// All of them.
+pub const RULES: [Rule; 10] = [
+    Rule::LetInsertion,
+    Rule::LetOfLet,
+    Rule::LetOfCase,
+    Rule::Apply,
+    Rule::First,
+    Rule::Second,
+    Rule::LeftCase,
+    Rule::RightCase,
+    Rule::LetValue,
+    Rule::Drop,
+];
+
 /// The names of the rules in the same order.
 pub const RULE_NAMES: [&str; 10] = [
     "let",

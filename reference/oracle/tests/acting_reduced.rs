@@ -9,6 +9,7 @@ use oracle::normal_form::{in_grammar, no_rule_fits};
 use oracle::reduction::{sequence, walk};
 use oracle::rules::PHASES;
 use oracle::search::first_redex;
+use oracle::settings::Settings;
 use oracle::subformula::has_subformula_property;
 use oracle::typing::node_types;
 use tools::generate::each::each_acting_sample;
@@ -47,7 +48,8 @@ fn larger_normal_forms_keep_type_and_part_types() {
     each_acting_sample(122, 300, 400, |_, sample| {
         let checked = sample.examine().expect("generated samples are well typed");
         let tables = &checked.tables;
-        let Ok((normal_form, _)) = walk(tables, checked.term, 4000, 8192) else {
+        let Ok((normal_form, _)) = walk(tables, checked.term, Settings::no_ceilings(4000), 8192)
+        else {
             return;
         };
         let types = node_types(tables, &normal_form).expect("normal forms are typed");
@@ -77,7 +79,7 @@ fn the_flat_test_agrees_with_grammar_and_walk() {
     each_acting_sample(124, 20_000, 12, |_, sample| {
         let Checked { tables, term, .. } =
             sample.examine().expect("generated samples are well typed");
-        let takes_no_step = walk(&tables, term.clone(), 0, 8192).is_ok();
+        let takes_no_step = walk(&tables, term.clone(), Settings::no_ceilings(0), 8192).is_ok();
         assert_eq!(no_rule_fits(&tables, &term), takes_no_step);
         assert_eq!(in_grammar(&tables, &term), takes_no_step);
         assert_eq!(sample.is_normal().normal, takes_no_step);
@@ -96,13 +98,13 @@ fn normal_forms_are_normal_by_every_test() {
     each_acting_sample(125, 2000, 60, |_, sample| {
         let Checked { tables, term, .. } =
             sample.examine().expect("generated samples are well typed");
-        if let Ok((normal_form, _)) = walk(&tables, term, 1000, 4000) {
+        if let Ok((normal_form, _)) = walk(&tables, term, Settings::no_ceilings(1000), 4000) {
             let later = Sample {
                 term: encode(&normal_form),
                 ..sample
             };
             assert!(later.is_normal().normal);
-            assert!(walk(&tables, normal_form, 0, 4000).is_ok());
+            assert!(walk(&tables, normal_form, Settings::no_ceilings(0), 4000).is_ok());
         }
     });
 }

@@ -6,6 +6,7 @@ mod runs;
 use oracle::checks::Checked;
 use oracle::reduction::walk;
 use oracle::run::CallRecord;
+use oracle::settings::Settings;
 use oracle::tables::Tables;
 use runs::{run_walk, MOST_WORDS};
 use tools::generate::each::each_acting_sample;
@@ -53,7 +54,12 @@ fn each_acting_call_is_made_in_order() {
             // The normal form over a table in which no call acts, run beside.
             let plain = sample.without_acting_calls().examine();
             let plain = plain.expect("the types are the same").tables;
-            let old = walk(&plain, term.clone(), u32::MAX, MOST_WORDS);
+            let old = walk(
+                &plain,
+                term.clone(),
+                Settings::no_ceilings(u32::MAX),
+                MOST_WORDS,
+            );
             let (old_form, _) = old.expect("the same terms up to phase 3");
             let old_run = run_term(tables, &old_form, inputs, seed).expect("shorter runs end");
             let loses = acting_calls(tables, &old_run.trace) != acting;

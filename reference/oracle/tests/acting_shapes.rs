@@ -11,7 +11,7 @@ use tools::generate::Sample;
 fn reduces(sample: &Sample, words: usize, counts: Counts, length: usize) {
     let limits = Limits::OF_PROGRAM;
     let mut buffers = limits.lengths.map(|length| vec![0; length]);
-    let answer = sample.normalize(normalize, limits.budget, &mut buffers);
+    let answer = sample.normalize(normalize, limits.settings, &mut buffers);
     assert_eq!(sample.term.len(), words);
     assert_eq!(
         (answer.refusal, answer.counts, answer.length),

@@ -4,6 +4,7 @@
 use oracle::api::{normalize, Answer};
 use oracle::bundle::{read_bundle, write_bundle};
 use oracle::listing::respond;
+use oracle::settings::Settings;
 use tools::generate::boundaries::*;
 use tools::generate::Sample;
 
@@ -17,7 +18,7 @@ fn check_refusal(sample: &Sample) -> u32 {
 /// Normalizes with slices of these lengths.
 fn normalize_with(sample: &Sample, budget: u32, lengths: [usize; 3]) -> Answer {
     let mut buffers = lengths.map(|length| vec![3; length]);
-    let answer = sample.normalize(normalize, budget, &mut buffers);
+    let answer = sample.normalize(normalize, Settings::no_ceilings(budget), &mut buffers);
     let [output, first, second] = buffers;
     assert!(output[answer.length..].iter().all(|&word| word == 3));
     assert!(first.iter().chain(&second).all(|&word| word == 0));

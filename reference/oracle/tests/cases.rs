@@ -4,6 +4,7 @@ use oracle::api::{check, is_normal, normalize, Answer};
 use oracle::bundle::{read_bundle, write_bundle, Lengths};
 use oracle::coding::encode;
 use oracle::listing::{listing, respond};
+use oracle::settings::Settings;
 use oracle::term::Term;
 use oracle::words::*;
 
@@ -52,7 +53,7 @@ fn flatten(inputs: &[u64], term: &Term, budget: u32, capacity: usize) -> (Answer
         &CALLS,
         inputs,
         &encode(term),
-        budget,
+        Settings::no_ceilings(budget),
         &mut output,
         &mut first_scratch,
         &mut second_scratch,

@@ -3,6 +3,7 @@
 use oracle::coding::encode;
 use oracle::free_inputs::{free_inputs, inputs_read, FreeInputs};
 use oracle::reduction::{sequence, walk};
+use oracle::settings::Settings;
 use oracle::term::Term;
 use tools::generate::each::each_sample_of_inputs;
 use tools::generate::inputs::{random_places, read_at};
@@ -54,7 +55,12 @@ fn an_unmarked_input_stays_unmarked_in_larger_normal_forms() {
     let mut accepted = 0;
     each_sample_of_inputs(48, 240, 400, |_, sample| {
         let checked = sample.examine().expect("generated samples are well typed");
-        let Ok((normal_form, _)) = walk(&checked.tables, checked.term, 4000, 8192) else {
+        let Ok((normal_form, _)) = walk(
+            &checked.tables,
+            checked.term,
+            Settings::no_ceilings(4000),
+            8192,
+        ) else {
             return;
         };
         let source = sample.free_inputs(free_inputs);
@@ -72,8 +78,13 @@ fn check_places(places: &[&Place], input: u64) {
     let source = sample.free_inputs(free_inputs);
     assert_eq!((source.refusal, source.count), (0, 1), "{names:?}");
     let checked = sample.examine().expect("readings are well typed");
-    let (normal_form, _) =
-        walk(&checked.tables, checked.term, 4000, 8192).expect("the walk is short");
+    let (normal_form, _) = walk(
+        &checked.tables,
+        checked.term,
+        Settings::no_ceilings(4000),
+        8192,
+    )
+    .expect("the walk is short");
     let is_kept = places.iter().all(|place| place.is_kept);
     let expected = if is_kept {
         source

@@ -11,6 +11,7 @@ use oracle::normal_form::{in_grammar, no_rule_fits};
 use oracle::reduction::{sequence, walk, Sequence};
 use oracle::rules::{Rule, PHASES};
 use oracle::search::first_redex;
+use oracle::settings::Settings;
 use oracle::subformula::{has_first_order_interface, has_subformula_property};
 use oracle::term::Term;
 use oracle::typing::node_types;
@@ -24,8 +25,8 @@ use walked::{check_sequence, counts, first_redex_by_definition};
 
 /// The words all terms of a listed walk may have together.
 const MOST_WORDS: usize = 300_000;
-/// The budget for the larger samples.
-const LARGE_BUDGET: u32 = 4000;
+/// The settings for the larger samples.
+const FOR_LARGE: Settings = Settings::no_ceilings(4000);
 
 /// Generates `count` samples and hands each with its decoded form to `test`.
 fn for_samples(
@@ -107,7 +108,7 @@ fn larger_normal_forms_have_the_subformula_property() {
     let mut accepted = 0;
     for_samples(5, 300, Profile::of_size(400), |_, _, checked| {
         let Checked { tables, term, .. } = checked;
-        let Ok((normal_form, counts)) = walk(tables, term.clone(), LARGE_BUDGET, 8192) else {
+        let Ok((normal_form, counts)) = walk(tables, term.clone(), FOR_LARGE, 8192) else {
             return;
         };
         accepted += 1;
@@ -168,7 +169,7 @@ fn check_normalize(
     });
     slices[random.below(3)].truncate(capacity);
     let before = slices[0].clone();
-    let answer = sample.normalize(normalize, budget as u32, &mut slices);
+    let answer = sample.normalize(normalize, Settings::no_ceilings(budget as u32), &mut slices);
     let [output, first, second] = slices;
     assert_eq!(answer, expected.0);
     assert_eq!(output[..answer.length], expected.1);
@@ -247,7 +248,7 @@ fn runs_of_larger_normal_forms_agree() {
     let profile = Profile::of_size(400).first_order();
     for_samples(8, 300, profile, |random, _, checked| {
         let Checked { tables, term, .. } = checked;
-        let Ok((normal_form, _)) = walk(tables, term.clone(), LARGE_BUDGET, 8192) else {
+        let Ok((normal_form, _)) = walk(tables, term.clone(), FOR_LARGE, 8192) else {
             return;
         };
         let inputs = random_inputs(random, tables);

@@ -3,6 +3,7 @@
 use oracle::api::{normalize, Answer};
 use oracle::bundle::{read_bundle, Lengths};
 use oracle::listing::respond;
+use oracle::settings::Settings;
 use std::collections::BTreeSet;
 use tools::generate::bundles::BUNDLE_DAMAGES;
 use tools::generate::damage::{apply_damages, damages, flip_a_bit, Damage};
@@ -22,7 +23,7 @@ fn refused(sample: &Sample, refusal: u32, why: &str) {
     let normal = sample.is_normal();
     assert_eq!((normal.refusal, normal.normal), (refusal, false), "{why}");
     let mut buffers = [vec![7; 40], vec![8; 50], vec![9; 30]];
-    let answer = sample.normalize(normalize, 100, &mut buffers);
+    let answer = sample.normalize(normalize, Settings::no_ceilings(100), &mut buffers);
     let expected = Answer {
         refusal,
         type_number: 0,
@@ -167,7 +168,7 @@ fn respond_lists_what_normalize_answers() {
             apply_damages(random, &mut sample, &[damage]);
         }
         let mut buffers = [vec![0; 8192], vec![0; 8192], vec![0; 8192]];
-        let answer = sample.normalize(normalize, 1_000_000, &mut buffers);
+        let answer = sample.normalize(normalize, Settings::no_ceilings(1_000_000), &mut buffers);
         let counts: String = answer.counts.iter().map(|n| format!(" {n}")).collect();
         let mut expected = match answer.refusal {
             0 => format!("ok {} {}{counts}\n", answer.type_number, answer.length),
@@ -191,7 +192,7 @@ fn flipped_bits_do_no_harm() {
         assert_eq!(checked.refusal, normal.refusal);
         assert!(checked.refusal <= 9);
         let mut buffers = [vec![7; 90], vec![8; 80], vec![9; 70]];
-        let answer = sample.normalize(normalize, 100, &mut buffers);
+        let answer = sample.normalize(normalize, Settings::no_ceilings(100), &mut buffers);
         match checked.refusal {
             0 => assert!(matches!(answer.refusal, 0 | 10 | 11)),
             refusal => assert_eq!(answer.refusal, refusal),

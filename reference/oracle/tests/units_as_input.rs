@@ -42,10 +42,10 @@ fn replace_units(term: &mut Term, number: u32) {
 fn check_as_input(sample: &Sample, limits: Limits) -> Option<bool> {
     let base = with_an_input_for_units(sample)?;
     let mut expected = limits.lengths.map(|length| vec![7; length]);
-    let answer = base.normalize_in(Dialect::Base, limits.budget, &mut expected);
+    let answer = base.normalize_in(Dialect::Base, limits.settings, &mut expected);
     let mut found = limits.lengths.map(|length| vec![7; length]);
     assert_eq!(
-        sample.normalize(normalize, limits.budget, &mut found),
+        sample.normalize(normalize, limits.settings, &mut found),
         answer
     );
     assert_eq!(sample.is_normal(), base.is_normal_in(Dialect::Base));

@@ -8,6 +8,7 @@ use oracle::normal_form::{in_grammar, no_rule_fits};
 use oracle::reduction::{sequence, walk};
 use oracle::rules::PHASES;
 use oracle::search::first_redex;
+use oracle::settings::Settings;
 use oracle::subformula::has_subformula_property;
 use oracle::term::Term;
 use oracle::typing::node_types;
@@ -49,7 +50,12 @@ fn larger_normal_forms_keep_type_and_part_types() {
     let (mut accepted, mut with_units) = (0, 0);
     each_unit_sample(84, 300, 400, |_, sample| {
         let checked = sample.examine().expect("generated samples are well typed");
-        let Ok((normal_form, _)) = walk(&checked.tables, checked.term, 4000, 8192) else {
+        let Ok((normal_form, _)) = walk(
+            &checked.tables,
+            checked.term,
+            Settings::no_ceilings(4000),
+            8192,
+        ) else {
             return;
         };
         let tables = &checked.tables;

@@ -18,6 +18,7 @@ use tools::examples::files;
 use tools::generate::long_readings::longest_readings;
 use tools::lines::bundles::bundle_line;
 use tools::lines::cases::case_line;
+use tools::lines::ceilings::ceilings_line;
 use tools::lines::inputs::inputs_line;
 use tools::lines::runs::run_line;
 use tools::lines::{lines, Line};
@@ -31,6 +32,7 @@ const USAGE: &str = "usage: reference SUBCOMMAND
                       the same, and both terms drawn as trees
   show --words        the words of a bundle, each with its fields and what it stands for
   cases SEED COUNT    lines of small cases with their answers
+  ceilings SEED COUNT lines of small cases with ceilings for the rules, and the answers of normalize
   bundles SEED COUNT  lines of small bundles with their listings
   runs SEED COUNT     lines of small terms with a run of each
   inputs SEED COUNT   lines of short terms over up to 256 inputs, with those they read
@@ -75,6 +77,7 @@ fn dispatch(arguments: &[String]) -> io::Result<bool> {
             show_standard_input(|shown| write_drawings(shown, before, after))
         }
         ["cases", seed, count] => print_lines(seed, count, case_line),
+        ["ceilings", seed, count] => print_lines(seed, count, ceilings_line),
         ["bundles", seed, count] => print_lines(seed, count, bundle_line),
         ["runs", seed, count] => print_lines(seed, count, run_line),
         ["inputs", seed, count] => print_lines(seed, count, inputs_line),

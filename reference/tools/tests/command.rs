@@ -177,6 +177,7 @@ fn has_unit_type(sample: &Sample) -> bool {
 fn the_last_lines_have_units() {
     for (subcommand, most_before, least) in [
         ("cases", 10, 70),
+        ("ceilings", 10, 70),
         ("runs", 0, 100),
         ("inputs", 10, 80),
         ("bundles", 10, 50),
@@ -196,6 +197,7 @@ fn the_last_lines_have_units() {
 fn the_lines_before_them_have_acting_calls() {
     for (subcommand, most_before, least) in [
         ("cases", 10, 75),
+        ("ceilings", 10, 75),
         ("runs", 0, 100),
         ("inputs", 10, 80),
         ("bundles", 10, 50),
@@ -220,6 +222,7 @@ fn anything_else_prints_the_usage() {
         &["nothing"],
         &["cases", "1"],
         &["cases", "x", "1"],
+        &["ceilings", "1"],
         &["show", "--svg", "file"],
         &["examples"],
         &["corpus", "file"],

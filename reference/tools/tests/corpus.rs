@@ -13,7 +13,7 @@ use std::fs::read;
 use std::path::Path;
 
 /// Both files together; the compiled test program holds neither, so this only keeps a clone small.
-const MOST_BYTES: usize = 4_500_000;
+const MOST_BYTES: usize = 4_700_000;
 
 #[test]
 fn committed_files_are_the_generated_ones() {
@@ -55,6 +55,7 @@ fn every_refusal_of_every_call_is_covered() {
     let mut expected = BTreeSet::from([("normal form", 0)]);
     expected.extend((0..10).flat_map(|refusal| [("check", refusal), ("normal", refusal)]));
     expected.extend((0..12).map(|refusal| ("normalize", refusal)));
+    expected.insert(("normalize", 13));
     expected.extend((0..10).map(|refusal| ("free_inputs", refusal)));
     // The program's budget is too large to be spent in a short test.
     let of_program = (0..13).filter(|&refusal| refusal != 10);

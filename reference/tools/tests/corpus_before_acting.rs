@@ -2,8 +2,10 @@
 //! them.
 
 mod answered;
+mod digested;
 
-use answered::{changes, digest};
+use answered::changes;
+use digested::digest;
 use oracle::dialect::Dialect;
 use std::collections::BTreeMap;
 use tools::corpus::contents::records;

@@ -1,8 +1,10 @@
 //! The records from before the unit type: their bytes, and their answers before it and with it.
 
 mod answered;
+mod digested;
 
-use answered::{changes, digest};
+use answered::changes;
+use digested::digest;
 use oracle::dialect::Dialect;
 use oracle::words::{pack_type, UNIT_TYPE};
 use std::collections::BTreeMap;

@@ -30,8 +30,8 @@ fn example(name: &str) -> Example {
 /// The words of the normal form, and the counts.
 fn normal_form(example: &Example) -> (Vec<u64>, Counts) {
     let Checked { tables, term, .. } = example.sample.examine().expect("a well-typed term");
-    let Limits { budget, lengths } = Limits::OF_PROGRAM;
-    let walked = walk(&tables, term, budget, lengths[0]);
+    let Limits { settings, lengths } = Limits::OF_PROGRAM;
+    let walked = walk(&tables, term, settings, lengths[0]);
     let (normal_form, counts) = walked.expect("a normal form");
     (encode(&normal_form), counts)
 }

@@ -2,14 +2,13 @@
 
 use oracle::api::{self, Answer, Normalize};
 use oracle::free_inputs::free_inputs;
-use tools::generate::each::{each_sample, Make};
 use tools::generate::limits::Limits;
 use tools::generate::Sample;
 
 /// The answer, and the output and scratch buffers afterwards.
 pub fn outcome(normalize: Normalize, sample: &Sample, limits: Limits) -> (Answer, [Vec<u64>; 3]) {
     let mut buffers = limits.lengths.map(|length| vec![9; length]);
-    let answer = sample.normalize(normalize, limits.budget, &mut buffers);
+    let answer = sample.normalize(normalize, limits.settings, &mut buffers);
     (answer, buffers)
 }
 
@@ -22,20 +21,4 @@ pub fn agree(sample: &Sample, limits: Limits, name: &str) -> Answer {
     let on_words = outcome(baseline::normalize, sample, limits);
     assert_eq!(on_words, on_trees, "{name}");
     on_trees.0
-}
-
-/// Asserts that both agree on random samples, of which each rule has more than 1,000 steps.
-pub fn agree_on_random_terms(make: Make, seed: u64, count: usize) {
-    let mut answers = Vec::new();
-    each_sample(make, seed, count, 150, |random, sample| {
-        let limits = Limits::with_capacity(random, 5000, 1000);
-        answers.push(agree(&sample, limits, "random"));
-    });
-    let steps = totals(&answers);
-    assert!(steps.iter().all(|&total| total > 1000), "{steps:?}");
-}
-
-/// The steps of each rule that the answers count together.
-fn totals(answers: &[Answer]) -> [u32; 10] {
-    std::array::from_fn(|rule| answers.iter().map(|answer| answer.counts[rule]).sum())
 }

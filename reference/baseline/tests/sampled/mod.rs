@@ -48,10 +48,7 @@ pub fn agree_on_shapes(shapes: impl Iterator<Item = Shape>) {
         let answer = agree(&sample, Limits::OF_PROGRAM, name);
         assert_eq!(answer.refusal, 0, "{name}");
         let steps: u32 = answer.counts.iter().sum();
-        let limits = Limits {
-            budget: steps.saturating_sub(1),
-            ..Limits::OF_PROGRAM
-        };
+        let limits = Limits::with_budget(steps.saturating_sub(1));
         agree(&sample, limits, name);
     }
 }

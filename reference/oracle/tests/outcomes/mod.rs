@@ -24,7 +24,7 @@ pub fn outcome(dialect: Dialect, sample: &Sample, limits: Limits) -> Outcome {
     Outcome {
         checked: sample.check_in(dialect),
         normal: sample.is_normal_in(dialect),
-        normalized: sample.normalize_in(dialect, limits.budget, &mut buffers),
+        normalized: sample.normalize_in(dialect, limits.settings, &mut buffers),
         buffers,
         read: sample.free_inputs_in(dialect),
         response: dialect.respond(&sample.bundle()),

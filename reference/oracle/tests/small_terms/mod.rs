@@ -2,6 +2,7 @@
 
 use oracle::api::{normalize, Answer};
 use oracle::reduction::Counts;
+use oracle::settings::Settings;
 use tools::generate::phrases::Phrase;
 use tools::generate::shapes::Shape;
 use tools::generate::Sample;
@@ -12,7 +13,7 @@ pub type Reduced = (&'static str, Phrase, Counts);
 /// The answer and the normal form's words; the rest of the buffers is as it should be.
 pub fn normal_form(sample: &Sample) -> (Answer, Vec<u64>) {
     let mut buffers = [vec![7; 60], vec![8; 60], vec![9; 60]];
-    let answer = sample.normalize(normalize, 100, &mut buffers);
+    let answer = sample.normalize(normalize, Settings::no_ceilings(100), &mut buffers);
     let [output, first_scratch, second_scratch] = buffers;
     assert!(output[answer.length..].iter().all(|&word| word == 7));
     assert_eq!([first_scratch, second_scratch], [[0; 60], [0; 60]]);

@@ -105,8 +105,9 @@ fn tree_estimate(workload: &Workload) -> Duration {
     let mut first_steps = 0;
     let started = processor_time();
     for sample in &workload.samples {
-        let mut buffers = Limits::OF_PROGRAM.lengths.map(|length| vec![0; length]);
-        let answer = sample.normalize(normalize, FIRST_STEPS, &mut buffers);
+        let Limits { settings, lengths } = Limits::with_budget(FIRST_STEPS);
+        let mut buffers = lengths.map(|length| vec![0; length]);
+        let answer = sample.normalize(normalize, settings, &mut buffers);
         first_steps += answer.counts.iter().sum::<u32>();
     }
     let elapsed = processor_time() - started;

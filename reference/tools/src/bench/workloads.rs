@@ -43,7 +43,7 @@ fn walk_of(sample: &Sample) -> (u64, usize) {
         &sample.calls,
         &sample.inputs,
         &sample.term,
-        limits.budget,
+        limits.settings,
         [&mut output, &mut first, &mut second],
     );
     let steps = answer.counts.iter().map(|&count| u64::from(count)).sum();

@@ -1,8 +1,8 @@
 //! What the test program writes for a record.
 //!
 //! Call 0: the listing. Call 1: `check REFUSAL TYPE`. Call 2: `normal REFUSAL YES`, where YES is 0
-//! or 1. Call 3: `normalize REFUSAL TYPE LENGTH`, ten counts and a digest of the buffers. Call 4:
-//! `inputs REFUSAL COUNT` and the four words of marks, sixteen hexadecimal digits each.
+//! or 1. Calls 3 and 5: `normalize REFUSAL TYPE LENGTH`, ten counts and a digest of the buffers.
+//! Call 4: `inputs REFUSAL COUNT` and the four words of marks, sixteen hexadecimal digits each.
 
 use super::records::Record;
 use crate::generate::limits::Limits;
@@ -29,21 +29,21 @@ pub fn answer_in(dialect: Dialect, record: &Record) -> Vec<u8> {
             format!("normal {} {}\n", answer.refusal, u8::from(answer.normal))
         }
         Record::Normalize(sample, limits) => line_of_normalize(*limits, |buffers| {
-            sample.normalize_in(dialect, limits.budget, buffers)
+            sample.normalize_in(dialect, limits.settings, buffers)
         }),
         Record::FreeInputs(sample) => line_of_free_inputs(sample.free_inputs_in(dialect)),
     };
     line.into_bytes()
 }
 
-/// The line for call 3, by any implementation of it.
+/// The line for calls 3 and 5, by any implementation of it.
 pub fn normalize_line(normalize: Normalize, sample: &Sample, limits: Limits) -> String {
     line_of_normalize(limits, |buffers| {
-        sample.normalize(normalize, limits.budget, buffers)
+        sample.normalize(normalize, limits.settings, buffers)
     })
 }
 
-/// The line for call 3 and what it leaves in the buffers.
+/// The line for calls 3 and 5 and what they leave in the buffers.
 fn line_of_normalize(
     limits: Limits,
     normalize: impl FnOnce(&mut [Vec<u64>; 3]) -> Answer,

@@ -4,6 +4,7 @@ use super::Sample;
 use oracle::api::{self, Answer, CheckAnswer, NormalAnswer, Normalize};
 use oracle::dialect::Dialect;
 use oracle::free_inputs::{FindFreeInputs, FreeInputs};
+use oracle::settings::Settings;
 
 impl Sample {
     pub fn check(&self) -> CheckAnswer {
@@ -23,7 +24,7 @@ impl Sample {
     pub fn normalize(
         &self,
         normalize: Normalize,
-        budget: u32,
+        settings: Settings,
         buffers: &mut [Vec<u64>; 3],
     ) -> Answer {
         let [output, first, second] = buffers;
@@ -32,7 +33,7 @@ impl Sample {
             &self.calls,
             &self.inputs,
             &self.term,
-            budget,
+            settings,
             output,
             first,
             second,
@@ -57,11 +58,11 @@ impl Sample {
     pub fn normalize_in(
         &self,
         dialect: Dialect,
-        budget: u32,
+        settings: Settings,
         buffers: &mut [Vec<u64>; 3],
     ) -> Answer {
         let lent = buffers.each_mut().map(|buffer| &mut buffer[..]);
         let (calls, inputs) = (&self.calls, &self.inputs);
-        dialect.normalize(&self.types, calls, inputs, &self.term, budget, lent)
+        dialect.normalize(&self.types, calls, inputs, &self.term, settings, lent)
     }
 }

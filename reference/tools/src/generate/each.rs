@@ -53,6 +53,15 @@ pub fn acting_sample(random: &mut Random, profile: Profile, turn: usize) -> Samp
     random_sample(random, &first_order_by_turns(profile, turn))
 }
 
+/// Plain samples, those with units and those with acting calls, each sort with a seed of its own.
+pub fn all_sorts(seed: u64) -> [(Make, u64); 3] {
+    [
+        (plain_sample, seed),
+        (unit_sample, seed + 1),
+        (acting_sample, seed + 2),
+    ]
+}
+
 fn first_order_by_turns(profile: Profile, turn: usize) -> Profile {
     match turn % 2 {
         0 => profile,

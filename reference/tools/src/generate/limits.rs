@@ -1,32 +1,43 @@
 //! What normalize is lent besides the tables, and what a walk needs of it.
 
+use super::steps::steps_of;
 use super::Sample;
 use crate::random::Random;
 use oracle::api::LARGEST_CAPACITY;
-use oracle::checks::Checked;
-use oracle::reduction::{grown, step};
-use oracle::rules::{growth, PHASES};
-use oracle::search::first_redex;
+use oracle::settings::Settings;
 
-/// A budget, and the lengths of the output and the two scratch buffers.
+/// The settings, and the lengths of the output and the two scratch buffers.
 #[derive(Clone, Copy, Debug, PartialEq, Eq)]
 pub struct Limits {
-    pub budget: u32,
+    pub settings: Settings,
     pub lengths: [usize; 3],
 }
 
 impl Limits {
     /// What the program lends.
     pub const OF_PROGRAM: Limits = Limits {
-        budget: 1_000_000,
+        settings: Settings::no_ceilings(1_000_000),
         lengths: [LARGEST_CAPACITY; 3],
     };
 
-    /// This budget, and three random lengths of which the shortest is the capacity.
+    /// This budget and no ceilings, and three random lengths of which the shortest is the capacity.
     pub fn with_capacity(random: &mut Random, budget: u32, capacity: usize) -> Limits {
+        Limits::with_settings(random, Settings::no_ceilings(budget), capacity)
+    }
+
+    /// These settings, and three random lengths of which the shortest is the capacity.
+    pub fn with_settings(random: &mut Random, settings: Settings, capacity: usize) -> Limits {
         let mut lengths = [0; 3].map(|_: usize| capacity + random.below(30));
         lengths[random.below(3)] = capacity;
-        Limits { budget, lengths }
+        Limits { settings, lengths }
+    }
+
+    /// The program's buffers, and this budget without ceilings.
+    pub fn with_budget(budget: u32) -> Limits {
+        Limits {
+            settings: Settings::no_ceilings(budget),
+            ..Limits::OF_PROGRAM
+        }
     }
 }
 
@@ -39,26 +50,11 @@ pub struct Needs {
 
 /// What the sample's walk needs; `None` if it is refused, or takes more than `most_steps`.
 pub fn needs(sample: &Sample, most_steps: u32) -> Option<Needs> {
-    let Checked {
-        tables, mut term, ..
-    } = sample.examine().ok()?;
-    let mut length = term.size();
-    let mut needs = Needs {
-        steps: 0,
-        capacity: length,
-    };
-    for phase in PHASES {
-        while let Some(redex) = first_redex(&tables, &term, phase) {
-            length = grown(length, growth(redex.rule, term.node_mut(redex.index)));
-            if length > LARGEST_CAPACITY || needs.steps == most_steps {
-                return None;
-            }
-            step(&mut term, redex);
-            needs.steps += 1;
-            needs.capacity = needs.capacity.max(length);
-        }
-    }
-    Some(needs)
+    let steps = steps_of(sample, most_steps)?;
+    Some(Needs {
+        steps: steps.rules.len() as u32,
+        capacity: steps.longest(),
+    })
 }
 
 /// What the sample's walk needs, one step or one word less, and more of both; nothing if it is refused

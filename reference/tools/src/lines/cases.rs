@@ -23,6 +23,7 @@ use crate::random::Random;
 use oracle::api::normalize;
 use oracle::free_inputs::free_inputs;
 use oracle::reduction::sequence;
+use oracle::settings::Settings;
 use oracle::term::Term;
 
 const AMPLE_BUDGET: usize = 1000;
@@ -129,7 +130,7 @@ fn small_limits(random: &mut Random) -> Limits {
 }
 
 /// Three lengths of which the shortest is the capacity.
-fn lengths_with_capacity(random: &mut Random, capacity: usize) -> [usize; 3] {
+pub fn lengths_with_capacity(random: &mut Random, capacity: usize) -> [usize; 3] {
     let mut lengths = [0; 3].map(|_: usize| capacity + random.below(4));
     lengths[random.below(3)] = capacity;
     lengths
@@ -177,7 +178,8 @@ fn line(sample: &Sample, limits: &Limits) -> String {
         term,
     } = sample;
     let mut buffers = limits.lengths.map(|length| vec![0; length]);
-    let answer = sample.normalize(normalize, limits.budget as u32, &mut buffers);
+    let settings = Settings::no_ceilings(limits.budget as u32);
+    let answer = sample.normalize(normalize, settings, &mut buffers);
     let checked = sample.check();
     let normal = sample.is_normal();
     let read = sample.free_inputs(free_inputs);

@@ -4,6 +4,7 @@
 
 pub mod bundles;
 pub mod cases;
+pub mod ceilings;
 pub mod inputs;
 pub mod runs;
 
@@ -11,7 +12,7 @@ use crate::generate::Profile;
 use crate::random::Random;
 use std::fmt::Display;
 
-/// The longest undamaged term in a line of cases, bundles or runs, in words.
+/// The longest undamaged term in a line of cases, ceilings, bundles or runs, in words.
 const LONGEST_TERM: usize = 25;
 
 /// What an example's tables have that the base dialect does not know.

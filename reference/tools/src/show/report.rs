@@ -44,8 +44,8 @@ fn normal_form(checked: &Checked) -> (Result<Term, Refusal>, Counts) {
     if term.size() > LONGEST_TO_NORMALIZE {
         return (Err(Refusal::Lengths), [0; 10]);
     }
-    let Limits { budget, lengths } = Limits::OF_PROGRAM;
-    match walk(tables, term.clone(), budget, lengths[0]) {
+    let Limits { settings, lengths } = Limits::OF_PROGRAM;
+    match walk(tables, term.clone(), settings, lengths[0]) {
         Ok((normal_form, counts)) => (Ok(normal_form), counts),
         Err(stopped) => (Err(stopped.refusal), stopped.counts),
     }

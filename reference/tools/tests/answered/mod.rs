@@ -6,13 +6,6 @@ use tools::corpus::answers::answer_in;
 use tools::corpus::records::Record;
 use tools::generate::Sample;
 
-/// FNV-1a.
-pub fn digest(bytes: &[u8]) -> u64 {
-    bytes.iter().fold(0xcbf2_9ce4_8422_2325, |hash, &byte| {
-        (hash ^ u64::from(byte)).wrapping_mul(0x0100_0000_01b3)
-    })
-}
-
 /// The refusal in an answer's first line.
 pub fn refusal(answer: &[u8]) -> u32 {
     let text = String::from_utf8(answer.to_vec()).expect("answers are text");

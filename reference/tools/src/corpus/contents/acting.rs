@@ -88,8 +88,8 @@ impl Contents {
     fn acting_calls_at_their_limits(&mut self) {
         let longest = acting_lets((LONGEST_TO_NORMALIZE - 2) / 2);
         let exactly = Limits {
-            budget: 0,
             lengths: [LONGEST_TO_NORMALIZE; 3],
+            ..Limits::with_budget(0)
         };
         self.normalize(&longest, exactly);
         self.is_normal(&acting_lets((LONGEST_TO_EXAMINE - 2) / 2));

@@ -7,8 +7,8 @@ use crate::generate::Sample;
 use oracle::bundle::write_bundle;
 
 const LONGEST: Limits = Limits {
-    budget: 1_000_000,
     lengths: [LONGEST_BUFFER; 3],
+    ..Limits::OF_PROGRAM
 };
 
 impl Contents {

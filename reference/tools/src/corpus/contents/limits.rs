@@ -49,8 +49,11 @@ impl Contents {
             for missing in 0..2 {
                 let mut lengths = [8256, 8200, 8192];
                 lengths[shortest] = 3 * 300 - 2 - missing;
-                let budget = 1000;
-                self.normalize(&sample, Limits { budget, lengths });
+                let limits = Limits {
+                    lengths,
+                    ..Limits::with_budget(1000)
+                };
+                self.normalize(&sample, limits);
             }
         }
     }

@@ -3,6 +3,7 @@
 mod accepted;
 mod acting;
 mod boundaries;
+mod ceilings;
 mod free_inputs;
 mod limits;
 mod refused;
@@ -38,6 +39,8 @@ pub fn records() -> Vec<Record> {
         contents.units();
         contents.random = Random::new(2029);
         contents.acting();
+        contents.random = Random::new(2030);
+        contents.ceilings();
         contents.records
     })
 }

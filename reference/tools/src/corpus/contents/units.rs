@@ -68,8 +68,8 @@ impl Contents {
         self.normalize(&longest, Limits::OF_PROGRAM);
         for (length, injections) in [(8192, 1), (8191, 1), (LONGEST_BUFFER, 2)] {
             let limits = Limits {
-                budget: 1,
                 lengths: [length, 8192, LONGEST_BUFFER],
+                ..Limits::with_budget(1)
             };
             self.normalize(&copied_units(6, injections), limits);
         }
