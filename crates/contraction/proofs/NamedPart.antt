@@ -12,20 +12,12 @@ use Rattle.syntax.specs.Shaped.{count}
 use Rattle.syntax.specs.Substitution.{traverse, traverseAll, renaming, rename, weaken, weakenBody}
 use Rattle.syntax.specs.Under.{raiseAt}
 use Rattle.syntax.specs.Values.{isValue, isComputation}
+use Rattle.syntax.proofs.Options.{is-true, is-false}
 use Rattle.syntax.proofs.Under.{weaken-raiseAt, weakenBody-raiseAt}
 use Rattle.reduction.proofs.Roots.{Names, this, next, Insert, i-call, i-app₁, i-app₂, i-pair₁, i-pair₂, i-fst, i-snd, i-inl, i-inr, i-case}
 use Rattle.words.specs.Joined.{joined}
 use Rattle.search.specs.Operands.{allValues}
 use Rattle.contraction.specs.Plans.{insertPart, insertParts, Inserted}
-
--- tests
-is-true : (b : Bool) → T b → b ≡ true
-is-true true h = refl
-is-true false h = absurd h
-
-is-false : (b : Bool) → T (not b) → b ≡ false
-is-false true h = absurd h
-is-false false h = refl
 
 one-value : (t : Term) → T (isValue t) → allValues (arg t done) ≡ true
 unfolding allValues

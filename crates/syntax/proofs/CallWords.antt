@@ -1,15 +1,15 @@
 -- Call words: in 64 bits the number of arguments is the count's remainder by 8; in a table where no call acts, none does by its number, and
 -- every number of arguments is a count.
 use mathlib.Core.Path.{_≡_, refl, ap}
-use mathlib.Core.Bool.{Bool, true, false, _||_, not, cond}
-use mathlib.Core.List.{List, [], _∷_}
+use mathlib.Core.Bool.{Bool, true, false, not, cond}
+use mathlib.Core.List.{List}
 use lib.Dec.{T, leb, leb→le, nleb→lt}
 use lib.ListN.{getD}
-use Prim.Native.Nat.{ℕ, zero, suc, _-_, _%_, _^_, _≤_, _<_}
+use Prim.Native.Nat.{ℕ, _-_, _%_, _^_, _≤_, _<_}
 use native.Mathlib.Omega.{arith}
-use Rattle.syntax.specs.Lists.{any}
 use Rattle.syntax.specs.Words.{countOf, actsOf, arityOf}
 use Rattle.syntax.specs.Tables.{arity, acts, someActs}
+use Rattle.syntax.proofs.AnyMember.{each-fails}
 
 -- with no branch, as code may compute it
 pub arity-is-remainder : (w : ℕ) → w < 2 ^ 64 → arityOf w ≡ countOf w % 8
@@ -19,21 +19,9 @@ arity-is-remainder w h = go (leb 8 (countOf w)) (leb→le 8 (countOf w)) (nleb�
     go true p q = omega (arith, h, p tt)
     go false p q = omega (arith, h, q tt)
 
-pub or-false-left : (a b : Bool) → (a || b) ≡ false → a ≡ false
-or-false-left true b e = e
-or-false-left false b e = refl
-
-pub or-false-right : (a b : Bool) → (a || b) ≡ false → b ≡ false
-or-false-right true true e = e
-or-false-right true false e = refl
-or-false-right false b e = e
-
 -- where no call of the table acts, none does by its number
 pub none-acts : (calls : List ℕ) → someActs calls ≡ false → (k : ℕ) → acts calls k ≡ false
-unfolding any
-none-acts [] e k = refl
-none-acts (w ∷ ws) e zero = or-false-left (actsOf w) (someActs ws) e
-none-acts (w ∷ ws) e (suc k) = none-acts ws (or-false-right (actsOf w) (someActs ws) e) k
+none-acts calls e k = each-fails actsOf 0 refl calls e k
 
 -- a call that does not act takes as many arguments as its count says
 pub arity-is-count : (w : ℕ) → actsOf w ≡ false → arityOf w ≡ countOf w

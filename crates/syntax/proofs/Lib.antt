@@ -8,6 +8,7 @@ pub mod Forests
 pub mod Parts
 pub mod Positions
 pub mod CallsIn
+pub mod AnyMember
 pub mod CallWords
 pub mod Nodes
 pub mod Under

@@ -20,6 +20,7 @@ use Rattle.reduction.proofs.Roots.{Step, StepAll, s-root, s-call, s-lam, s-app�
 use Rattle.reduction.proofs.Roots.{s-inl, s-inr, s-case₁, s-case₂, s-case₃, s-this, s-next}
 use Rattle.reduction.proofs.Search.{Each, EachAll, one-step}
 use Rattle.theory.proofs.Operands.{AllValues, Ops, inserted}
+use Rattle.syntax.proofs.Options.{is-false}
 use Rattle.syntax.proofs.Values.{value-rename}
 use Rattle.theory.proofs.PendingStructure.{comp, compAll, pend, pendAll, pending-structure}
 
@@ -106,10 +107,6 @@ root-lowers (i-case {s = s} {l = l} {r = r} h) = let x = comp-one s h in let w =
     in let z = pend-rename r (under renaming suc) in omega (arith, x, w, y, z)
 
 -- and keeps a value a value, a computation a computation
-not-value : (b : Bool) → T (not b) → b ≡ false
-not-value true h = absurd h
-not-value false h = refl
-
 and-false : (a b : Bool) → b ≡ false → (a && b) ≡ false
 and-false true b h = h
 and-false false b h = refl
@@ -119,12 +116,12 @@ unfolding isValue isComputation
 root-value (i-call l) = refl
 root-value (i-app₁ h) = refl
 root-value (i-app₂ k h) = refl
-root-value (i-pair₁ {a = a} {b = b} h) = ap (λ (x : Bool). x && isValue b) (not-value (isValue a) h)
-root-value (i-pair₂ {a = a} {b = b} k h) = and-false (isValue a) (isValue b) (not-value (isValue b) h)
+root-value (i-pair₁ {a = a} {b = b} h) = ap (λ (x : Bool). x && isValue b) (is-false (isValue a) h)
+root-value (i-pair₂ {a = a} {b = b} k h) = and-false (isValue a) (isValue b) (is-false (isValue b) h)
 root-value (i-fst h) = refl
 root-value (i-snd h) = refl
-root-value (i-inl {a = a} h) = not-value (isValue a) h
-root-value (i-inr {a = a} h) = not-value (isValue a) h
+root-value (i-inl {a = a} h) = is-false (isValue a) h
+root-value (i-inr {a = a} h) = is-false (isValue a) h
 root-value (i-case h) = refl
 
 pub value-step : {t t′ : Term} → Step Insert t t′ → isValue t ≡ isValue t′

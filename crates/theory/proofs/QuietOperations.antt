@@ -11,6 +11,7 @@ use Rattle.syntax.specs.Tables.{acts, someActs}
 use Rattle.syntax.specs.Term.{Term, Terms}
 use Rattle.syntax.specs.Lists.{filter}
 use Rattle.syntax.proofs.CallWords.{none-acts}
+use Rattle.syntax.proofs.Options.{is-false}
 use Rattle.syntax.proofs.Filters.{filter-append, filter-none}
 use Rattle.reduction.specs.MayDrop.{mayDrop}
 use Rattle.reduction.specs.NormalForm.{NormalValue, NormalValues, Operation, variable, function, product as both, left, right, no-more}
@@ -19,10 +20,6 @@ use Rattle.semantics.specs.Value.{Value, Values, num, closure, tuple, left as i
 use Rattle.semantics.specs.Run.{RunOutcome, ended, stuck, spent, after, _>>=_, lookup, firstHalf, secondHalf, runAll, evaluate, run, Ends}
 use Rattle.semantics.specs.Claim.{actingCalls}
 use Rattle.theory.proofs.Forms.{never}
-
-not-true : (b : Bool) → T (not b) → b ≡ false
-not-true true h = absurd h
-not-true false h = refl
 
 module _ (calls : List ℕ) where
   -- if the run ends, it made no acting call
@@ -101,9 +98,9 @@ module _ (calls : List ℕ) where
     operation-quiet : (g : ℕ) {e : Term} → Operation never e → T (mayDrop calls e) → (ρ : Values) → Quiet (run answer g ρ e)
     unfolding run evaluate mayDrop
     operation-quiet zero o h ρ = no-fuel
-    operation-quiet (suc g) (application v) h ρ = all-quiet (not-true (someActs calls) h) _
+    operation-quiet (suc g) (application v) h ρ = all-quiet (is-false (someActs calls) h) _
     operation-quiet (suc g) (calling {k = k} vs) h ρ = quiet-then _ (values-quiet g vs ρ) λ xs.
-        call-quiet k xs (answer k xs) (not-true (acts calls k) h)
+        call-quiet k xs (answer k xs) (is-false (acts calls k) h)
     operation-quiet (suc g) taking₁ h ρ = quiet-then firstHalf (value-quiet g variable ρ) first-quiet
     operation-quiet (suc g) taking₂ h ρ = quiet-then secondHalf (value-quiet g variable ρ) second-quiet
 

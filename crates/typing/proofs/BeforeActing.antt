@@ -16,7 +16,8 @@ use Rattle.syntax.specs.Maybe.{_>>=_}
 use Rattle.syntax.specs.Words.{countOf, actsOf, resultOf, argumentFields}
 use Rattle.syntax.specs.Tables.{Tables, Signature, signatureOf, signature, arity, someActs}
 use Rattle.syntax.proofs.Options.{and-left, and-right}
-use Rattle.syntax.proofs.CallWords.{arity-is-count, arities-are-counts, or-false-left, or-false-right}
+use Rattle.syntax.proofs.AnyMember.{or-false-left, or-false-right}
+use Rattle.syntax.proofs.CallWords.{arity-is-count, arities-are-counts}
 use Rattle.typing.specs.TableChecks.{every, lengthsFit, wellFormedTypes, distinct, wellFormedCall, wellFormedCalls}
 use Rattle.typing.specs.TermChecks.{wellFormedWord}
 use Rattle.typing.specs.Refusals.{Verdict, refused, accepted, TypedTerm, elaborate}

@@ -1,11 +1,10 @@
 -- Whether some word passes a test, by a loop: the words before i do not pass, so the whole has one that does if the rest has.
-use Prim.Native.Nat.{ℕ, zero, suc, _+_, _≤_, _<_}
+use Prim.Native.Nat.{ℕ, _+_, _≤_, _<_}
 use native.Mathlib.Omega.{arith}
 use native.Mathlib.Numerals.{add-one}
-use mathlib.Core.Path.{_≡_, refl, sym, _∙_, ap, subst}
+use mathlib.Core.Path.{_≡_, refl, sym, _∙_, ap}
 use mathlib.Core.Bool.{Bool, true, false, _||_}
-use mathlib.Core.List.{List, [], _∷_}
-use lib.Dec.{T}
+use mathlib.Core.List.{List, _∷_}
 use lib.ListN.{length, getD, drop, drop-of-length-le}
 use lib.Seq.{drop-cons}
 use Rattle.syntax.specs.Lists.{any}
@@ -34,15 +33,3 @@ module _ (test : ℕ → Bool) where
     pub none-passes : length words ≤ i → false ≡ any test words
     unfolding any
     none-passes h = sym (b .same ∙ ap (any test) (drop-of-length-le words h))
-
-  -- then each word fails
-  pub each-fails : (words : List ℕ) → any test words ≡ false → (i : ℕ) → i < length words → test (getD words i 0) ≡ false
-  unfolding any
-  each-fails [] e i h = absurd (omega (arith, h))
-  each-fails (w ∷ ws) e i h = go (test w) refl e i h (each-fails ws)
-    where
-      go : (v : Bool) → test w ≡ v → (v || any test ws) ≡ false → (i : ℕ) → i < length (w ∷ ws)
-          → (any test ws ≡ false → (i : ℕ) → i < length ws → test (getD ws i 0) ≡ false) → test (getD (w ∷ ws) i 0) ≡ false
-      go true t f i h rest = absurd (subst T f tt)
-      go false t f zero h rest = t
-      go false t f (suc i) h rest = rest f i (omega (arith, h))

@@ -1,5 +1,5 @@
 -- Nothing where there is no let, and else the least place in the whole term.
-use mathlib.Core.Path.{_≡_, sym, _∙_}
+use mathlib.Core.Path.{_≡_, refl, sym, _∙_}
 use borrow.Author.Needs.{needs}
 use borrow.Author.Tests.{not-true, eqb-false}
 use mathlib.Core.Bool.{false}
@@ -7,14 +7,14 @@ use mathlib.Core.List.{List}
 use Prim.Native.Nat.{ℕ, _<_}
 use lib.ListN.{length, getD}
 use Rattle.syntax.specs.Words.{kindOf}
-use Rattle.words.proofs.AnyWord.{each-fails}
+use Rattle.syntax.proofs.AnyMember.{each-fails}
 use Rattle.search.specs.Unused.{isLet, hasLet}
 use Rattle.search.proofs.FirstByMarks.{finds-none, finds-redex, finds-nothing}
 use Rattle.search.proofs.unused.first_unused.Statement.{statement}
 use Rattle.search.proofs.unused.first_unused.Tie as tie
 
 no-let : (words : List ℕ) → hasLet words ≡ false → (i : ℕ) → i < length words → kindOf (getD words i 0) ≡ 4 → ⊥
-no-let words e i h = eqb-false _ 4 (each-fails isLet words e i h)
+no-let words e i h = eqb-false _ 4 (each-fails isLet 0 refl words e i)
 
 pub first-unused-spec : {M : Type 1} → statement M
 first-unused-spec =
