@@ -6,3 +6,4 @@ pub mod Runs
 pub mod Reading
 pub mod Units
 pub mod Acting
+pub mod Ceilings

@@ -6,7 +6,8 @@ use Rattle.syntax.specs.Words.{pack}
 use Rattle.syntax.specs.Tables.{Tables}
 use Rattle.syntax.specs.Term.{Term, var, call, lam, app, bind, pair, fst, inl, case, done, arg}
 use Rattle.syntax.specs.Encoding.{encode}
-use Rattle.reduction.specs.Reduction.{Counts, zeroCounts}
+use Rattle.reduction.specs.declared.Settings.{Settings}
+use Rattle.reduction.specs.Reduction.{Counts, zeroCounts, noCeilings}
 use Rattle.outcomes.specs.Normalize.{Buffers, Outcome, normalizeOutcome}
 
 -- the lengths of the three buffers; paper 01's room is the shortest
@@ -22,11 +23,11 @@ lengths o s₁ s₂ = record { output = o; scratch₁ = s₁; scratch₂ = s₂ 
 abbrev pub roomy : BufferLengths
 roomy = lengths 18 17 16
 
--- a case: tables, term words, budget and buffers, and the expected refusal, type, counts and words
+-- a case: tables, term words, settings and buffers, and the expected refusal, type, counts and words
 pub record Case : Type 0 where
   pub tables : Tables
   pub words : List ℕ
-  pub budget : ℕ
+  pub settings : Settings
   pub buffers : BufferLengths
   pub refusal : ℕ
   pub type : ℕ
@@ -63,7 +64,7 @@ acceptsOver type tables t u counts =
     record {
       tables = tables;
       words = encode t;
-      budget = 1000000;
+      settings = noCeilings 1000000;
       buffers = roomy;
       refusal = 0;
       type = type;
@@ -74,12 +75,13 @@ acceptsOver type tables t u counts =
 abbrev pub accepts : List ℕ → Term → Term → Counts → Case
 accepts inputs t u counts = acceptsOver 0 (tablesWith inputs) t u counts
 
-abbrev pub limited : ℕ → BufferLengths → Term → ℕ → Counts → List ℕ → Case
-limited budget buffers t refusal counts result =
+-- under settings, and under a budget alone
+abbrev pub under : Settings → BufferLengths → List ℕ → Term → ℕ → Counts → List ℕ → Case
+under settings buffers inputs t refusal counts result =
     record {
-      tables = tablesWith [];
+      tables = tablesWith inputs;
       words = encode t;
-      budget = budget;
+      settings = settings;
       buffers = buffers;
       refusal = refusal;
       type = 0;
@@ -87,11 +89,14 @@ limited budget buffers t refusal counts result =
       result = result;
     }
 
+abbrev pub limited : ℕ → BufferLengths → Term → ℕ → Counts → List ℕ → Case
+limited budget buffers t refusal counts result = under (noCeilings budget) buffers [] t refusal counts result
+
 abbrev pub refuses : Tables → List ℕ → ℕ → Case
 refuses tables words n = record {
   tables = tables;
   words = words;
-  budget = 1000000;
+  settings = noCeilings 1000000;
   buffers = roomy;
   refusal = n;
   type = 0;
@@ -111,7 +116,7 @@ holding b = record { output = nines (b .output); scratch₁ = nines (b .scratch�
 
 -- what the definitions make of a case: the outcome of the call
 unfoldable pub computed : Case → Outcome
-computed x = normalizeOutcome (record { budget = x .budget }) (x .tables) (x .words) (holding (x .buffers))
+computed x = normalizeOutcome (x .settings) (x .tables) (x .words) (holding (x .buffers))
 
 -- what paper 01 says of it: the answer, the result at the output's front and its rest unchanged, and scratch buffers of zeros
 unfoldable pub expected : Case → Outcome

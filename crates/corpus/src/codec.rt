@@ -21,6 +21,24 @@ pub fn header_word(head: &[u8; HEADER_BYTES], i: usize) -> u64
     word_at(head, 8 * i)
 }
 
+// a header word's low 32 bits
+pub fn half_word(head: &[u8; HEADER_BYTES], i: usize) -> u32
+    requires { ⌜ i < 10 ⌝ }
+{
+    (header_word(head, i) % 4294967296) as u32
+}
+
+// the low 32 bits of all ten
+pub fn half_words(words: &[u8; HEADER_BYTES]) -> [u32; 10] {
+    let mut halves: [u32; 10] = [0; 10];
+    let mut i: usize = 0;
+    while i < 10 {
+        halves[i] = half_word(words, i);
+        i += 1;
+    }
+    halves
+}
+
 // a header word that is a length in words, or in bytes of a bundle; too large a length becomes the largest
 pub fn length_word(head: &[u8; HEADER_BYTES], i: usize) -> usize
     requires { ⌜ i < 10 ⌝ }

@@ -10,6 +10,7 @@ use libc::STDOUT_FILENO;
 use normal_form::is_normal::is_normal;
 use normalizer::normalize::normalize;
 use outcomes::Answer;
+use reduction::Settings;
 use responder::MOST_WRITTEN;
 use responder::respond;
 
@@ -96,12 +97,12 @@ fn normalized(
     calls: &[u64],
     inputs: &[u64],
     term: &[u64],
-    budget: u32,
+    settings: Settings,
     output: &mut [u64],
     first: &mut [u64],
     second: &mut [u64],
 ) {
-    let answer = normalize(types, calls, inputs, term, budget, output, first, second);
+    let answer = normalize(types, calls, inputs, term, settings, output, first, second);
     let hash = digest(digest(digest(14695981039346656037, output), first), second);
     write_answer(answer, hash);
 }
@@ -112,7 +113,7 @@ fn fitted(
     calls: &[u64],
     inputs: &[u64],
     term: &[u64],
-    budget: u32,
+    settings: Settings,
     output: &mut [u64],
     o: usize,
     first: &mut [u64],
@@ -128,20 +129,20 @@ fn fitted(
         calls,
         inputs,
         term,
-        budget,
+        settings,
         &mut output[start..o],
         &mut first[start..f],
         &mut second[start..s],
     );
 }
 
-// call 3
+// calls 3 and 5
 pub fn normalize_line(
     types: &[u64],
     calls: &[u64],
     inputs: &[u64],
     term: &[u64],
-    budget: u32,
+    settings: Settings,
     o: usize,
     f: usize,
     s: usize,
@@ -166,7 +167,7 @@ pub fn normalize_line(
         calls,
         inputs,
         term,
-        budget,
+        settings,
         &mut output,
         o,
         &mut first,

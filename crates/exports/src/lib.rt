@@ -1,13 +1,16 @@
-// The public calls `respond`, `normalize` and `free_inputs` for programs in C and Rust.
+// The public calls `respond`, `normalize` and `free_inputs`, and settings without ceilings, for programs in C and Rust.
 ghost use mathlib.Core.Path.{_≡_};
 ghost use Rattle.syntax.specs.Tables.{over};
+ghost use Rattle.reduction.specs.Reduction.{noCeilings};
 ghost use Rattle.outcomes.specs.Contract.{Normalizes};
 ghost use Rattle.outcomes.specs.FreeInputs.{freeInputsOutcome};
 ghost use Rattle.outcomes.specs.Respond.{respondOutcome};
 use free_inputs::free_inputs::free_inputs;
 use normalizer::normalize::normalize;
+use normalizer::settings::no_ceilings;
 use outcomes::Answer;
 use outcomes::FreeInputs;
+use reduction::Settings;
 use responder::respond;
 
 // `responder::respond`
@@ -18,6 +21,14 @@ pub extern "C" fn flatten_respond(bytes: &[u8], text: &mut [u8]) -> usize
     respond(bytes, text)
 }
 
+// `normalizer::settings::no_ceilings`
+#[no_mangle]
+pub extern "C" fn flatten_no_ceilings(budget: u32) -> Settings
+    ensures { λ r. ⌜ r ≡ noCeilings budget ⌝ }
+{
+    no_ceilings(budget)
+}
+
 // `normalizer::normalize`
 #[no_mangle]
 pub extern "C" fn flatten_normalize(
@@ -25,18 +36,18 @@ pub extern "C" fn flatten_normalize(
     calls: &[u64],
     inputs: &[u64],
     term: &[u64],
-    budget: u32,
+    settings: Settings,
     output: &mut [u64],
     first: &mut [u64],
     second: &mut [u64],
 ) -> Answer
     ensures { λ r. ⌜
-        Normalizes (record { budget = budget }) (over (now (types .entry)) (now (calls .entry)) (now (inputs .entry))) (now (term .entry))
+        Normalizes settings (over (now (types .entry)) (now (calls .entry)) (now (inputs .entry))) (now (term .entry))
         (record { output = now (output .entry); scratch₁ = now (first .entry); scratch₂ = now (second .entry) }) r
         (record { output = now (output .exit); scratch₁ = now (first .exit); scratch₂ = now (second .exit) })
         ⌝ }
 {
-    normalize(types, calls, inputs, term, budget, output, first, second)
+    normalize(types, calls, inputs, term, settings, output, first, second)
 }
 
 // `free_inputs::free_inputs`

@@ -9,6 +9,7 @@ use Rattle.syntax.specs.Encoding.{encode, size}
 use Rattle.typing.specs.Refusals.{TypedTerm, elaborate, normalizeLimit}
 use Rattle.typing.proofs.Accepted.{Passed}
 use Rattle.reduction.specs.MayDrop.{mayDrop}
+use Rattle.reduction.specs.declared.Settings.{Settings}
 use Rattle.reduction.specs.Reduction.{zeroCounts, reduce}
 use Rattle.reduction.proofs.Remaining.{reduce-too-long}
 use Rattle.outcomes.specs.Buffers.{overwrite}
@@ -36,14 +37,13 @@ untouched {output = output} e none ae = record {
 }
 
 -- refused by a check
-pub refusal-fills : (types calls inputs words : List ℕ) (before : Buffers) (budget : ℕ) (checked : Checked) {a : Answer}
+pub refusal-fills : (types calls inputs words : List ℕ) (before : Buffers) (settings : Settings) (checked : Checked) {a : Answer}
     → checked ≡ checkedOf (elaborate normalizeLimit (over types calls inputs) words) → (checked .refusal ≡ 0 → ⊥)
     → a ≡ record { refusal = checked .refusal; ty = 0; length = 0; counts = zeroCounts }
-    → FillsNormalized (record { budget = budget }) (over types calls inputs) words before a (before .output)
+    → FillsNormalized settings (over types calls inputs) words before a (before .output)
 unfolding normalizeWithin checkedTo
-refusal-fills types calls inputs words before budget checked ce z ae =
-    untouched (ap (checkedTo (mayDrop calls) (capacityOf before)
-    (record { budget = budget })) (refused-of normalizeLimit (over types calls inputs) words checked ce z)) refl ae
+refusal-fills types calls inputs words before settings checked ce z ae =
+    untouched (ap (checkedTo (mayDrop calls) (capacityOf before) settings) (refused-of normalizeLimit (over types calls inputs) words checked ce z)) refl ae
 
 module _ {types calls inputs words : List ℕ} {before : Buffers} {checked : Checked} {capacity : ℕ}
     (y : AcceptedTerm types calls inputs words before checked capacity) where
@@ -91,31 +91,31 @@ module _ {types calls inputs words : List ℕ} {before : Buffers} {checked : Che
         room = omega (arith, first-length, y .capacity-is);
       }
 
-  module _ (budget : ℕ) where
+  module _ (settings : Settings) where
     capacity-same : capacity ≡ capacityOf before
     unfolding capacityOf
     capacity-same = y .capacity-is
 
-    reduced : normalizeWithin (capacityOf before) (record { budget = budget }) (over types calls inputs) words
-        ≡ reducedTo (x .type) (reduce (mayDrop calls) capacity (record { budget = budget }) (x .term))
+    reduced : normalizeWithin (capacityOf before) settings (over types calls inputs) words
+        ≡ reducedTo (x .type) (reduce (mayDrop calls) capacity settings (x .term))
     unfolding normalizeWithin checkedTo
     reduced =
-        ap (checkedTo (mayDrop calls) (capacityOf before) (record { budget = budget })) (passed .is)
-        ∙ ap (λ (k : ℕ). reducedTo (x .type) (reduce (mayDrop calls) k (record { budget = budget }) (x .term))) (sym capacity-same)
+        ap (checkedTo (mayDrop calls) (capacityOf before) settings) (passed .is)
+        ∙ ap (λ (k : ℕ). reducedTo (x .type) (reduce (mayDrop calls) k settings (x .term))) (sym capacity-same)
 
     -- longer than the capacity
     pub too-long-fills : {a : Answer} → capacity < length words → a ≡ record { refusal = 11; ty = 0; length = 0; counts = zeroCounts }
-        → FillsNormalized (record { budget = budget }) (over types calls inputs) words before a (before .output)
+        → FillsNormalized settings (over types calls inputs) words before a (before .output)
     unfolding reducedTo size
     too-long-fills h ae =
         let long : capacity < size (x .term) = omega (arith, h, ap (λ (l : List ℕ). length l) is-encoded) in
-        untouched (reduced ∙ ap (reducedTo (x .type)) (reduce-too-long (mayDrop calls) capacity budget (x .term) long)) refl ae
+        untouched (reduced ∙ ap (reducedTo (x .type)) (reduce-too-long (mayDrop calls) capacity settings (x .term) long)) refl ae
 
     -- what the reduction comes to
     pub settled-fills : {a : Answer} {out : List ℕ}
-        → Settles calls words (checked .ty) budget (length (take capacity (before .scratch₁))) (before .output) a out
-        → FillsNormalized (record { budget = budget }) (over types calls inputs) words before a out
+        → Settles calls words (checked .ty) settings (length (take capacity (before .scratch₁))) (before .output) a out
+        → FillsNormalized settings (over types calls inputs) words before a out
     settled-fills {a} {out} s =
         subst (λ (n : Normalized). Fills n (before .output) a out)
-        (ap₂ {C = Normalized} (λ (A k : ℕ). reducedTo A (reduce (mayDrop calls) k (record { budget = budget }) (x .term)))
+        (ap₂ {C = Normalized} (λ (A k : ℕ). reducedTo A (reduce (mayDrop calls) k settings (x .term)))
         (sym (passed .type)) first-length ∙ sym reduced) (s .told (x .term) (holds .shaped) is-encoded)

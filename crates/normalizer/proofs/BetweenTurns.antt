@@ -16,14 +16,15 @@ use Rattle.typing.proofs.InferTyped.{typing-of}
 use Rattle.reduction.specs.MayDrop.{mayDrop}
 use Rattle.reduction.specs.Redex.{Step, step}
 use Rattle.reduction.specs.Clear.{Clear}
+use Rattle.reduction.specs.declared.Settings.{Settings}
 use Rattle.reduction.specs.Reduction.{Counts, raise, Progress, stopped, reached, runPhase}
 use Rattle.reduction.specs.declared.Rule.{Rule}
 use Rattle.reduction.specs.declared.Phase.{Phase}
 use Rattle.reduction.specs.declared.Phase.the-variants.{Insertion, Reduction, Dropping}
 use Rattle.reduction.proofs.Clear.{clear-zero}
 use Rattle.reduction.proofs.Path.{Follows, first-second, second-third}
-use Rattle.reduction.proofs.Remaining.{onwards, onwards-stopped, turn-stops, turn-spent, turn-full, turn-goes, insertion-ends}
-use Rattle.reduction.proofs.Remaining.{reduction-ends}
+use Rattle.reduction.proofs.Remaining.{onwards, onwards-stopped, turn-stops, turn-spent, turn-met, turn-full, turn-goes}
+use Rattle.reduction.proofs.Remaining.{insertion-ends, reduction-ends}
 use Rattle.theory.proofs.Fields.{Fitting, shaped}
 use Rattle.theory.proofs.TypesKept.{infer-step}
 use Rattle.theory.proofs.Operands.{inserted, not-inserted}
@@ -32,7 +33,7 @@ use Rattle.theory.proofs.NextReduction.{next-reduction, operands-next}
 use Rattle.search.specs.PhasePremise.{PhasePremise}
 use Rattle.step.specs.Currents.{Gapped, Current}
 use Rattle.step.specs.Gaps.{Seekable, Seeks}
-use Rattle.step.specs.Turns.{CurrentClear, Ready, Turned, stops, spent, full, goes, Turns}
+use Rattle.step.specs.Turns.{CurrentClear, Ready, Turned, stops, spent, met, full, goes, Turns}
 use Rattle.search.specs.NextFrom.{nextFrom}
 use Rattle.step.specs.declared.turn.Turn.{Turn}
 use Rattle.step.specs.declared.turn.Turn.the-variants.{Stop, Refused, Step as Stepped}
@@ -76,8 +77,9 @@ atFront s phase words end second = record {
 }
 
 -- the turn that is taken in a state
-abbrev pub TurnFrom : (calls : List ℕ) → State → (after : List ℕ) → Turn → Type 0
-TurnFrom calls s after r = Turns (s .phase) calls (s .words) (s .start) (s .end) (s .left) after r
+abbrev pub TurnFrom : (calls : List ℕ) → Settings → State → (after : List ℕ) → Turn → Type 0
+TurnFrom calls settings s after r =
+    Turns (s .phase) calls (s .words) (s .start) (s .end) (s .left) (s .counts) (settings .ceilings) after r
 
 -- after a step: what the phase takes as known still holds where the search goes on, and no redex stands before that place
 module _ (calls : List ℕ) where
@@ -103,13 +105,13 @@ module _ (calls : List ℕ) where
   premise-at-front second-third t e = refl
 
   -- and what is left to do is what the next one does
-  phase-ends : {phase next : Phase} → Follows phase next → (capacity left : ℕ) (t : Term) (counts : Counts)
-      → onwards (mayDrop calls) capacity phase (reached left t counts)
-      ≡ onwards (mayDrop calls) capacity next (runPhase (mayDrop calls) capacity next left t counts)
-  phase-ends first-second capacity left t counts = insertion-ends (mayDrop calls) capacity left t counts
-  phase-ends second-third capacity left t counts = reduction-ends (mayDrop calls) capacity left t counts
+  phase-ends : {phase next : Phase} → Follows phase next → (capacity : ℕ) (settings : Settings) (left : ℕ) (t : Term) (counts : Counts)
+      → onwards (mayDrop calls) capacity settings phase (reached left t counts)
+      ≡ onwards (mayDrop calls) capacity settings next (runPhase (mayDrop calls) capacity settings next left t counts)
+  phase-ends first-second capacity settings left t counts = insertion-ends (mayDrop calls) capacity settings left t counts
+  phase-ends second-third capacity settings left t counts = reduction-ends (mayDrop calls) capacity settings left t counts
 
-module _ (tables : Tables) (capacity : ℕ) (whole : Progress) where
+module _ (tables : Tables) (capacity : ℕ) (settings : Settings) (whole : Progress) where
   abbrev pure : Term → Bool
   pure = mayDrop (tables .calls)
 
@@ -120,7 +122,7 @@ module _ (tables : Tables) (capacity : ℕ) (whole : Progress) where
     pub at : CurrentClear (s .phase) (tables .calls) (s .words) (s .start) (s .end) term
     pub typed : infer tables term (tables .inputs) ≡ some type
     pub long : length (s .words) ≡ capacity
-    pub same : onwards pure capacity (s .phase) (runPhase pure capacity (s .phase) (s .left) term (s .counts)) ≡ whole
+    pub same : onwards pure capacity settings (s .phase) (runPhase pure capacity settings (s .phase) (s .left) term (s .counts)) ≡ whole
 
   -- the last term, at the buffer's end, with which the whole ends
   pub record FormReached (words : List ℕ) (end left : ℕ) (counts : Counts) : Type 0 where
@@ -135,36 +137,39 @@ module _ (tables : Tables) (capacity : ℕ) (whole : Progress) where
 
   module _ {s : State} (x : StandsFor s) where
     -- what is left of the phase comes to p, so the whole goes on from p
-    comes-to : {p : Progress} → runPhase pure capacity (s .phase) (s .left) (x .term) (s .counts) ≡ p
-        → onwards pure capacity (s .phase) p ≡ whole
-    comes-to e = sym (ap (onwards pure capacity (s .phase)) e) ∙ x .same
+    comes-to : {p : Progress} → runPhase pure capacity settings (s .phase) (s .left) (x .term) (s .counts) ≡ p
+        → onwards pure capacity settings (s .phase) p ≡ whole
+    comes-to e = sym (ap (onwards pure capacity settings (s .phase)) e) ∙ x .same
 
     pub stands-ready : length (s .words) ≤ 8192 → length (s .second) ≡ length (s .words)
         → Ready (s .phase) (tables .calls) (s .words) (s .start) (s .end) (s .second)
     stands-ready limit scratch = record { term = x .term; at = x .at; limit = limit; scratch = scratch }
 
     -- a turn that is refused
-    pub stands-refused : {after : List ℕ} (n : ℕ) → TurnFrom (tables .calls) s after (Refused n) → whole ≡ stopped n (s .counts)
+    pub stands-refused : {after : List ℕ} (n : ℕ) → TurnFrom (tables .calls) settings s after (Refused n) → whole ≡ stopped n (s .counts)
     stands-refused n turn = told (turn .told (x .term) (x .at)) (x .long)
       where
-        told : {after : List ℕ} {n m : ℕ} → Turned (s .phase) (tables .calls) after (s .start) (s .end) (s .left) m (x .term) (Refused n)
+        told : {after : List ℕ} {n m : ℕ} → Turned (s .phase) (tables .calls) after (s .start) (s .end) (s .left) (s .counts) (settings .ceilings) m (x .term)
+            (Refused n)
             → m ≡ capacity → whole ≡ stopped n (s .counts)
-        told (spent st e z) l = sym (comes-to (turn-spent pure capacity (s .phase) (s .left) (x .term) (s .counts) st e z))
-            ∙ onwards-stopped pure capacity (s .phase) 10 (s .counts)
-        told (full st e h f) l =
-            sym (comes-to (turn-full pure capacity (s .phase) (s .left) (x .term) (s .counts) st e h (omega (arith, f, l))))
-            ∙ onwards-stopped pure capacity (s .phase) 11 (s .counts)
+        told (spent st e z) l = sym (comes-to (turn-spent pure capacity settings (s .phase) (s .left) (x .term) (s .counts) st e z))
+            ∙ onwards-stopped pure capacity settings (s .phase) 10 (s .counts)
+        told (met st e h u) l = sym (comes-to (turn-met pure capacity settings (s .phase) (s .left) (x .term) (s .counts) st e h u))
+            ∙ onwards-stopped pure capacity settings (s .phase) 13 (s .counts)
+        told (full st e h u f) l =
+            sym (comes-to (turn-full pure capacity settings (s .phase) (s .left) (x .term) (s .counts) st e h u (omega (arith, f, l))))
+            ∙ onwards-stopped pure capacity settings (s .phase) 11 (s .counts)
 
     -- a turn that takes a step
     pub stands-steps : {after : List ℕ} (rule : Rule) (from rest : ℕ) (second : List ℕ) → Fitting tables → capacity ≤ 8192
-        → length after ≡ capacity → TurnFrom (tables .calls) s after (Stepped rule from rest)
+        → length after ≡ capacity → TurnFrom (tables .calls) settings s after (Stepped rule from rest)
         → (0 < s .left) × StandsFor (stepped s after from rest (raise rule (s .counts)) second)
     stands-steps rule from rest second fit limit long turn = told long (turn .told (x .term) (x .at))
       where
         told : {after : List ℕ} {rule : Rule} {from rest n : ℕ} → length after ≡ capacity
-            → Turned (s .phase) (tables .calls) after (s .start) (s .end) (s .left) n (x .term) (Stepped rule from rest)
+            → Turned (s .phase) (tables .calls) after (s .start) (s .end) (s .left) (s .counts) (settings .ceilings) n (x .term) (Stepped rule from rest)
             → (0 < s .left) × StandsFor (stepped s after from rest (raise rule (s .counts)) second)
-        told long (goes st n e h g) = (
+        told long (goes st n e h u g) = (
           h,
           record {
             term = st .next;
@@ -176,7 +181,7 @@ module _ (tables : Tables) (capacity : ℕ) (whole : Progress) where
             };
             typed = typed;
             long = long;
-            same = comes-to (turn-goes pure capacity (s .phase) (s .left) (x .term) (s .counts) st e h fits);
+            same = comes-to (turn-goes pure capacity settings (s .phase) (s .left) (x .term) (s .counts) st e h u fits);
           },
         )
           where
@@ -187,16 +192,16 @@ module _ (tables : Tables) (capacity : ℕ) (whole : Progress) where
             fits = omega (arith, gapped-size g, g .ordered, g .inside, long)
 
     -- a turn that ends the phase
-    module _ {after : List ℕ} (turn : TurnFrom (tables .calls) s after Stop) where
+    module _ {after : List ℕ} (turn : TurnFrom (tables .calls) settings s after Stop) where
       stops-at : (step pure (s .phase) (x .term) ≡ none) × Current (tables .calls) after (s .start) (s .end) (x .term)
       stops-at = told (turn .told (x .term) (x .at))
         where
-          told : {after : List ℕ} {n : ℕ} → Turned (s .phase) (tables .calls) after (s .start) (s .end) (s .left) n (x .term) Stop
+          told : {after : List ℕ} {n : ℕ} → Turned (s .phase) (tables .calls) after (s .start) (s .end) (s .left) (s .counts) (settings .ceilings) n (x .term) Stop
               → (step pure (s .phase) (x .term) ≡ none) × Current (tables .calls) after (s .start) (s .end) (x .term)
           told (stops e c) = (e, c)
 
-      over : onwards pure capacity (s .phase) (reached (s .left) (x .term) (s .counts)) ≡ whole
-      over = comes-to (turn-stops pure capacity (s .phase) (s .left) (x .term) (s .counts) (stops-at .0))
+      over : onwards pure capacity settings (s .phase) (reached (s .left) (x .term) (s .counts)) ≡ whole
+      over = comes-to (turn-stops pure capacity settings (s .phase) (s .left) (x .term) (s .counts) (stops-at .0))
 
       -- the gap can go back to any place then
       pub stands-seekable : (place : ℕ) → place ≤ s .start → Seekable after (s .start) (s .end) place
@@ -218,7 +223,7 @@ module _ (tables : Tables) (capacity : ℕ) (whole : Progress) where
           };
           typed = x .typed;
           long = long;
-          same = sym (phase-ends (tables .calls) f capacity (s .left) (x .term) (s .counts)) ∙ over;
+          same = sym (phase-ends (tables .calls) f capacity settings (s .left) (x .term) (s .counts)) ∙ over;
         }
 
         -- the last phase is over
@@ -226,5 +231,5 @@ module _ (tables : Tables) (capacity : ℕ) (whole : Progress) where
         stands-at-form e = record {
           term = x .term;
           gapped = gapped-sought (stops-at .1 .gapped) k;
-          whole-is = sym over ∙ ap (λ (p : Phase). onwards pure capacity p (reached (s .left) (x .term) (s .counts))) e;
+          whole-is = sym over ∙ ap (λ (p : Phase). onwards pure capacity settings p (reached (s .left) (x .term) (s .counts))) e;
         }

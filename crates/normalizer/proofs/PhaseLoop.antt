@@ -11,6 +11,7 @@ use Rattle.syntax.specs.Decoding.{decode}
 use Rattle.syntax.proofs.Decoding.{decode-words}
 use Rattle.typing.specs.Infer.{infer}
 use Rattle.reduction.specs.MayDrop.{mayDrop}
+use Rattle.reduction.specs.declared.Settings.{Settings}
 use Rattle.reduction.specs.Reduction.{zeroCounts, stopped, reduce}
 use Rattle.reduction.specs.declared.Phase.{Phase}
 use Rattle.reduction.specs.declared.Phase.the-variants.{Insertion, Reduction, Dropping}
@@ -21,7 +22,7 @@ use Rattle.reduction.proofs.CountsBounded.{zeros}
 use Rattle.theory.proofs.Fields.{fitting}
 use Rattle.step.specs.Currents.{Gapped, Current}
 use Rattle.step.specs.Gaps.{Seeks}
-use Rattle.step.specs.Turns.{Turned, spent, full}
+use Rattle.step.specs.Turns.{Turned, spent, met, full}
 use Rattle.step.specs.declared.turn.Turn.{Turn}
 use Rattle.step.specs.declared.turn.Turn.the-variants.{Stop, Refused}
 use Rattle.normalizer.specs.Reductions.{Reducible, Reports, refusal, ended, Reduces}
@@ -38,24 +39,24 @@ current-unique {calls} {t = t} {u = u} c d =
     ∙ ap (decode calls) (sym (c .gapped .words-are) ∙ d .gapped .words-are) ∙ decode-words calls u (d .shaped))
 
 -- where the reduction begins
-abbrev pub initial : (words : List ℕ) (begin budget : ℕ) (second : List ℕ) → State
-initial words begin budget second = record {
+abbrev pub initial : (words : List ℕ) (begin : ℕ) → Settings → (second : List ℕ) → State
+initial words begin settings second = record {
   phase = Insertion;
   words = words;
   start = 0;
   end = begin;
-  left = budget;
+  left = settings .budget;
   counts = zeroCounts;
   second = second;
   refusal = 0;
 }
 
 -- there it stands for the whole of itself
-initial-stands : {types calls inputs words second : List ℕ} {begin budget A : ℕ} {t : Term} → Current calls words 0 begin t
+initial-stands : {types calls inputs words second : List ℕ} {begin A : ℕ} {settings : Settings} {t : Term} → Current calls words 0 begin t
     → infer (over types calls inputs) t inputs ≡ some A
-    → StandsFor (over types calls inputs) (length words) (reduce (mayDrop calls) (length words) (record { budget = budget }) t)
-    (initial words begin budget second)
-initial-stands {calls = calls} {words = words} {budget = budget} {A = A} {t = t} c typed =
+    → StandsFor (over types calls inputs) (length words) settings (reduce (mayDrop calls) (length words) settings t)
+    (initial words begin settings second)
+initial-stands {calls = calls} {words = words} {A = A} {settings = settings} {t = t} c typed =
     let g = c .gapped in
     record {
       term = t;
@@ -63,20 +64,20 @@ initial-stands {calls = calls} {words = words} {budget = budget} {A = A} {t = t}
       at = record { current = c; clear = clear-zero (mayDrop calls) Insertion t; premise = tt };
       typed = typed;
       long = refl;
-      same = sym (reduce-begins (mayDrop calls) (length words) budget t (omega (arith, gapped-size g, g .inside)));
+      same = sym (reduce-begins (mayDrop calls) (length words) settings t (omega (arith, gapped-size g, g .inside)));
     }
 
 -- before the first turn
-pub arrives-initial : {calls words second : List ℕ} {begin budget : ℕ} → budget ≤ 4294967295 → Reducible calls words begin second
-    → Arrives calls (initial words begin budget second) (initial words begin budget second)
-arrives-initial {calls} {words} {second} {begin} {budget} h x =
+pub arrives-initial : {calls words second : List ℕ} {begin : ℕ} {settings : Settings} → settings .budget ≤ 4294967295 → Reducible calls words begin second
+    → Arrives calls settings (initial words begin settings second) (initial words begin settings second)
+arrives-initial {calls} {words} {second} {begin} {settings} h x =
     let y = x .typed in
     record {
       premise = record {
         types = y .types;
         inputs = y .inputs;
         capacity = length words;
-        whole = reduce (mayDrop calls) (length words) (record { budget = budget }) (x .term);
+        whole = reduce (mayDrop calls) (length words) settings (x .term);
         fit = fitting (y .limit) (over (y .types) calls (y .inputs)) (y .source) (y .lengths) (y .signatures);
         standing = initial-stands (x .current) (y .typed);
       };
@@ -89,11 +90,11 @@ arrives-initial {calls} {words} {second} {begin} {budget} h x =
       none-yet = refl;
     }
 
-module _ {calls words second : List ℕ} {begin budget : ℕ} {b : State} (v : Arrives calls (initial words begin budget second) b) where
+module _ {calls words second : List ℕ} {begin : ℕ} {settings : Settings} {b : State} (v : Arrives calls settings (initial words begin settings second) b) where
   -- the reduction of whatever term was current at first stands here
   stands-now : (t : Term) → Current calls words 0 begin t
-      → StandsFor (over (v .premise .types) calls (v .premise .inputs)) (length words)
-      (reduce (mayDrop calls) (length words) (record { budget = budget }) t) b
+      → StandsFor (over (v .premise .types) calls (v .premise .inputs)) (length words) settings
+      (reduce (mayDrop calls) (length words) settings t) b
   stands-now t c =
       let s = v .premise .standing in
       v .carries _ _ _ _ (v .premise .fit) (initial-stands c
@@ -101,37 +102,39 @@ module _ {calls words second : List ℕ} {begin budget : ℕ} {b : State} (v : A
       (current-unique (s .at .current) c) (s .typed)))
 
   -- it is refused
-  pub refused-reduces : {after : List ℕ} {turn : Turn} {n : ℕ} {r : Reduced} → TurnFrom calls b after turn → turn ≡ Refused n
-      → r .refusal ≡ n → r .counts ≡ b .counts → Reduces calls words begin budget after r
+  pub refused-reduces : {after : List ℕ} {turn : Turn} {n : ℕ} {r : Reduced} → TurnFrom calls settings b after turn → turn ≡ Refused n
+      → r .refusal ≡ n → r .counts ≡ b .counts → Reduces calls words begin settings after r
   refused-reduces {after} {turn} {n} {r} x te re ce = record {
     told = λ t c.
         let s = stands-now t c in
         let k = number (refused-turn .told (s .term) (s .at)) in
-        subst (Reports after r) (sym (stands-refused _ _ _ s n refused-turn ∙ ap (λ (i : ℕ). stopped i (b .counts)) (k .1)))
+        subst (Reports after r) (sym (stands-refused _ _ _ _ s n refused-turn ∙ ap (λ (i : ℕ). stopped i (b .counts)) (k .1)))
         (refusal (re ∙ k .1) ce);
   }
     where
-      refused-turn : TurnFrom calls b after (Refused n)
-      refused-turn = subst (λ (y : Turn). TurnFrom calls b after y) te x
+      refused-turn : TurnFrom calls settings b after (Refused n)
+      refused-turn = subst (λ (y : Turn). TurnFrom calls settings b after y) te x
 
-      number : {t : Term} {n m : ℕ} {after : List ℕ} → Turned (b .phase) calls after (b .start) (b .end) (b .left) m t (Refused n)
+      number : {t : Term} {n m : ℕ} {after : List ℕ} → Turned (b .phase) calls after (b .start) (b .end) (b .left) (b .counts)
+          (settings .ceilings) m t (Refused n)
           → (k : ℕ) × (n ≡ suc k)
       number (spent s e z) = (9, refl)
-      number (full s e h l) = (10, refl)
+      number (met s e h u) = (12, refl)
+      number (full s e h u l) = (10, refl)
 
   -- the phase is over
-  module _ {after front : List ℕ} {rest : ℕ} {turn : Turn} (x : TurnFrom calls b after turn) (te : turn ≡ Stop)
+  module _ {after front : List ℕ} {rest : ℕ} {turn : Turn} (x : TurnFrom calls settings b after turn) (te : turn ≡ Stop)
       (k : Seeks after (b .start) (b .end) 0 front rest) (l : length front ≡ length (b .words)) where
-    stop-turn : TurnFrom calls b after Stop
-    stop-turn = subst (λ (y : Turn). TurnFrom calls b after y) te x
+    stop-turn : TurnFrom calls settings b after Stop
+    stop-turn = subst (λ (y : Turn). TurnFrom calls settings b after y) te x
 
     pub phase-arrives : {second′ : List ℕ} {phase : Phase} → length second′ ≡ length (b .second) → Follows (b .phase) phase
-        → Arrives calls (initial words begin budget second) (atFront b phase front rest second′)
+        → Arrives calls settings (initial words begin settings second) (atFront b phase front rest second′)
     phase-arrives {second′} m f = record {
       premise = v .premise;
       carries = λ types inputs capacity whole fit s.
           let t = v .carries types inputs capacity whole fit s in
-          stands-onwards _ _ _ t stop-turn k second′ (l ∙ t .long) f;
+          stands-onwards _ _ _ _ t stop-turn k second′ (l ∙ t .long) f;
       counts-fit = v .counts-fit;
       limit = omega (arith, l, v .limit);
       scratch = m ∙ v .scratch ∙ sym l;
@@ -142,10 +145,10 @@ module _ {calls words second : List ℕ} {begin budget : ℕ} {b : State} (v : A
 
     -- and it was the last
     pub form-reduces : b .phase ≡ Dropping → {r : Reduced} → r .refusal ≡ b .refusal → r .counts ≡ b .counts → r .begin ≡ rest
-        → Reduces calls words begin budget front r
+        → Reduces calls words begin settings front r
     form-reduces e {r} re ce be = record {
       told = λ t c.
-          let w = stands-at-form _ _ _ (stands-now t c) stop-turn k e in
+          let w = stands-at-form _ _ _ _ (stands-now t c) stop-turn k e in
           subst (Reports front r) (sym (w .whole-is))
           (ended (re ∙ v .none-yet) ce (subst (λ (n : ℕ). Gapped front 0 n (w .term)) (sym be) (w .gapped)));
     }

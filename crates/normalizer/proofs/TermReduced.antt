@@ -11,6 +11,7 @@ use Rattle.syntax.specs.Shaped.{Shaped}
 use Rattle.syntax.proofs.Nodes.{tail-part}
 use Rattle.words.specs.Fronts.{from}
 use Rattle.reduction.specs.MayDrop.{mayDrop}
+use Rattle.reduction.specs.declared.Settings.{Settings}
 use Rattle.reduction.specs.Reduction.{Counts, Progress, stopped, reached, reduce}
 use Rattle.outcomes.specs.Buffers.{overwrite}
 use Rattle.outcomes.specs.Normalize.{reducedTo}
@@ -52,16 +53,16 @@ module _ {calls words output first second : List ℕ} (x : Settleable calls word
     scratch = l ∙ x .scratch ∙ sym same-long;
   }
 
-  module _ {budget : ℕ} {after : List ℕ} {r : Reduced} (y : Reduces calls first′ begin budget after r) where
+  module _ {settings : Settings} {after : List ℕ} {r : Reduced} (y : Reduces calls first′ begin settings after r) where
     reported : (t : Term) → Shaped calls t → words ≡ encode t
-        → Reports after r (reduce (mayDrop calls) (length first) (record { budget = budget }) t)
+        → Reports after r (reduce (mayDrop calls) (length first) settings t)
     reported t s e =
-        subst (λ (k : ℕ). Reports after r (reduce (mayDrop calls) k (record { budget = budget }) t)) same-long (y .told t (placed t s e))
+        subst (λ (k : ℕ). Reports after r (reduce (mayDrop calls) k settings t)) same-long (y .told t (placed t s e))
 
     -- stopped on the way
     pub settled-stopped : (A : ℕ) (a : Answer) → (r .refusal ≡ 0 → ⊥)
         → a ≡ record { refusal = r .refusal; ty = 0; length = 0; counts = r .counts }
-        → Settles calls words A budget (length first) output a output
+        → Settles calls words A settings (length first) output a output
     unfolding reducedTo overwrite
     settled-stopped A a z ae = record { told = λ t s e. go _ (reported t s e) }
       where
@@ -83,7 +84,7 @@ module _ {calls words output first second : List ℕ} (x : Settleable calls word
 
       -- come through
       pub settled-ended : (A : ℕ) (output′ : List ℕ) → output′ ≡ paste output 0 (from after (r .begin)) (length after - r .begin)
-          → Settles calls words A budget (length first) output
+          → Settles calls words A settings (length first) output
           (record { refusal = 0; ty = A; length = length after - r .begin; counts = r .counts }) output′
       unfolding reducedTo overwrite size
       settled-ended A output′ oe = record { told = λ t s e. go _ (reported t s e) }

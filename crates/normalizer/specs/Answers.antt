@@ -8,7 +8,8 @@ use Rattle.syntax.specs.Term.{Term}
 use Rattle.syntax.specs.Encoding.{encode}
 use Rattle.syntax.specs.Shaped.{Shaped}
 use Rattle.reduction.specs.MayDrop.{mayDrop}
-use Rattle.reduction.specs.Reduction.{Settings, reduce}
+use Rattle.reduction.specs.declared.Settings.{Settings}
+use Rattle.reduction.specs.Reduction.{reduce}
 use Rattle.outcomes.specs.Buffers.{overwrite}
 use Rattle.outcomes.specs.Normalize.{Normalized, reducedTo, Buffers, capacityOf, normalizeWithin}
 use Rattle.outcomes.specs.declared.Answer.{Answer}
@@ -36,6 +37,6 @@ pub record Settleable (calls words output first second : List ℕ) : Type 0 wher
   pub room : length first ≤ length output
 
 -- for whatever term the words are
-pub record Settles (calls words : List ℕ) (A budget capacity : ℕ) (before : List ℕ) (answer : Answer) (after : List ℕ) : Type 0 where
+pub record Settles (calls words : List ℕ) (A : ℕ) (settings : Settings) (capacity : ℕ) (before : List ℕ) (answer : Answer) (after : List ℕ) : Type 0 where
   pub told : (t : Term) → Shaped calls t → words ≡ encode t
-      → Fills (reducedTo A (reduce (mayDrop calls) capacity (record { budget = budget }) t)) before answer after
+      → Fills (reducedTo A (reduce (mayDrop calls) capacity settings t)) before answer after

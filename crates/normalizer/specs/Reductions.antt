@@ -10,6 +10,7 @@ use Rattle.syntax.specs.Term.{Term}
 use Rattle.typing.specs.Infer.{infer}
 use Rattle.typing.specs.TableChecks.{lengthsFit, wellFormedCalls}
 use Rattle.reduction.specs.MayDrop.{mayDrop}
+use Rattle.reduction.specs.declared.Settings.{Settings}
 use Rattle.reduction.specs.Reduction.{Counts, Progress, stopped, reached, reduce}
 use Rattle.step.specs.Currents.{Gapped, Current}
 use Rattle.normalizer.specs.declared.reduce.Reduced.{Reduced}
@@ -40,6 +41,6 @@ pub data Reports (after : List ℕ) (r : Reduced) : Progress → Type 0 where
       → Reports after r (reached left u counts)
 
 -- for whatever term is there; the capacity is the buffer's length
-pub record Reduces (calls before : List ℕ) (begin budget : ℕ) (after : List ℕ) (r : Reduced) : Type 0 where
+pub record Reduces (calls before : List ℕ) (begin : ℕ) (settings : Settings) (after : List ℕ) (r : Reduced) : Type 0 where
   pub told : (t : Term) → Current calls before 0 begin t
-      → Reports after r (reduce (mayDrop calls) (length before) (record { budget = budget }) t)
+      → Reports after r (reduce (mayDrop calls) (length before) settings t)

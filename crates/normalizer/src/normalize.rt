@@ -8,6 +8,7 @@ use crate::reduce::reduce;
 use checker::check::NORMALIZE_LIMIT;
 use checker::check::check_within;
 use outcomes::Answer;
+use reduction::Settings;
 use words::lesser::lesser;
 use words::moves::clear;
 use words::moves::copy;
@@ -29,20 +30,20 @@ fn settle(
     calls: &[u64],
     term: &[u64],
     ty: u64,
-    budget: u32,
+    settings: Settings,
     output: &mut [u64],
     first: &mut [u64],
     second: &mut [u64],
 ) -> Answer
     requires { ⌜ Settleable (now calls) (now term) (now output) (now first) (now second) ⌝ }
     ensures { λ r. ⌜
-        Settles (now (calls .entry)) (now (term .entry)) ty budget (lengthOf (now (first .entry))) (now (output .entry)) r
+        Settles (now (calls .entry)) (now (term .entry)) ty settings (lengthOf (now (first .entry))) (now (output .entry)) r
         (now (output .exit))
         ⌝ }
 {
     let begin = first.len() - term.len();
     copy(term, 0, term.len(), first, begin);
-    let reduced = reduce(calls, first, begin, budget, second);
+    let reduced = reduce(calls, first, begin, settings, second);
     let refusal = reduced.refusal;
     let counts = reduced.counts;
     if refusal != 0 {
@@ -65,13 +66,13 @@ fn run(
     calls: &[u64],
     inputs: &[u64],
     term: &[u64],
-    budget: u32,
+    settings: Settings,
     output: &mut [u64],
     first: &mut [u64],
     second: &mut [u64],
 ) -> Answer
     ensures { λ r. ⌜
-        FillsNormalized (record { budget = budget }) (over (now (types .entry)) (now (calls .entry)) (now (inputs .entry)))
+        FillsNormalized settings (over (now (types .entry)) (now (calls .entry)) (now (inputs .entry)))
         (now (term .entry)) (record { output = now (output .entry); scratch₁ = now (first .entry); scratch₂ = now (second .entry) }) r
         (now (output .exit))
         ⌝ }
@@ -91,7 +92,7 @@ fn run(
         calls,
         term,
         checked.ty,
-        budget,
+        settings,
         output,
         &mut first[..capacity],
         &mut second[..capacity],
@@ -105,18 +106,18 @@ pub fn normalize(
     calls: &[u64],
     inputs: &[u64],
     term: &[u64],
-    budget: u32,
+    settings: Settings,
     output: &mut [u64],
     first: &mut [u64],
     second: &mut [u64],
 ) -> Answer
     ensures { λ r. ⌜
-        Normalizes (record { budget = budget }) (over (now (types .entry)) (now (calls .entry)) (now (inputs .entry))) (now (term .entry))
+        Normalizes settings (over (now (types .entry)) (now (calls .entry)) (now (inputs .entry))) (now (term .entry))
         (record { output = now (output .entry); scratch₁ = now (first .entry); scratch₂ = now (second .entry) }) r
         (record { output = now (output .exit); scratch₁ = now (first .exit); scratch₂ = now (second .exit) })
         ⌝ }
 {
-    let answer = run(types, calls, inputs, term, budget, output, first, second);
+    let answer = run(types, calls, inputs, term, settings, output, first, second);
     clear(first);
     clear(second);
     answer

@@ -1,14 +1,15 @@
 // The loop over phases and steps.
 ghost use Rattle.normalizer.specs.Reductions.{Reducible, Reduces};
-use crate::counts::raise;
 use reduction::Phase;
+use reduction::Settings;
+use step::counts::raise;
 use step::gap::seek;
 use step::turn::Turn;
 use step::turn::take_turn;
 use words::PENDING;
 use words::acting::some_acts;
 
-// refusal 0 and where the last term begins, or 10 or 11; and the counts of the steps taken
+// refusal 0 and where the last term begins, or 10, 11 or 13; and the counts of the steps taken
 pub struct Reduced {
     pub refusal: u32,
     pub begin: usize,
@@ -20,14 +21,16 @@ pub fn reduce(
     calls: &[u64],
     current: &mut [u64],
     begin: usize,
-    budget: u32,
+    settings: Settings,
     second: &mut [u64],
 ) -> Reduced
     requires { ⌜ Reducible (now calls) (now current) begin (now second) ⌝ }
-    ensures { λ r. ⌜ Reduces (now (calls .entry)) (now (current .entry)) begin budget (now (current .exit)) r ⌝ }
+    ensures { λ r. ⌜ Reduces (now (calls .entry)) (now (current .entry)) begin settings (now (current .exit)) r ⌝ }
 {
     // asked once, for every search
     let acting = some_acts(calls);
+    let budget = settings.budget;
+    let ceilings = settings.ceilings;
     // space in which a step goes through the parts of its redex
     let mut pending: [u64; PENDING] = [0; PENDING];
     let mut counts: [u32; 10] = [0; 10];
@@ -46,6 +49,8 @@ pub fn reduce(
                 start,
                 end,
                 left,
+                counts,
+                ceilings,
                 second,
                 &mut pending,
             );

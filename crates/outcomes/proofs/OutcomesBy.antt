@@ -9,7 +9,7 @@ use Rattle.syntax.specs.Tables.{Tables}
 use Rattle.syntax.specs.Term.{Term}
 use Rattle.typing.specs.Refusals.{Verdict, refused, accepted, TypedTerm, elaborate, normalizeLimit, otherLimit}
 use Rattle.reduction.specs.MayDrop.{mayDrop}
-use Rattle.reduction.specs.Reduction.{Settings}
+use Rattle.reduction.specs.declared.Settings.{Settings}
 use Rattle.outcomes.specs.Check.{checkedOf, checkOutcome}
 use Rattle.outcomes.specs.IsNormal.{testedOf, isNormalOutcome}
 use Rattle.outcomes.specs.FreeInputs.{readOf, freeInputsOutcome}

@@ -4,7 +4,7 @@ use mathlib.Core.Path.{_≡_}
 use mathlib.Core.List.{List}
 use lib.ListN.{length, take}
 use Rattle.syntax.specs.Tables.{Tables}
-use Rattle.reduction.specs.Reduction.{Settings}
+use Rattle.reduction.specs.declared.Settings.{Settings}
 use Rattle.semantics.specs.Claim.{Claim}
 use Rattle.outcomes.specs.Normalize.{Buffers, normalizeOutcome}
 use Rattle.outcomes.specs.declared.Answer.{Answer}

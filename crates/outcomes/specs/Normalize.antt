@@ -8,7 +8,8 @@ use Rattle.syntax.specs.Term.{Term}
 use Rattle.syntax.specs.Encoding.{encode, size}
 use Rattle.typing.specs.Refusals.{Verdict, refused, accepted, TypedTerm, elaborate, normalizeLimit}
 use Rattle.reduction.specs.MayDrop.{mayDrop}
-use Rattle.reduction.specs.Reduction.{Settings, Progress, stopped, reached, reduce, zeroCounts}
+use Rattle.reduction.specs.declared.Settings.{Settings}
+use Rattle.reduction.specs.Reduction.{Progress, stopped, reached, reduce, zeroCounts}
 use Rattle.outcomes.specs.Buffers.{overwrite, cleared}
 use Rattle.outcomes.specs.declared.Answer.{Answer}
 

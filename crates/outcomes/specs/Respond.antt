@@ -3,16 +3,17 @@ use Prim.Native.Nat.{ℕ, zero, suc, _+_}
 use mathlib.Core.List.{List, []}
 use lib.ListN.{take, drop, replicate}
 use Rattle.syntax.specs.Tables.{Tables}
-use Rattle.reduction.specs.Reduction.{Settings, zeroCounts}
+use Rattle.reduction.specs.declared.Settings.{Settings}
+use Rattle.reduction.specs.Reduction.{noCeilings, zeroCounts}
 use Rattle.outcomes.specs.declared.Answer.{Answer}
 use Rattle.outcomes.specs.Normalize.{Normalized, normalizeWithin, maxCapacity}
 use Rattle.outcomes.specs.declared.Lengths.{Lengths}
 use Rattle.outcomes.specs.ReadBundle.{Reading, readBundleOutcome}
 use Rattle.outcomes.specs.Listing.{listingOf, Written, writtenTo}
 
--- the program's settings
+-- the program's settings: a budget and no ceilings
 abbrev pub programSettings : Settings
-programSettings = record { budget = 1000000 }
+programSettings = noCeilings 1000000
 
 -- as many words as a bundle of 65,536 bytes has
 abbrev pub bundleWords : ℕ

@@ -34,7 +34,7 @@ index-below LetValue = omega arith
 index-below Drop = omega arith
 
 -- one count of a list raised, read at an index
-raised-at : (xs : Counts) (j i : ℕ) → i < length xs → getD (set xs j (getD xs j 0 + 1)) i 0 ≡ counts (eqb j i) + getD xs i 0
+pub raised-at : (xs : Counts) (j i : ℕ) → i < length xs → getD (set xs j (getD xs j 0 + 1)) i 0 ≡ counts (eqb j i) + getD xs i 0
 raised-at xs j i l = go (eqb j i) (eqb→eq j i) (λ f e. T-not (eqb j i) f (subst (λ (k : ℕ). T (eqb j k)) e (eqb-refl j)))
   where
     go : (b : Bool) → (T b → j ≡ i) → (T (not b) → j ≡ i → ⊥) → getD (set xs j (getD xs j 0 + 1)) i 0 ≡ counts b + getD xs i 0
@@ -43,7 +43,7 @@ raised-at xs j i l = go (eqb j i) (eqb→eq j i) (λ f e. T-not (eqb j i) f (sub
         ap (λ (n : ℕ). getD (set xs n (getD xs n 0 + 1)) i 0) e ∙ getD-set-same xs i (getD xs i 0 + 1) 0 l ∙ omega arith
     go false h k = getD-set-other xs j i (getD xs j 0 + 1) 0 (λ e. k tt (sym e)) ∙ omega arith
 
-tally-by : (r : Rule) (ss : List Step) (xs : Counts) → length xs ≡ 10 → getD (tally ss xs) (index r) 0 ≡ stepsBy r ss + getD xs (index r) 0
+pub tally-by : (r : Rule) (ss : List Step) (xs : Counts) → length xs ≡ 10 → getD (tally ss xs) (index r) 0 ≡ stepsBy r ss + getD xs (index r) 0
 unfolding tally stepsBy
 tally-by r [] xs l = omega arith
 tally-by r (s ∷ ss) xs l =

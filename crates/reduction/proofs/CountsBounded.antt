@@ -7,9 +7,10 @@ use native.Mathlib.Omega.{arith}
 use lib.ListN.{length, getD, set, replicate, length-set}
 use Rattle.syntax.specs.Term.{Term}
 use Rattle.reduction.specs.Redex.{Step}
-use Rattle.reduction.specs.Reduction.{Counts, index, raise, zeroCounts, Settings, Progress, stopped, reached, reduce}
+use Rattle.reduction.specs.declared.Settings.{Settings}
+use Rattle.reduction.specs.Reduction.{Counts, index, raise, zeroCounts, Progress, stopped, reached, reduce}
 use Rattle.reduction.specs.Sequence.{tally}
-use Rattle.reduction.proofs.Exact.{budget-spent, next-too-long, first-too-long, Exact, refused, normal, reduce-exact}
+use Rattle.reduction.proofs.Exact.{budget-spent, ceiling-met, next-too-long, first-too-long, Exact, refused, normal, reduce-exact}
 use Rattle.reduction.proofs.Path.{steps}
 
 -- one count raised
@@ -46,20 +47,24 @@ countsOf (stopped n counts) = counts
 countsOf (reached left u counts) = counts
 
 module _ (pure : Term → Bool) (capacity : ℕ) where
-  exact-count : {budget : ℕ} {t : Term} {x : Progress} → Exact pure capacity budget t x → (i : ℕ) → getD (countsOf x) i 0 ≤ budget
-  exact-count (refused (budget-spent {ss = ss} p h e l d)) i =
+  exact-count : {settings : Settings} {t : Term} {x : Progress} → Exact pure capacity settings t x → (i : ℕ)
+      → getD (countsOf x) i 0 ≤ settings .budget
+  exact-count (refused (budget-spent {ss = ss} p h a e l d)) i =
       omega (arith, count-steps ss i, l, ap (λ (c : Counts). getD c i 0) d)
-  exact-count (refused (next-too-long {ss = ss} p h e l k d)) i =
+  exact-count (refused (ceiling-met {ss = ss} p h a e l u d)) i =
+      omega (arith, count-steps ss i, l, ap (λ (c : Counts). getD c i 0) d)
+  exact-count (refused (next-too-long {ss = ss} p h a e l u k d)) i =
       omega (arith, count-steps ss i, l, ap (λ (c : Counts). getD c i 0) d)
   exact-count (refused (first-too-long l)) i = omega (arith, zeros 10 i)
-  exact-count (normal q h l d) i =
+  exact-count (normal q h a l d) i =
       omega (arith, count-steps (steps pure q) i, l, ap (λ (c : Counts). getD c i 0) d)
 
-  exact-ten : {budget : ℕ} {t : Term} {x : Progress} → Exact pure capacity budget t x → length (countsOf x) ≡ 10
-  exact-ten (refused (budget-spent {ss = ss} p h e l d)) = ap length (sym d) ∙ tally-ten ss zeroCounts refl
-  exact-ten (refused (next-too-long {ss = ss} p h e l k d)) = ap length (sym d) ∙ tally-ten ss zeroCounts refl
+  exact-ten : {settings : Settings} {t : Term} {x : Progress} → Exact pure capacity settings t x → length (countsOf x) ≡ 10
+  exact-ten (refused (budget-spent {ss = ss} p h a e l d)) = ap length (sym d) ∙ tally-ten ss zeroCounts refl
+  exact-ten (refused (ceiling-met {ss = ss} p h a e l u d)) = ap length (sym d) ∙ tally-ten ss zeroCounts refl
+  exact-ten (refused (next-too-long {ss = ss} p h a e l u k d)) = ap length (sym d) ∙ tally-ten ss zeroCounts refl
   exact-ten (refused (first-too-long l)) = refl
-  exact-ten (normal q h l d) = ap length (sym d) ∙ tally-ten (steps pure q) zeroCounts refl
+  exact-ten (normal q h a l d) = ap length (sym d) ∙ tally-ten (steps pure q) zeroCounts refl
 
   pub ten-counts : (settings : Settings) (t : Term) → length (countsOf (reduce pure capacity settings t)) ≡ 10
   ten-counts settings t = exact-ten (reduce-exact pure capacity settings t)

@@ -22,3 +22,7 @@ pub mod Exact
 pub mod CountsBounded
 pub mod SearchAnswer
 pub mod CountOfRule
+pub mod Ceilings
+pub mod WithinSettings
+pub mod RaisedSettings
+pub mod BeforeCeilings

@@ -1,7 +1,7 @@
 -- Runs of steps through the phases in their order, not always to the end: where a bounded reduction can stand when it is refused.
 -- A reduction sequence is such a run that ends in the third phase at a term that no rule of it fits.
 use mathlib.Core.Path.{_≡_, refl, ap}
-use mathlib.Core.Bool.{Bool}
+use mathlib.Core.Bool.{Bool, false}
 use mathlib.Core.List.{List, [], _∷_, _++_, map}
 use mathlib.Core.Option.{some, none}
 use Prim.Native.Nat.{ℕ, _≤_}
@@ -10,6 +10,7 @@ use Rattle.syntax.specs.Encoding.{size}
 use Rattle.reduction.specs.declared.Phase.{Phase}
 use Rattle.reduction.specs.declared.Phase.the-variants.{Insertion, Reduction, Dropping}
 use Rattle.reduction.specs.Redex.{Step, step}
+use Rattle.reduction.specs.Reduction.{Counts, raise, ceilingMet}
 use Rattle.reduction.specs.Sequence.{Steps, ended, stepped, Sequence}
 
 -- the order of the phases
@@ -21,6 +22,12 @@ pub data Follows : Phase → Phase → Type 0 where
 pub data Within (capacity : ℕ) : List Term → Type 0 where
   all-fit : Within capacity []
   fits : {t : Term} {ts : List Term} → size t ≤ capacity → Within capacity ts → Within capacity (t ∷ ts)
+
+-- steps that the ceilings allow, from counts on: before each, the ceiling of its rule is not met
+pub data Allowed (ceilings : List ℕ) : Counts → List Step → Type 0 where
+  all-allowed : {counts : Counts} → Allowed ceilings counts []
+  allows : {counts : Counts} {s : Step} {ss : List Step} → ceilingMet ceilings (s .rule) counts ≡ false
+      → Allowed ceilings (raise (s .rule) counts) ss → Allowed ceilings counts (s ∷ ss)
 
 -- the terms that steps lead to
 abbrev pub nexts : List Step → List Term

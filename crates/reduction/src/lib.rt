@@ -23,3 +23,10 @@ pub enum Found {
     Redex(Rule, usize),
     Nothing,
 }
+
+// what the caller sets: how many steps may be taken, and how often each rule may be used, in the order of the counts; laid out as C does
+#[repr(C)]
+pub struct Settings {
+    pub budget: u32,
+    pub ceilings: [u32; 10],
+}

@@ -13,7 +13,8 @@ use Rattle.syntax.specs.Term.{Term}
 use Rattle.syntax.specs.Encoding.{size}
 use Rattle.typing.specs.Refusals.{Verdict, refused, accepted, TypedTerm, elaborate, normalizeLimit}
 use Rattle.reduction.specs.MayDrop.{mayDrop}
-use Rattle.reduction.specs.Reduction.{Settings, Progress, stopped, reached, reduce}
+use Rattle.reduction.specs.declared.Settings.{Settings}
+use Rattle.reduction.specs.Reduction.{Progress, stopped, reached, reduce}
 use Rattle.outcomes.specs.Buffers.{overwrite}
 use Rattle.outcomes.specs.Listing.{listingOf, Written, writtenTo, wordsListed, listingOutcome}
 use Rattle.outcomes.specs.Normalize.{Normalized, reducedTo, checkedTo, normalizeWithin, Buffers, capacityOf, maxCapacity, Outcome}
@@ -64,18 +65,19 @@ front-listed r output text e =
     omega (arith, listed-at-most (r .answer), e, length-append (r .words) rest) in
     rw (le-leb (wordsListed (r .answer)) (length (r .words ++ rest)) within, listingOutcome, e, take-front (r .words) rest)
 
--- an outcome of normalization, then listed
+-- an outcome of normalization with the program's settings, then listed
 pub listing-normalized : (settings : Settings) (tables : Tables) (words : List ℕ) (before after : Buffers) (answer : Answer)
-    (text : List ℕ) (told : Written) → capacityOf before ≡ maxCapacity
+    (text : List ℕ) (told : Written) → settings ≡ programSettings → capacityOf before ≡ maxCapacity
     → record { answer = answer; buffers = after } ≡ normalizeOutcome settings tables words before
     → told ≡ listingOutcome answer (after .output) text
-    → told ≡ writtenTo text (listed (normalizeWithin maxCapacity settings tables words))
+    → told ≡ writtenTo text (listed (normalizeWithin maxCapacity programSettings tables words))
 unfolding normalizeOutcome
-listing-normalized settings tables words before after answer text told c e t =
+listing-normalized settings tables words before after answer text told s c e t =
     t ∙ ap (λ (o : Outcome). listingOutcome (o .answer) (o .buffers .output) text) e
     ∙ front-listed (normalizeWithin (capacityOf before) settings tables words) (before .output) text
     (normalized-counted (capacityOf before) settings tables words)
     ∙ ap (λ (n : ℕ). writtenTo text (listed (normalizeWithin n settings tables words))) c
+    ∙ ap (λ (s : Settings). writtenTo text (listed (normalizeWithin maxCapacity s tables words))) s
 
 -- three buffers of the largest capacity
 pub full-capacity : (output first second : List ℕ) → length output ≡ maxCapacity → length first ≡ maxCapacity → length second ≡ maxCapacity

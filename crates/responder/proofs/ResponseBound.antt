@@ -1,4 +1,4 @@
--- Whatever the program reads, what it writes fits 139,393 bytes: a refusal is at most 12, a type number below 1,024, a normal form at most
+-- Whatever the program reads, what it writes fits 139,393 bytes: a refusal is at most 13, a type number below 1,024, a normal form at most
 -- 8,192 words, and each of the ten counts at most the budget. So a text of that length gets the whole response.
 use Prim.Native.Nat.{ℕ, zero, suc, _≤_, _<_}
 use native.Mathlib.Omega.{arith}
@@ -28,7 +28,7 @@ use Rattle.bundles.proofs.ListingBound.{listing-some, listing-fits}
 
 -- the numbers that are listed
 record BoundedAnswer (r : Normalized) : Type 0 where
-  refusal : r .answer .refusal ≤ 12
+  refusal : r .answer .refusal ≤ 13
   type : r .answer .ty < 1024
   length-answered : r .answer .length ≤ maxCapacity
   words : length (r .words) ≤ maxCapacity
@@ -40,7 +40,7 @@ bounded-fits r b = listing-fits (r .answer) (r .words) (omega (arith, b .refusal
     (b .words) (b .ten) (λ i. omega (arith, b .each i))
 
 -- refused with counts of zero
-refused-bounded : (n : ℕ) → n ≤ 12 → BoundedAnswer (record { answer = unread n; words = [] })
+refused-bounded : (n : ℕ) → n ≤ 13 → BoundedAnswer (record { answer = unread n; words = [] })
 refused-bounded n h = record {
   refusal = h;
   type = omega arith;
@@ -52,7 +52,7 @@ refused-bounded n h = record {
 
 module _ (pure : Term → Bool) where
   -- reduced, to a refusal or to a normal form
-  reduced-bounded : (A : ℕ) (t : Term) (p : Progress) → A < 1024 → Exact pure maxCapacity (programSettings .budget) t p
+  reduced-bounded : (A : ℕ) (t : Term) (p : Progress) → A < 1024 → Exact pure maxCapacity programSettings t p
       → length (countsOf p) ≡ 10 → ((i : ℕ) → getD (countsOf p) i 0 ≤ programSettings .budget) → BoundedAnswer (reducedTo A p)
   unfolding reducedTo size
   reduced-bounded A t (stopped n counts) h x ten each = record {
@@ -121,7 +121,7 @@ reading-lists r h = by-refusal (r .lengths .refusal) h
     }
     by-refusal (suc m) k = record {
       result = record { answer = unread (suc m); words = [] };
-      bounded = refused-bounded (suc m) k;
+      bounded = refused-bounded (suc m) (omega (arith, k));
       is = refl;
     }
 

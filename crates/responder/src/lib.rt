@@ -11,6 +11,7 @@ ghost use Rattle.outcomes.specs.Respond.{programSettings, tablesOf, termOf, unr
 use bundles::listing::listing;
 use bundles::read::read_bundle;
 use normalizer::normalize::normalize;
+use normalizer::settings::no_ceilings;
 use outcomes::Answer;
 use outcomes::Lengths;
 
@@ -25,6 +26,7 @@ fn answer_to(types: &[u64], calls: &[u64], inputs: &[u64], term: &[u64], text: &
         (over (now (types .entry)) (now (calls .entry)) (now (inputs .entry))) (now (term .entry))))
         ⌝ }
 {
+    let settings = no_ceilings(1000000);
     let mut output: [u64; 8192] = [0; 8192];
     let mut first: [u64; 8192] = [0; 8192];
     let mut second: [u64; 8192] = [0; 8192];
@@ -33,7 +35,7 @@ fn answer_to(types: &[u64], calls: &[u64], inputs: &[u64], term: &[u64], text: &
         calls,
         inputs,
         term,
-        1000000,
+        settings,
         &mut output,
         &mut first,
         &mut second,

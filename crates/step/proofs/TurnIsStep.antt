@@ -2,7 +2,7 @@
 use Prim.Native.Nat.{ℕ, _+_, _-_, _≤_, _<_}
 use native.Mathlib.Omega.{arith}
 use mathlib.Core.Path.{_≡_, refl, sym, _∙_, ap, subst}
-use mathlib.Core.Bool.{Bool}
+use mathlib.Core.Bool.{Bool, true, false}
 use mathlib.Core.List.{List, [], _∷_}
 use mathlib.Core.Option.{Option, some, none, Option·some-injective, Option·none-ne-some}
 use lib.ListN.{length, getElem?}
@@ -14,6 +14,7 @@ use Rattle.syntax.proofs.Sites.{site, size-plugged, index-below}
 use Rattle.reduction.specs.MayDrop.{mayDrop}
 use Rattle.reduction.specs.Rules.{fire, rules}
 use Rattle.reduction.specs.Redex.{Contraction, contract, Step, step}
+use Rattle.reduction.specs.Reduction.{ceilingMet}
 use Rattle.reduction.specs.declared.Rule.{Rule}
 use Rattle.reduction.specs.declared.Phase.{Phase}
 use Rattle.reduction.specs.declared.Phase.the-variants.{Insertion, Reduction, Dropping}
@@ -28,7 +29,7 @@ use Rattle.step.specs.Currents.{Gapped}
 use Rattle.step.specs.Gaps.{Seekable, Seeks}
 use Rattle.search.specs.Finds.{SearchAt, Searchable, Finds}
 use Rattle.step.specs.Rewrites.{RedexAt, Rewritable, RewrittenTo, too-long, there, RewritesRedex}
-use Rattle.step.specs.Turns.{CurrentClear, Ready, Turned, stops, spent, full, goes, Turns}
+use Rattle.step.specs.Turns.{CurrentClear, Ready, Turned, stops, spent, met, full, goes, Turns}
 use Rattle.search.specs.NextFrom.{nextFrom}
 use Rattle.step.specs.declared.rewrite.Rewritten.{Rewritten}
 use Rattle.step.specs.declared.rewrite.Rewritten.the-variants.{Full, Next}
@@ -101,7 +102,8 @@ module _ {phase : Phase} {calls before : List ℕ} {start end : ℕ} where
 
   module _ {r : Found} (f : Finds phase calls (from before end) r) where
     -- nothing is found
-    pub turned-stops : {left : ℕ} → r ≡ Nothing → Turns phase calls before start end left before Stop
+    pub turned-stops : {left : ℕ} {counts ceilings : List ℕ} → r ≡ Nothing
+        → Turns phase calls before start end left counts ceilings before Stop
     turned-stops e = record {
       told = λ t a.
           let none-found = sym (ap (movedBy start) (sym e) ∙ f .told t start (search-at a)) in
@@ -117,8 +119,18 @@ module _ {phase : Phase} {calls before : List ℕ} {start end : ℕ} where
 
   module _ {rule : Rule} {ahead : ℕ} (r : FirstRedex phase calls before start end rule ahead) where
     -- the budget is used up
-    pub turned-spent : {left : ℕ} {after : List ℕ} → left ≡ 0 → Turns phase calls before start end left after (Refused 10)
+    pub turned-spent : {left : ℕ} {counts ceilings after : List ℕ} → left ≡ 0
+        → Turns phase calls before start end left counts ceilings after (Refused 10)
     turned-spent z = record { told = λ t a. let s = r .step-of t a in spent (s .taken) (s .is) z }
+
+    -- it is not, and the ceiling of the rule is met
+    pub turned-met : {left : ℕ} {counts ceilings after : List ℕ} → 0 < left → ceilingMet ceilings rule counts ≡ true
+        → Turns phase calls before start end left counts ceilings after (Refused 13)
+    turned-met {counts = counts} {ceilings = ceilings} h u = record {
+      told = λ t a.
+          let s = r .step-of t a in
+          met (s .taken) (s .is) h (ap (λ (i : Rule). ceilingMet ceilings i counts) (s .by) ∙ u);
+    }
 
     -- the place is one of the term's
     module _ {second : List ℕ} (d : Ready phase calls before start end second) where
@@ -173,14 +185,17 @@ module _ {phase : Phase} {calls before : List ℕ} {start end : ℕ} where
         let y = step-at (mayDrop calls) phase t (s .taken) (s .is) in
         subst (λ (u : Term). RewrittenTo (length sought) after (start + ahead) u w) (sym (y .next)) (x .told t _ _ (redex-behind t a))
 
-    pub turned-full : {left : ℕ} {after : List ℕ} → 0 < left → RewritesRedex rule calls sought (start + ahead) behind after Full
-        → Turns phase calls before start end left after (Refused 11)
-    turned-full {left} {after} h x = record { told = λ t a. go t a (rewritten-at Full x t a) }
+    pub turned-full : {left : ℕ} {counts ceilings after : List ℕ} → 0 < left → ceilingMet ceilings rule counts ≡ false
+        → RewritesRedex rule calls sought (start + ahead) behind after Full
+        → Turns phase calls before start end left counts ceilings after (Refused 11)
+    turned-full {left} {counts} {ceilings} {after} h u x = record { told = λ t a. go t a (rewritten-at Full x t a) }
       where
         go : (t : Term) (a : CurrentClear phase calls before start end t)
             → RewrittenTo (length sought) after (start + ahead) (step-of t a .taken .next) Full
-            → Turned phase calls after start end left (length before) t (Refused 11)
-        go t a (too-long m) = let s = step-of t a in full (s .taken) (s .is) h (omega (arith, m, g .same))
+            → Turned phase calls after start end left counts ceilings (length before) t (Refused 11)
+        go t a (too-long m) =
+            let s = step-of t a in
+            full (s .taken) (s .is) h (ap (λ (i : Rule). ceilingMet ceilings i counts) (s .by) ∙ u) (omega (arith, m, g .same))
 
     module _ {rewritten : List ℕ} {n : ℕ} (x : RewritesRedex rule calls sought (start + ahead) behind rewritten (Next n)) where
       -- the next term is there
@@ -199,16 +214,18 @@ module _ {phase : Phase} {calls before : List ℕ} {start end : ℕ} where
           let i = inside-next (mayDrop calls) phase (d .term) (s .taken) (s .is) in
           gapped-seekable (next-there (d .term) (d .at)) to (omega (arith, e, i, ap (nextFrom phase) (s .at)))
 
-      pub turned-goes : {left to rest : ℕ} {after : List ℕ} → 0 < left → to ≡ nextFrom phase (start + ahead)
-          → Seeks rewritten (start + ahead) n to after rest → Turns phase calls before start end left after (Stepped rule to rest)
-      turned-goes {left} {to} {rest} {after} h e k = record {
+      pub turned-goes : {left to rest : ℕ} {counts ceilings after : List ℕ} → 0 < left → ceilingMet ceilings rule counts ≡ false
+          → to ≡ nextFrom phase (start + ahead) → Seeks rewritten (start + ahead) n to after rest
+          → Turns phase calls before start end left counts ceilings after (Stepped rule to rest)
+      turned-goes {left} {to} {rest} {counts} {ceilings} {after} h u e k = record {
         told = λ t a.
             let s = step-of t a in
             let q : nextFrom phase (s .taken .place) ≡ to = ap (nextFrom phase) (s .at) ∙ sym e in
             let there = gapped-sought (next-there t a) k in
-            subst (λ (i : Rule). Turned phase calls after start end left (length before) t (Stepped i to rest)) (s .by)
-            (subst (λ (i : ℕ). Turned phase calls after start end left (length before) t (Stepped (s .taken .rule) i rest)) q
-            (goes (s .taken) rest (s .is) h (subst (λ (i : ℕ). Gapped after i rest (s .taken .next)) (sym q) there)));
+            let below = ap (λ (i : Rule). ceilingMet ceilings i counts) (s .by) ∙ u in
+            subst (λ (i : Rule). Turned phase calls after start end left counts ceilings (length before) t (Stepped i to rest)) (s .by)
+            (subst (λ (i : ℕ). Turned phase calls after start end left counts ceilings (length before) t (Stepped (s .taken .rule) i rest)) q
+            (goes (s .taken) rest (s .is) h below (subst (λ (i : ℕ). Gapped after i rest (s .taken .next)) (sym q) there)));
       }
 
 -- what rewriting says holds of the answer that a match names, which is the same

@@ -21,7 +21,8 @@ use Rattle.reduction.specs.MayDrop.{mayDrop}
 use Rattle.reduction.specs.declared.Phase.{Phase}
 use Rattle.reduction.specs.declared.Phase.the-variants.{Insertion, Reduction, Dropping}
 use Rattle.reduction.specs.Redex.{Step as Stepped, step}
-use Rattle.reduction.specs.Reduction.{Counts, Settings, reached, reduce}
+use Rattle.reduction.specs.declared.Settings.{Settings}
+use Rattle.reduction.specs.Reduction.{Counts, reached, reduce}
 use Rattle.reduction.specs.Sequence.{Steps, ended, stepped, Sequence}
 use Rattle.reduction.specs.NormalForm.{isNormal, Normal}
 use Rattle.reduction.proofs.Exact.{Exact, normal, reduce-exact, reached-fits}
@@ -138,9 +139,9 @@ pub record Came (pure : Term → Bool) (capacity : ℕ) (t u : Term) : Type 0 wh
   pub sequence : Sequence pure t u
   pub fits : size u ≤ capacity
 
-pub came : {pure : Term → Bool} {capacity budget : ℕ} {t : Term} {left : ℕ} {u : Term} {c : Counts}
-    → Exact pure capacity budget t (reached left u c) → Came pure capacity t u
-came {pure} {capacity} (normal q h l d) = record { sequence = q; fits = reached-fits pure capacity (normal q h l d) }
+pub came : {pure : Term → Bool} {capacity : ℕ} {settings : Settings} {t : Term} {left : ℕ} {u : Term} {c : Counts}
+    → Exact pure capacity settings t (reached left u c) → Came pure capacity t u
+came {pure} {capacity} (normal q h a l d) = record { sequence = q; fits = reached-fits pure capacity (normal q h a l d) }
 
 -- the claim holds of every accepted outcome
 pub claim : (tables : Tables) (words : List ℕ) (capacity : ℕ) (settings : Settings) (x : TypedTerm) (left : ℕ) (u : Term) (counts : Counts)
@@ -151,7 +152,7 @@ pub claim : (tables : Tables) (words : List ℕ) (capacity : ℕ) (settings : Se
 claim tables words capacity settings x left u counts h e r =
     let p = accepted-passed normalizeLimit tables words x e in
     let pure = mayDrop (tables .calls) in
-    let g = came (subst (Exact pure capacity (settings .budget) (x .term)) r (reduce-exact pure capacity settings (x .term))) in
+    let g = came (subst (Exact pure capacity settings (x .term)) r (reduce-exact pure capacity settings (x .term))) in
     claim-of-sequence tables words (x .type) (x .term) u (earlier tables (p .types))
     (fitting normalizeLimit tables words (p .lengths) (p .calls)) (p .words′) (p .term) (p .type) (omega (arith, h, g .fits))
     (g .sequence)

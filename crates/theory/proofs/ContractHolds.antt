@@ -10,7 +10,8 @@ use Rattle.syntax.specs.Tables.{Tables}
 use Rattle.syntax.specs.Encoding.{encode, size}
 use Rattle.typing.specs.Refusals.{Verdict, refused, accepted, TypedTerm, elaborate, normalizeLimit}
 use Rattle.reduction.specs.MayDrop.{mayDrop}
-use Rattle.reduction.specs.Reduction.{Counts, Settings, Progress, stopped, reached, reduce}
+use Rattle.reduction.specs.declared.Settings.{Settings}
+use Rattle.reduction.specs.Reduction.{Counts, Progress, stopped, reached, reduce}
 use Rattle.reduction.proofs.Exact.{Exact, reduce-exact, refusal-number}
 use Rattle.semantics.specs.Claim.{Claim}
 use Rattle.outcomes.specs.Normalize.{Normalized, reducedTo, checkedTo, normalizeWithin, maxCapacity, Buffers, capacityOf, Outcome}
@@ -45,7 +46,7 @@ module _ (settings : Settings) (tables : Tables) (words : List ℕ) (before : Bu
     Handed r = r .answer .refusal ≡ 0 → P (r .answer .ty) (take (r .answer .length) (overwrite (r .words) (before .output)))
 
     reduced : (x : TypedTerm) → elaborate normalizeLimit tables words ≡ accepted x → (p : Progress)
-        → Exact pure capacity (settings .budget) (x .term) p → reduce pure capacity settings (x .term) ≡ p
+        → Exact pure capacity settings (x .term) p → reduce pure capacity settings (x .term) ≡ p
         → Handed (reducedTo (x .type) p)
     unfolding reducedTo overwrite size
     reduced x e (stopped n c) f r z = absurd (omega (arith, z, refusal-number pure capacity f .0))

@@ -16,7 +16,8 @@ use Rattle.syntax.specs.Values.{counts, uses}
 use Rattle.typing.specs.Refusals.{accepted, TypedTerm, elaborate, normalizeLimit, otherLimit}
 use Rattle.reduction.specs.MayDrop.{mayDrop}
 use Rattle.reduction.specs.Sequence.{Sequence, terms}
-use Rattle.reduction.specs.Reduction.{Counts, Settings, reached, reduce}
+use Rattle.reduction.specs.declared.Settings.{Settings}
+use Rattle.reduction.specs.Reduction.{Counts, reached, reduce}
 use Rattle.reduction.proofs.Exact.{Exact, reduce-exact}
 use Rattle.reduction.proofs.StepUses.{step-uses}
 use Rattle.reduction.proofs.AlongSequence.{every-term}
@@ -71,7 +72,7 @@ unread-came settings tables words before x left u c e r =
     let pure = mayDrop (tables .calls) in
     let p = accepted-passed normalizeLimit tables words x e in
     let capacity = capacityOf before in
-    let g = came (subst (Exact pure capacity (settings .budget) (x .term)) r (reduce-exact pure capacity settings (x .term))) in
+    let g = came (subst (Exact pure capacity settings (x .term)) r (reduce-exact pure capacity settings (x .term))) in
     let z = last tables pure (x .type) (x .term) u (p .type) (g .sequence) in
     let source = accepted-longer normalizeLimit otherLimit tables words x p (omega arith) in
     let fits : size u ≤ otherLimit = omega (arith, g .fits, capacity-bounded before) in

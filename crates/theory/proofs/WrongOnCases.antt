@@ -19,14 +19,19 @@ use Rattle.typing.specs.TableChecks.{lengthsFit, wellFormedTypes, distinct, wel
 use Rattle.typing.specs.TermChecks.{wellFormedWords, scopedAt, scoped}
 use Rattle.reduction.specs.MayDrop.{mayDrop}
 use Rattle.reduction.specs.declared.Phase.the-variants.{Reduction, Dropping}
-use Rattle.reduction.specs.declared.Rule.the-variants.{Apply}
+use Rattle.reduction.specs.declared.Rule.{Rule}
+use Rattle.reduction.specs.declared.Rule.the-variants.{LetInsertion, LetOfLet, LetOfCase, Apply, First, Second, LeftCase, RightCase}
+use Rattle.reduction.specs.declared.Rule.the-variants.{LetValue, Drop}
 use Rattle.reduction.specs.Redex.{contract, firstStep, step}
-use Rattle.reduction.specs.Reduction.{Settings}
+use Rattle.reduction.specs.declared.Settings.{Settings}
+use Rattle.reduction.specs.Reduction.{ofRule}
 use Rattle.reduction.specs.Rules.{nameFirst, letInsertion, letOfLet, letOfCase, apply, first, second, leftCase, rightCase, letValue, drop}
 use Rattle.reduction.specs.Rules.{fire, rules}
 use Rattle.reduction.specs.Sequence.{tally, Steps, ended, stepped, Sequence, terms}
+use Rattle.reduction.proofs.CountOfRule.{stepsBy}
 use Rattle.reduction.proofs.Path.{Within, all-fit, fits, steps}
 use Rattle.reduction.proofs.Unique.{sequence-unique}
+use Rattle.reduction.proofs.WithinSettings.{Stays}
 use Rattle.semantics.specs.Claim.{Claim}
 use Rattle.outcomes.specs.Normalize.{Buffers, capacityOf}
 use Rattle.outcomes.specs.Contract.{Normalizes}
@@ -64,8 +69,9 @@ unfolding leaf unary binary splitForest callBuilder builders graft decodeForest 
     wellFormedTypes distinct wellFormedCalls wellFormedInputs wellFormedWords scopedAt scoped
 accepted-A = refl
 
--- With a budget of 2 and a capacity of 7 or more, case A is neither refused nor answered with other counts than one let and one apply.
+-- With a budget of 2, ceilings of 1 for let and apply, and a capacity of 7 or more, case A is neither refused nor answered with other counts than one let and one apply.
 module _ {settings : Settings} {before after : Buffers} {answer : Answer} (budget : 2 ≤ settings .budget)
+    (lets : 1 ≤ ofRule LetInsertion (settings .ceilings)) (applies : 1 ≤ ofRule Apply (settings .ceilings))
     (capacity : 7 ≤ capacityOf before)
     (promise : Normalizes settings tables (encode source) before answer after) where
   terms-fit : Within (capacityOf before) (terms (mayDrop (tables .calls)) sequence-A)
@@ -73,16 +79,29 @@ module _ {settings : Settings} {before after : Buffers} {answer : Answer} (budge
   terms-fit = fits {t = source} (omega (arith, capacity))
       (fits {t = named} (omega (arith, capacity)) (fits {t = flat} (omega (arith, capacity)) all-fit))
 
-  steps-fit : length (steps (mayDrop (tables .calls)) sequence-A) ≤ settings .budget
+  uses-fit : (r : Rule) → stepsBy r (steps (mayDrop (tables .calls)) sequence-A) ≤ ofRule r (settings .ceilings)
+  unfolding sequence-A stepsBy
+  uses-fit LetInsertion = lets
+  uses-fit LetOfLet = omega arith
+  uses-fit LetOfCase = omega arith
+  uses-fit Apply = applies
+  uses-fit First = omega arith
+  uses-fit Second = omega arith
+  uses-fit LeftCase = omega arith
+  uses-fit RightCase = omega arith
+  uses-fit LetValue = omega arith
+  uses-fit Drop = omega arith
+
+  stays : Stays (mayDrop (tables .calls)) (capacityOf before) settings sequence-A
   unfolding sequence-A
-  steps-fit = omega (arith, budget)
+  stays = record { in-budget = omega (arith, budget); in-ceilings = uses-fit; in-capacity = terms-fit }
 
   pub refusing-A-ruled-out : (answer .refusal ≡ 0 → ⊥) → ⊥
-  refusing-A-ruled-out = refusing-ruled-out accepted-A promise sequence-A terms-fit steps-fit
+  refusing-A-ruled-out = refusing-ruled-out accepted-A promise sequence-A stays
 
   pub counts-A-ruled-out : (answer .counts ≡ (1 ∷ 0 ∷ 0 ∷ 1 ∷ 0 ∷ 0 ∷ 0 ∷ 0 ∷ 0 ∷ 0 ∷ []) → ⊥) → ⊥
   unfolding sequence-A tally
-  counts-A-ruled-out = counts-ruled-out accepted-A promise sequence-A terms-fit steps-fit
+  counts-A-ruled-out = counts-ruled-out accepted-A promise sequence-A stays
 
 -- what a claim hands back, by the one reduction of its source
 claimed : (tables : Tables) (words : List ℕ) (A : ℕ) (result : List ℕ) (t u : Term) → decode (tables .calls) words ≡ some t

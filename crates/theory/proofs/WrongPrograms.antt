@@ -1,5 +1,5 @@
 -- The contract of `normalize` rules out wrong programs (paper 01, c): one that refuses each term, one that hands back a fixed normal form,
--- one that invents the counts, and one that refuses with 10 or 11 too early. A reduction is determined by its steps, so where the
+-- one that invents the counts, and one that refuses with 10, 13 or 11 too early. A reduction is determined by its steps, so where the
 -- checks accept, the answer is too; and the ten counts say how many steps it took.
 use mathlib.Core.Path.{_≡_, refl, sym, _∙_, ap, subst}
 use mathlib.Core.Bool.{Bool}
@@ -16,11 +16,14 @@ use Rattle.reduction.specs.MayDrop.{mayDrop}
 use Rattle.reduction.specs.declared.Phase.{Phase}
 use Rattle.reduction.specs.declared.Phase.the-variants.{Insertion}
 use Rattle.reduction.specs.Redex.{Step, step}
-use Rattle.reduction.specs.Reduction.{Counts, index, raise, zeroCounts, Settings, Progress, stopped, reached, reduce}
-use Rattle.reduction.specs.Sequence.{tally, Sequence, terms}
-use Rattle.reduction.proofs.CountOfRule.{index-below}
-use Rattle.reduction.proofs.Exact.{Refused, budget-spent, next-too-long, first-too-long, reduce-refused, sequence-reduce}
+use Rattle.reduction.specs.declared.Settings.{Settings}
+use Rattle.reduction.specs.Reduction.{Counts, index, ofRule, raise, zeroCounts, Progress, stopped, reached, reduce}
+use Rattle.reduction.specs.Sequence.{tally, Sequence}
+use Rattle.reduction.proofs.Ceilings.{met-reached}
+use Rattle.reduction.proofs.CountOfRule.{index-below, stepsBy, count-by}
+use Rattle.reduction.proofs.Exact.{Refused, budget-spent, ceiling-met, next-too-long, first-too-long, reduce-refused}
 use Rattle.reduction.proofs.Path.{first-second, second-third, Within, fits, nexts, Path, here, taken, onward, steps}
+use Rattle.reduction.proofs.WithinSettings.{Stays, stays-reduce}
 use Rattle.outcomes.specs.Normalize.{reducedTo, checkedTo, normalizeWithin, Buffers, capacityOf, Outcome, normalizeOutcome}
 use Rattle.outcomes.specs.Contract.{Normalizes}
 use Rattle.outcomes.specs.declared.Answer.{Answer}
@@ -87,12 +90,11 @@ module _ {settings : Settings} {tables : Tables} {words : List ℕ} {before : Bu
       ∙ ap (λ (v : Verdict TypedTerm). checkedTo pure capacity settings v .answer) checked
       ∙ ap (λ (p : Progress). reducedTo (x .type) p .answer) r
 
-  -- the answer to a term whose whole reduction stays within the budget and the capacity
-  module _ {u : Term} (q : Sequence pure (x .term) u) (fit : Within capacity (terms pure q))
-      (enough : length (steps pure q) ≤ settings .budget) where
+  -- the answer to a term whose whole reduction stays within the budget, the ceilings and the capacity
+  module _ {u : Term} (q : Sequence pure (x .term) u) (stays : Stays pure capacity settings q) where
     in-full : answer ≡ record { refusal = 0; ty = x .type; length = size u; counts = tally (steps pure q) zeroCounts }
     unfolding reducedTo
-    in-full = answer-is _ (sequence-reduce pure capacity settings (x .term) u q fit enough)
+    in-full = answer-is _ (stays-reduce pure capacity settings (x .term) u q stays)
 
     -- the program that refuses
     pub refusing-ruled-out : (answer .refusal ≡ 0 → ⊥) → ⊥
@@ -102,21 +104,33 @@ module _ {settings : Settings} {tables : Tables} {words : List ℕ} {before : Bu
     pub counts-ruled-out : (answer .counts ≡ tally (steps pure q) zeroCounts → ⊥) → ⊥
     counts-ruled-out h = h (ap (λ (a : Answer). a .counts) in-full)
 
-  -- The program that answers 10 or 11 too early: it refuses, and by its counts it took the steps ss, though the step after
-  -- these is within the budget and the capacity.
+  -- The program that answers 10, 13 or 11 too early: it refuses, and by its counts it took the steps ss, though the step after
+  -- these is within the budget, its ceiling and the capacity.
   pub early-refusal-ruled-out : {phase : Phase} {w : Term} {ss : List Step} {s : Step} → Path pure Insertion (x .term) ss phase w
-      → Within capacity (x .term ∷ nexts ss) → step pure phase w ≡ some s → length ss < settings .budget → size (s .next) ≤ capacity
+      → Within capacity (x .term ∷ nexts ss) → step pure phase w ≡ some s → length ss < settings .budget
+      → stepsBy (s .rule) ss < ofRule (s .rule) (settings .ceilings) → size (s .next) ≤ capacity
       → (answer .refusal ≡ 0 → ⊥) → answer .counts ≡ tally ss zeroCounts → ⊥
   unfolding reducedTo
-  early-refusal-ruled-out {ss = ss} {s = s} path (fits first rest) e budget room refuses counted =
+  early-refusal-ruled-out {ss = ss} {s = s} path (fits first rest) e budget below room refuses counted =
       go (reduce pure capacity settings (x .term)) refl
     where
       as-many : (rs : List Step) → tally rs zeroCounts ≡ tally ss zeroCounts → length rs ≡ length ss
       as-many rs d = omega (arith, counts-total rs, counts-total ss, ap total d)
 
-      stops : {n : ℕ} {counts : Counts} → Refused pure capacity (settings .budget) (x .term) n counts → counts ≡ tally ss zeroCounts → ⊥
-      stops (budget-spent {ss = rs} p h d l t) c = omega (arith, as-many rs (t ∙ c), l, budget)
-      stops (next-too-long {ss = rs} p h d l k t) c =
+      stops : {n : ℕ} {counts : Counts} → Refused pure capacity settings (x .term) n counts → counts ≡ tally ss zeroCounts → ⊥
+      stops (budget-spent {ss = rs} p h a d l t) c = omega (arith, as-many rs (t ∙ c), l, budget)
+      stops {counts = counts} (ceiling-met {ss = rs} {s = r} p h a d l u t) c =
+          let same = next-unique pure refl p d path e (as-many rs (t ∙ c)) in
+          omega (
+            arith,
+            met-reached (settings .ceilings) (r .rule) counts u,
+            ap (λ (z : Step). ofRule (z .rule) (settings .ceilings)) same,
+            ap (λ (z : Step). ofRule (z .rule) counts) same,
+            ap (ofRule (s .rule)) c,
+            count-by (s .rule) ss,
+            below,
+          )
+      stops (next-too-long {ss = rs} p h a d l u k t) c =
           let same = next-unique pure refl p d path e (as-many rs (t ∙ c)) in
           omega (arith, k, room, ap (λ (z : Step). size (z .next)) same)
       stops (first-too-long l) c = omega (arith, l, first)

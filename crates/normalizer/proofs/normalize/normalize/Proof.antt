@@ -5,7 +5,7 @@ use mathlib.Core.Path.{_≡_, _∙_, ap}
 use mathlib.Core.List.{List}
 use lib.ListN.{length, replicate}
 use Rattle.syntax.specs.Tables.{Tables}
-use Rattle.reduction.specs.Reduction.{Settings}
+use Rattle.reduction.specs.declared.Settings.{Settings}
 use Rattle.outcomes.specs.Buffers.{cleared}
 use Rattle.outcomes.specs.Normalize.{Buffers, Outcome, normalizeOutcome}
 use Rattle.outcomes.specs.Contract.{Normalizes}

@@ -24,7 +24,7 @@ buffers c = record { output = c .args .output .now; scratch₁ = c .args .first 
 refuses : tie.Need-returns
 refuses c =
     let v : tie.After-check-within = search in
-    refusal-fills _ _ _ _ (buffers (entry v)) (entry v .args .budget) _ (v .check-within .ensures) (c .before .if1 .taken)
+    refusal-fills _ _ _ _ (buffers (entry v)) (entry v .args .settings) _ (v .check-within .ensures) (c .before .if1 .taken)
     (c .refused .ensures)
 
 -- where the capacity is known

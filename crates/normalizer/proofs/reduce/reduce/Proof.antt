@@ -8,6 +8,7 @@ use Prim.Native.Nat.{ℕ, _<_}
 use mathlib.Core.Path.{_≡_, refl, sym, _∙_, ap, subst}
 use mathlib.Core.List.{List}
 use lib.ListN.{length}
+use Rattle.reduction.specs.declared.Settings.{Settings}
 use Rattle.reduction.specs.Reduction.{Counts}
 use Rattle.reduction.specs.declared.Phase.{Phase}
 use Rattle.reduction.specs.declared.Phase.the-variants.{Reduction, Dropping}
@@ -31,24 +32,27 @@ state phase words start end left counts second refusal = record {
   refusal = refusal;
 }
 
+abbrev set : (budget : ℕ) (ceilings : List ℕ) → Settings
+set budget ceilings = record { budget = budget; ceilings = ceilings }
+
 abbrev Inv-loop : tie.InvT-loop
-Inv-loop calls current₀ begin budget second₀ acting pending₀ counts₀ left₀ phase refusal₀ start₀ end₀ current second pending counts left
+Inv-loop calls current₀ begin second₀ acting budget ceilings pending₀ counts₀ left₀ phase refusal₀ start₀ end₀ current second pending counts left
     refusal start end =
-    Arrives calls (state phase current₀ start₀ end₀ left₀ counts₀ second₀ refusal₀)
+    Arrives calls (set budget ceilings) (state phase current₀ start₀ end₀ left₀ counts₀ second₀ refusal₀)
     (state phase current start end left counts second refusal) × (length pending ≡ 8194)
 
 abbrev μ-loop : tie.MeasureT-loop
-μ-loop calls current₀ begin budget second₀ acting pending₀ counts₀ left₀ phase refusal₀ start₀ end₀ current second pending counts left
+μ-loop calls current₀ begin second₀ acting budget ceilings pending₀ counts₀ left₀ phase refusal₀ start₀ end₀ current second pending counts left
     refusal start end = left
 
 abbrev Inv-reduce : tie.InvT-reduce
-Inv-reduce calls current₀ begin budget second₀ acting pending₀ counts₀ left₀ phase₀ refusal₀ start₀ end₀ current second pending counts left
+Inv-reduce calls current₀ begin second₀ acting budget ceilings pending₀ counts₀ left₀ phase₀ refusal₀ start₀ end₀ current second pending counts left
     phase refusal start end =
-    Arrives calls (initial current₀ begin budget second₀) (state phase current start end left counts second refusal)
+    Arrives calls (set budget ceilings) (initial current₀ begin (set budget ceilings) second₀) (state phase current start end left counts second refusal)
     × (length pending ≡ 8194)
 
 abbrev μ-reduce : tie.MeasureT-reduce
-μ-reduce calls current₀ begin budget second₀ acting pending₀ counts₀ left₀ phase₀ refusal₀ start₀ end₀ current second pending counts left
+μ-reduce calls current₀ begin second₀ acting budget ceilings pending₀ counts₀ left₀ phase₀ refusal₀ start₀ end₀ current second pending counts left
     phase refusal start end = phasesAfter phase
 
 -- the places, and the way back from each to the one above it
@@ -77,7 +81,7 @@ abbrev Sought : Type 0
 Sought = tie.After-seek Inv-loop μ-loop Inv-reduce μ-reduce
 
 abbrev entry : InPhase → Entry
-entry c = c .before .before .before .before .before
+entry c = c .before .before .before .before .before .before
 
 abbrev phase-of : InTurn → InPhase
 phase-of c = c .before
@@ -95,11 +99,11 @@ turned c = c .before .before .before .before .before .before .before .before .be
 same-words : (c : Turned) → length (c .take-turn .last .1 .1 .1 .0) ≡ length (head c .loop .current)
 same-words c = c .take-turn .kept .1 .1 .1 .0
 
-same-second : (c : Turned) → length (c .take-turn .last .1 .1 .1 .1 .1 .1 .1 .0) ≡ length (head c .loop .second)
-same-second c = c .take-turn .kept .1 .1 .1 .1 .1 .1 .1 .0
+same-second : (c : Turned) → length (c .take-turn .last .1 .1 .1 .1 .1 .1 .1 .1 .1 .0) ≡ length (head c .loop .second)
+same-second c = c .take-turn .kept .1 .1 .1 .1 .1 .1 .1 .1 .1 .0
 
-same-pending : (c : Turned) → length (c .take-turn .last .1 .1 .1 .1 .1 .1 .1 .1 .0) ≡ 8194
-same-pending c = c .take-turn .kept .1 .1 .1 .1 .1 .1 .1 .1 .0 ∙ head c .loop .inv .1
+same-pending : (c : Turned) → length (c .take-turn .last .1 .1 .1 .1 .1 .1 .1 .1 .1 .1 .0) ≡ 8194
+same-pending c = c .take-turn .kept .1 .1 .1 .1 .1 .1 .1 .1 .1 .1 .0 ∙ head c .loop .inv .1
 
 -- a turn that takes a step
 positive : (c : Stepping) → 0 < head (stepping c) .loop .left
@@ -144,8 +148,8 @@ onward : (c : Sought) (next : Phase)
     → (let h = head (turned c) in
     let s = entry (phase-of h) .args in
     let l = h .loop in
-    Follows (phase-of h .reduce .phase) next → Arrives (s .calls .now) (initial (s .current .now) (s .begin) (s .budget) (s .second .now))
-    (state next (c .seek .last .0) 0 (c .seek .result) (l .left) (l .counts) (turned c .take-turn .last .1 .1 .1 .1 .1 .1 .1 .0)
+    Follows (phase-of h .reduce .phase) next → Arrives (s .calls .now) (s .settings) (initial (s .current .now) (s .begin) (s .settings) (s .second .now))
+    (state next (c .seek .last .0) 0 (c .seek .result) (l .left) (l .counts) (turned c .take-turn .last .1 .1 .1 .1 .1 .1 .1 .1 .1 .0)
     (l .refusal)))
 onward c next f =
     let s : Stopped = search in
@@ -174,7 +178,7 @@ reduce-spec =
     (λ c κs. search needs)
     (λ c.
     let s : Entry = search in
-    (arrives-initial (omega (arith, s .fits .budget)) (s .pre), (search needs)))
+    (arrives-initial (search needs) (s .pre), (search needs)))
     (λ c. (arrives-here (c .reduce .inv .0), c .reduce .inv .1))
     (λ c.
     let h : InTurn = search in

@@ -6,8 +6,8 @@ use native.Mathlib.Omega.{arith}
 use lib.ListN.{getD, set}
 use Rattle.reduction.proofs.CountOfRule.{index-below}
 use borrow.Author.Needs.{needs}
-use Rattle.normalizer.proofs.counts.raise.Statement.{statement}
-use Rattle.normalizer.proofs.counts.raise.Tie as tie
+use Rattle.step.proofs.counts.raise.Statement.{statement}
+use Rattle.step.proofs.counts.raise.Tie as tie
 
 abbrev Indexed : Type 0
 Indexed = tie.After-index-of

@@ -1,11 +1,11 @@
-// The ten counts, one for each rule.
+// The ten counts and the ten ceilings, one of each for every rule.
 ghost use mathlib.Core.Path.{_≡_};
 ghost use Prim.Native.Nat.{ℕ, _<_};
 ghost use lib.ListN.{getD};
-ghost use Rattle.reduction.specs.Reduction.{index, raise as raiseOf};
+ghost use Rattle.reduction.specs.Reduction.{index, ceilingMet, raise as raiseOf};
 use reduction::Rule;
 
-// the place of a rule's count
+// the place of a rule's count and of its ceiling
 fn index_of(rule: Rule) -> usize
     ensures { λ r. ⌜ r ≡ index rule ⌝ }
 {
@@ -32,4 +32,12 @@ pub fn raise(counts: [u32; 10], rule: Rule) -> [u32; 10]
     let i = index_of(rule);
     c[i] = c[i] + 1;
     c
+}
+
+// whether a rule has been used as often as its ceiling says
+pub fn ceiling_met(ceilings: [u32; 10], rule: Rule, counts: [u32; 10]) -> bool
+    ensures { λ r. ⌜ r ≡ ceilingMet ceilings rule counts ⌝ }
+{
+    let i = index_of(rule);
+    ceilings[i] <= counts[i]
 }
