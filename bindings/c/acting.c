@@ -20,8 +20,8 @@ static struct flatten_answer normalize(
     const uint64_t *table, size_t count, const uint64_t *term, size_t length, uint64_t *output) {
     uint64_t first[CAPACITY], second[CAPACITY];
     return flatten_normalize(
-        types, LENGTH(types), table, count, inputs, LENGTH(inputs), term, length, 100, output,
-        CAPACITY, first, CAPACITY, second, CAPACITY);
+        types, LENGTH(types), table, count, inputs, LENGTH(inputs), term, length,
+        flatten_no_ceilings(100), output, CAPACITY, first, CAPACITY, second, CAPACITY);
 }
 
 /* let x = stamp(i) in let y = measure(i) in i */

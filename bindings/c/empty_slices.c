@@ -10,13 +10,13 @@ static const uint64_t base[] = {0}, input[] = {0}, variable[] = {0};
 
 static void no_term_is_refused_with_1(void) {
     struct flatten_answer answer = flatten_normalize(
-        NULL, 0, NULL, 0, NULL, 0, NULL, 0, 1000, NULL, 0, NULL, 0, NULL, 0);
+        NULL, 0, NULL, 0, NULL, 0, NULL, 0, flatten_no_ceilings(1000), NULL, 0, NULL, 0, NULL, 0);
     assert(answer.refusal == 1);
 }
 
 static void no_capacity_is_refused_with_11(void) {
     struct flatten_answer answer = flatten_normalize(
-        base, 1, NULL, 0, input, 1, variable, 1, 1000, NULL, 0, NULL, 0, NULL, 0);
+        base, 1, NULL, 0, input, 1, variable, 1, flatten_no_ceilings(1000), NULL, 0, NULL, 0, NULL, 0);
     assert(answer.refusal == 11);
 }
 

@@ -48,8 +48,8 @@ static int list(FILE *bundle) {
 static int normalize(void) {
     uint64_t output[CAPACITY] = {0}, first[CAPACITY], second[CAPACITY];
     struct flatten_answer answer = flatten_normalize(
-        types, LENGTH(types), calls, LENGTH(calls), NULL, 0, term, LENGTH(term), 1000,
-        output, CAPACITY, first, CAPACITY, second, CAPACITY);
+        types, LENGTH(types), calls, LENGTH(calls), NULL, 0, term, LENGTH(term),
+        flatten_no_ceilings(1000), output, CAPACITY, first, CAPACITY, second, CAPACITY);
     if (answer.refusal != 0) {
         printf("refused with %" PRIu32 "\n", answer.refusal);
         return 1;

@@ -1,7 +1,7 @@
 /*
  * The verified normalizer for small typed functional terms, for C and C++ on x86-64 Linux.
  * Link target/staticlib/libexports.a, which `rt staticlib exports` proves and writes.
- * docs/CONTRACTS.md says in full what the three calls promise.
+ * docs/CONTRACTS.md says in full what the calls promise.
  *
  * What a caller owes, for each pointer and the length that follows it (in elements, not bytes):
  * - The pointer is aligned for its type and valid for that many elements, for the whole call.
@@ -32,11 +32,25 @@ extern "C" {
 /* The most bytes that flatten_respond writes. */
 #define FLATTEN_MOST_WRITTEN 139393
 
-/* The number of rules, and so of counts in an answer. */
+/* The number of rules, and so of counts in an answer and of ceilings in settings. */
 #define FLATTEN_RULES 10
 
 /* The number of words that hold the marks of 256 inputs. */
 #define FLATTEN_MARK_WORDS 4
+
+/*
+ * What a caller of flatten_normalize sets.
+ *
+ * budget    how many steps may be taken
+ * ceilings  how often each rule may be used, in the order of the counts below; with a ceiling of 0
+ *           a term is refused where that rule is to be used, and not otherwise
+ *
+ * Raising any of these numbers keeps every accepted outcome as it is.
+ */
+struct flatten_settings {
+    uint32_t budget;
+    uint32_t ceilings[FLATTEN_RULES];
+};
 
 /*
  * The answer of flatten_normalize.
@@ -51,11 +65,13 @@ extern "C" {
  *          9  the term is not well typed
  *         10  a rule fits and as many steps as the budget were taken
  *         11  the term handed in, or the next term, is longer than the capacity
+ *         13  a rule fits and was used as often as its ceiling says; looked at before each step
+ *             after 10 and before 11
  * type     the number of the term's type; 0 where it is refused
  * length   the words of the normal form; 0 where it is refused
  * counts   how often each rule was applied: 0 let, 1 let of let, 2 let of case, 3 apply, 4 first,
  *          5 second, 6 left case, 7 right case, 8 let value, 9 drop; all zero where it is refused
- *          with 1 to 9, and the steps taken where it is refused with 10 or 11
+ *          with 1 to 9, and the steps taken where it is refused with 10, 11 or 13
  */
 struct flatten_answer {
     uint32_t refusal;
@@ -80,8 +96,8 @@ struct flatten_inputs {
 };
 
 /*
- * Reads a bundle, normalizes its term with budget 1,000,000 and capacity 8,192, and writes the
- * listing to the front of the text; the rest of the text stays as it was. Answers how many bytes
+ * Reads a bundle, normalizes its term with budget 1,000,000, no ceilings and capacity 8,192, and
+ * writes the listing to the front of the text; the rest of the text stays as it was. Answers how many bytes
  * were written. A bundle that cannot be read is listed as refused with 12.
  *
  * A text that is shorter than the listing stays as it was, and the answer is 0. A text of
@@ -90,8 +106,14 @@ struct flatten_inputs {
 size_t flatten_respond(const uint8_t *bytes, size_t bytes_length, uint8_t *text, size_t text_length);
 
 /*
- * Normalizes a term over its tables, in at most as many steps as the budget. The capacity is the
- * length of the shortest of output, first and second, and 8,192 at most.
+ * Settings with this budget and no ceilings: each is 4,294,967,295, which a budget of 32 bits never
+ * lets a rule go beyond. With them no refusal is 13.
+ */
+struct flatten_settings flatten_no_ceilings(uint32_t budget);
+
+/*
+ * Normalizes a term over its tables, within the settings. The capacity is the length of the shortest
+ * of output, first and second, and 8,192 at most.
  *
  * output         accepted: the front holds the normal form and the rest stays as it was;
  *                refused: all of it stays as it was
@@ -102,7 +124,7 @@ struct flatten_answer flatten_normalize(
     const uint64_t *calls, size_t calls_length,
     const uint64_t *inputs, size_t inputs_length,
     const uint64_t *term, size_t term_length,
-    uint32_t budget,
+    struct flatten_settings settings,
     uint64_t *output, size_t output_length,
     uint64_t *first, size_t first_length,
     uint64_t *second, size_t second_length);

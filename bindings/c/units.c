@@ -21,8 +21,8 @@ static struct flatten_answer normalize(
     const uint64_t *table, size_t count, const uint64_t *term, size_t length, uint64_t *output) {
     uint64_t first[CAPACITY], second[CAPACITY];
     return flatten_normalize(
-        table, count, calls, LENGTH(calls), inputs, LENGTH(inputs), term, length, 100, output,
-        CAPACITY, first, CAPACITY, second, CAPACITY);
+        table, count, calls, LENGTH(calls), inputs, LENGTH(inputs), term, length,
+        flatten_no_ceilings(100), output, CAPACITY, first, CAPACITY, second, CAPACITY);
 }
 
 static void a_helper_that_takes_nothing(void) {

@@ -2,14 +2,14 @@
 //! `rt staticlib exports` writes. docs/CONTRACTS.md says what each call promises.
 //!
 //! ```
-//! use flatten::{normalize, Buffers, Tables};
+//! use flatten::{normalize, Buffers, Settings, Tables};
 //!
 //! // The function that calls d on its argument, applied to c.
 //! let tables = Tables { types: &[0, 1 << 60], calls: &[0, 1 << 60], inputs: &[] };
 //! let term = [3 << 60, 2 << 60 | 1, 1 << 60 | 1 << 30, 0, 1 << 60];
 //! let [mut output, mut first, mut second] = [[0; 100]; 3];
 //! let buffers = Buffers { output: &mut output, first: &mut first, second: &mut second };
-//! let normal = normalize(tables, &term, 1000, buffers)?;
+//! let normal = normalize(tables, &term, Settings::no_ceilings(1000), buffers)?;
 //!
 //! // let c, d v0
 //! assert_eq!(normal.words, [4 << 60, 1 << 60, 1 << 60 | 1 << 30, 0]);
@@ -40,8 +40,10 @@ mod inputs;
 mod normalize;
 mod refused;
 mod respond;
+mod settings;
 
 pub use inputs::{free_inputs, FreeInputs};
 pub use normalize::{normalize, Buffers, Counts, Normal, Tables};
 pub use refused::Refused;
 pub use respond::{respond, MOST_WRITTEN};
+pub use settings::Settings;

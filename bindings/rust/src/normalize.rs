@@ -1,6 +1,7 @@
 //! The call `normalize`: a term in, its normal form or a refusal out.
 
 use crate::refused::Refused;
+use crate::settings::Settings;
 
 /// What the library answers; laid out as `Answer` in crates/outcomes.
 #[repr(C)]
@@ -21,7 +22,7 @@ extern "C" {
         inputs_length: usize,
         term: *const u64,
         term_length: usize,
-        budget: u32,
+        settings: Settings,
         output: *mut u64,
         output_length: usize,
         first: *mut u64,
@@ -64,16 +65,16 @@ pub struct Normal<'a> {
     pub counts: Counts,
 }
 
-/// Normalizes a term in at most `budget` steps.
+/// Normalizes a term within the settings.
 pub fn normalize<'a>(
     tables: Tables,
     term: &[u64],
-    budget: u32,
+    settings: Settings,
     buffers: Buffers<'a>,
 ) -> Result<Normal<'a>, Refused> {
     // SAFETY: each pointer comes with the length of its slice. The buffers are borrowed for writing
-    // and so overlap nothing; no slice is kept after the call. `Answer` has the fields and the
-    // layout of the library's.
+    // and so overlap nothing; no slice is kept after the call. `Answer` and `Settings` have the
+    // fields and the layout of the library's.
     let answer = unsafe {
         flatten_normalize(
             tables.types.as_ptr(),
@@ -84,7 +85,7 @@ pub fn normalize<'a>(
             tables.inputs.len(),
             term.as_ptr(),
             term.len(),
-            budget,
+            settings,
             buffers.output.as_mut_ptr(),
             buffers.output.len(),
             buffers.first.as_mut_ptr(),

@@ -7,7 +7,8 @@ use std::fmt;
 /// A refusal.
 #[derive(Clone, Copy, Debug, PartialEq, Eq)]
 pub struct Refused {
-    /// 1 to 9 for a check; by `normalize` also 10 for the budget, 11 for the capacity.
+    /// 1 to 9 for a check; by `normalize` also 10 for the budget, 11 for the capacity and
+    /// 13 for a ceiling.
     pub number: u32,
     /// The steps taken until then: all zero for a check.
     pub counts: Counts,
@@ -27,7 +28,8 @@ impl Refused {
             8 => "a variable names no binder and no input",
             9 => "the term is not well typed",
             10 => "a rule fits and the budget is used up",
-            _ => "the term, or the next one, is longer than the capacity",
+            11 => "the term, or the next one, is longer than the capacity",
+            _ => "a rule fits and its ceiling is met",
         }
     }
 }

@@ -2,7 +2,7 @@
 //! FLATTEN_STACK_KIB says. `respond` needs 256 KiB more than `normalize`: it has the buffers on the
 //! stack too.
 
-use flatten::{free_inputs, normalize, respond, Buffers, Tables};
+use flatten::{free_inputs, normalize, respond, Buffers, Settings, Tables};
 use std::{env, thread};
 
 const STACK_KIB: usize = 2048;
@@ -102,7 +102,7 @@ fn nested_arguments() {
         first: &mut first,
         second: &mut second,
     };
-    let normal = on_small_stack(|| normalize(tables, &term, 1000, buffers));
+    let normal = on_small_stack(|| normalize(tables, &term, Settings::no_ceilings(1000), buffers));
     assert_eq!(normal.expect("a normal form").words.len(), 8175);
     assert_eq!(status(tables, &term), "ok 1 8175 1 0 0 2 0 0 0 0 2 0");
 }

@@ -1,6 +1,6 @@
 //! The call `normalize`: case A of paper 01 with several budgets and buffers, and each refusal.
 
-use flatten::{normalize, Buffers, Refused, Tables};
+use flatten::{normalize, Buffers, Refused, Settings, Tables};
 
 const TABLES: Tables = Tables {
     types: &[0, 1 << 60],
@@ -31,7 +31,7 @@ fn outcome(tables: Tables, term: &[u64], budget: u32, lengths: [usize; 3]) -> Ou
         first: &mut first,
         second: &mut second,
     };
-    let answer = normalize(tables, term, budget, buffers)
+    let answer = normalize(tables, term, Settings::no_ceilings(budget), buffers)
         .map(|normal| (normal.ty, normal.words.to_vec(), normal.counts));
     assert_eq!(first, vec![0; lengths[1]]);
     assert_eq!(second, vec![0; lengths[2]]);
