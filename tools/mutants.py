@@ -17,6 +17,7 @@ PART, OF_RESULT = "    itself : PartOf D D\n", "    of-result : PartOf tables D 
 FREE, ANSWER = "outcomes/specs/FreeInputs", "-- the answer: refusal 0"
 MAY_DROP, TABLE_CHECKS, OPERANDS = "reduction/specs/MayDrop", "typing/specs/TableChecks", "theory/proofs/Operands"
 A_HALF, B_HALF = "at a (λ x. pair A x b)", "at b (λ x. pair A a x)"
+MET = "leb (ofRule r ceilings) (ofRule r counts)"
 TOTAL = "abbrev total : ℕ → (ℕ → ℕ) → ℕ\ntotal zero f = 0\ntotal (suc n) f = f 0 + total n (λ i. f (suc i))\n\n"
 CAPACITY = "min (min (length (b .output)) (min (length (b .scratch₁)) (length (b .scratch₂)))) maxCapacity"
 
@@ -57,6 +58,19 @@ MUTANTS = [
     ("11 before 10", "reduction", [(REDUCTION, "some s ↦ stopped 10 counts",
         "some s ↦ elim (leb (size (s .next)) capacity) [ false ↦ stopped 11 counts | true ↦ stopped 10 counts ]")]),
     ("the input's length ignored", "reduction", [(REDUCTION, "elim (leb (size t) capacity)", "elim (leb 0 capacity)")]),
+    ("13 before 10", "reduction", [(REDUCTION, "some s ↦ stopped 10 counts",
+        "some s ↦ elim (ceilingMet (settings .ceilings) (s .rule) counts) [ true ↦ stopped 13 counts | false ↦ stopped 10 counts ]")]),
+    ("11 before 13", "reduction", [(REDUCTION, "true ↦ stopped 13 counts",
+        "true ↦ elim (leb (size (s .next)) capacity) [ false ↦ stopped 11 counts | true ↦ stopped 13 counts ]")]),
+    ("one use more than the ceiling", "reduction", [(REDUCTION, MET, "leb (suc (ofRule r ceilings)) (ofRule r counts)")]),
+    ("one use less than the ceiling", "reduction", [(REDUCTION, MET, "leb (ofRule r ceilings) (suc (ofRule r counts))")]),
+    ("the ceiling of let for every rule", "reduction", [(REDUCTION, MET, "leb (getD ceilings 0 0) (ofRule r counts)")]),
+    ("a met ceiling of drop refuses every step", "reduction", [
+        (REDUCTION, "{Bool, true, false}", "{Bool, true, false, _||_}"),
+        (REDUCTION, MET, MET + " || leb (ofRule Drop ceilings) (ofRule Drop counts)")]),
+    ("the step that is refused with 13 is counted", "reduction", [
+        (REDUCTION, "stopped 13 counts", "stopped 13 (raise (s .rule) counts)")]),
+    ("no ceilings are one less than the largest budget", "reduction", [(REDUCTION, "replicate 10 4294967295", "replicate 10 4294967294")]),
     ("3 before 2", "typing", [(CHECKS, CHECK_2 + CHECK_3, CHECK_3 + CHECK_2)]),
     ("9 before 8", "typing", [(CHECKS, CHECK_8 + CHECK_9, CHECK_9 + CHECK_8)]),
     ("a type's part may be the entry itself", "typing", [("typing/specs/TableChecks", "ltb (leftOf w) i", "leb (leftOf w) i")]),

@@ -4,6 +4,7 @@ use std::path::{Path, PathBuf};
 use std::{env, fs, process};
 use tools::definitions::bundles;
 use tools::definitions::cases;
+use tools::definitions::ceilings;
 use tools::definitions::inputs;
 use tools::definitions::opened::unfoldable_names;
 use tools::definitions::repository::write_repository;
@@ -31,13 +32,14 @@ fn a_repository_is_written_into_an_empty_folder_outside() {
     assert!(figures.contains("bundles: 12 rows; "));
     assert!(figures.contains("runs: 15 rows; "));
     assert!(figures.contains("inputs: 12 rows; "));
+    assert!(figures.contains("ceilings: 30 rows; "));
     assert!(figures.contains("a unit is in ") && !figures.contains("a unit is in 0 "));
 
     let crosscheck = folder.join("crates/crosscheck");
     let text = |name: &str| fs::read_to_string(crosscheck.join(name)).expect("a module");
     assert_eq!(
         text("proofs/Lib.antt"),
-        "pub mod Cases1\npub mod Cases2\npub mod Bundles1\npub mod Runs1\npub mod Inputs1\n"
+        "pub mod Cases1\npub mod Cases2\npub mod Bundles1\npub mod Runs1\npub mod Inputs1\npub mod Ceilings1\n"
     );
     assert_eq!(text("proofs/Cases1.antt").matches("record {").count(), 50);
     assert_eq!(text("proofs/Cases2.antt").matches("record {").count(), 10);
@@ -96,6 +98,18 @@ fn a_row_has_what_the_line_says() {
         "inputs = 0 ∷ [];",
         "inputsRefusal = 3; inputsCount = 2;",
         "inputsMarks = 4 ∷ 5 ∷ 6 ∷ 7 ∷ [];",
+    ] {
+        assert!(row.contains(field), "{field}");
+    }
+    let row = ceilings::row("0;;0;0;7;1 2;8;9;10;13;0;0;1 0;");
+    for field in [
+        "budget = 7;",
+        "ceilings = 1 ∷ 2 ∷ [];",
+        "output = 8; scratch₁ = 9; scratch₂ = 10;",
+        "refusal = 13; type = 0; length′ = 0;",
+        "counts = 1 ∷ 0 ∷ [];",
+        "normalForm = [];",
+        "unchanged = 8;",
     ] {
         assert!(row.contains(field), "{field}");
     }

@@ -20,6 +20,7 @@ use Rattle.typing.specs.NodeTypes.{nodeTypes}
 use Rattle.typing.specs.Refusals.{Verdict, refused, accepted, TypedTerm, elaborate, otherLimit}
 use Rattle.reduction.specs.MayDrop.{mayDrop}
 use Rattle.reduction.specs.Grammar.{inGrammar}
+use Rattle.reduction.specs.Reduction.{noCeilings}
 use Rattle.outcomes.specs.declared.Checked.{Checked}
 use Rattle.outcomes.specs.declared.Tested.{Tested}
 use Rattle.outcomes.specs.declared.FreeInputs.{FreeInputs}
@@ -93,7 +94,7 @@ unless zero n = n
 unless (suc refusal) n = 0
 
 unfoldable pub outcomeOf : Row → Outcome
-outcomeOf x = normalizeOutcome (record { budget = x .budget }) (tablesOf x) (x .term) (record {
+outcomeOf x = normalizeOutcome (noCeilings (x .budget)) (tablesOf x) (x .term) (record {
   output = nines (x .output);
   scratch₁ = nines (x .scratch₁);
   scratch₂ = nines (x .scratch₂);

@@ -75,6 +75,16 @@ pub fn inputs_figures(lines: &[String]) -> String {
     )
 }
 
+/// Of lines of `ceilings`: refusals.
+pub fn ceilings_figures(lines: &[String]) -> String {
+    let refusals = tally(
+        lines
+            .iter()
+            .map(|line| line.split(';').nth(9).expect("a refusal")),
+    );
+    format!("ceilings: {} rows; {refusals}\n", lines.len())
+}
+
 /// Of lines of `cases`, `runs` and `inputs`: the terms with a unit, and the accepted among them.
 pub fn unit_figures(cases: &[String], runs: &[String], inputs: &[String]) -> String {
     let (in_cases, cases_accepted) = all_and_accepted(cases, has_unit_in, 8);
@@ -145,11 +155,11 @@ fn last_marked(marks: &str) -> Option<u32> {
 
 /// How often each refusal number occurs.
 fn tally<'a>(refusals: impl Iterator<Item = &'a str>) -> String {
-    let mut counts = [0; 13];
+    let mut counts = [0; 14];
     for refusal in refusals {
         counts[refusal.parse::<usize>().expect("a refusal number")] += 1;
     }
-    let refused: Vec<String> = (1..13)
+    let refused: Vec<String> = (1..14)
         .filter(|&number| counts[number] > 0)
         .map(|number| format!("{number}: {}", counts[number]))
         .collect();

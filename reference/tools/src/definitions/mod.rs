@@ -3,11 +3,12 @@
 //! `definitions REPOSITORY DIR SEED COUNT` writes a throw-away repository into DIR: copies of the
 //! crates that hold the definitions, and one more crate, `crosscheck`, whose theorems say that the
 //! definitions compute what this implementation answers. Each theorem is closed by one `refl`
-//! over a table of rows. The rows are the lines of `cases SEED COUNT`, and of `bundles`, `runs` and
-//! `inputs` with a fifth, a quarter and a fifth as many.
+//! over a table of rows. The rows are the lines of `cases SEED COUNT`, and of `bundles`, `runs`, `inputs`
+//! and `ceilings` with a fifth, a quarter, a fifth and half as many.
 
 pub mod bundles;
 pub mod cases;
+pub mod ceilings;
 pub mod check;
 mod copy;
 mod crosscheck;

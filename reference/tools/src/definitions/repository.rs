@@ -3,12 +3,14 @@
 use super::copy::{copy_folder, make_empty_folder_outside};
 use super::crosscheck::write_crosscheck;
 use super::figures::{
-    acting_figures, bundle_figures, case_figures, inputs_figures, run_figures, unit_figures,
+    acting_figures, bundle_figures, case_figures, ceilings_figures, inputs_figures, run_figures,
+    unit_figures,
 };
 use super::opened::opened_definitions;
-use super::{bundles, cases, inputs, runs};
+use super::{bundles, cases, ceilings, inputs, runs};
 use crate::lines::bundles::bundle_line;
 use crate::lines::cases::case_line;
+use crate::lines::ceilings::ceilings_line;
 use crate::lines::inputs::inputs_line;
 use crate::lines::runs::run_line;
 use crate::lines::{lines, Line};
@@ -30,6 +32,7 @@ pub fn write_repository(
     let bundles = lines_of(bundle_line, seed, count.div_ceil(5));
     let runs = lines_of(run_line, seed, count.div_ceil(4));
     let inputs = lines_of(inputs_line, seed, count.div_ceil(5));
+    let ceilings = lines_of(ceilings_line, seed, count.div_ceil(2));
 
     make_empty_folder_outside(folder, repository)?;
     let crates = folder.join("crates");
@@ -46,6 +49,7 @@ pub fn write_repository(
         bundles::table(&bundles),
         runs::table(&runs),
         inputs::table(&inputs),
+        ceilings::table(&ceilings),
     ];
     write_crosscheck(&crates.join("crosscheck"), &opened, seed, &tables)?;
 
@@ -54,6 +58,7 @@ pub fn write_repository(
         bundle_figures(&bundles),
         run_figures(&runs),
         inputs_figures(&inputs),
+        ceilings_figures(&ceilings),
         acting_figures(&cases, &runs, &inputs),
         unit_figures(&cases, &runs, &inputs),
     ]
