@@ -5,8 +5,8 @@ use lib.ListN.{set, replicate}
 use Rattle.syntax.specs.Term.{Term, lam, app, bind, pair, fst, snd, inl, inr, case}
 use Rattle.syntax.specs.Encoding.{encode}
 use Rattle.reduction.specs.declared.Settings.{Settings}
-use Rattle.reduction.specs.Reduction.{Counts, zeroCounts, noCeilings}
-use Rattle.cases.specs.Table.{Case, BufferLengths, lengths, roomy, under, c, d, v0, v1, A, A′}
+use Rattle.reduction.specs.Reduction.{zeroCounts, noCeilings}
+use Rattle.cases.specs.Table.{Case, lengths, roomy, under, c, d, v0, v1, A, A′}
 
 -- a budget and ten ceilings
 abbrev ceiled : ℕ → List ℕ → Settings
@@ -55,7 +55,8 @@ admitted x = under (ceiled 1 (only (x .index) 1)) roomy (x .inputs) (x .term) 0 
 
 unfoldable pub ordered : List Case
 ordered =
-    -- case A: let, then apply. Its second term has 7 words: with capacity 6, budget 0 and ceiling 0 all three are met; then 13 and 11; then 11
+    -- case A: let, then apply. Its second term has 7 words: with capacity 6, budget 0 and ceiling 0 all three are met; then 13 and 11;
+    -- then 11
     under (ceiled 0 none) (lengths 6 7 8) [] A 10 zeroCounts []
     ∷ under (ceiled 1 none) (lengths 8 6 7) [] A 13 zeroCounts []
     ∷ under (ceiled 1 (only 0 1)) (lengths 7 8 6) [] A 11 zeroCounts []

@@ -43,7 +43,8 @@ pub refusal-fills : (types calls inputs words : List ℕ) (before : Buffers) (se
     → FillsNormalized settings (over types calls inputs) words before a (before .output)
 unfolding normalizeWithin checkedTo
 refusal-fills types calls inputs words before settings checked ce z ae =
-    untouched (ap (checkedTo (mayDrop calls) (capacityOf before) settings) (refused-of normalizeLimit (over types calls inputs) words checked ce z)) refl ae
+    untouched (ap (checkedTo (mayDrop calls) (capacityOf before) settings)
+    (refused-of normalizeLimit (over types calls inputs) words checked ce z)) refl ae
 
 module _ {types calls inputs words : List ℕ} {before : Buffers} {checked : Checked} {capacity : ℕ}
     (y : AcceptedTerm types calls inputs words before checked capacity) where

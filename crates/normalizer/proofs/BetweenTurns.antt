@@ -81,6 +81,11 @@ abbrev pub TurnFrom : (calls : List ℕ) → Settings → State → (after : Lis
 TurnFrom calls settings s after r =
     Turns (s .phase) calls (s .words) (s .start) (s .end) (s .left) (s .counts) (settings .ceilings) after r
 
+-- and its outcome at a term, within a capacity
+abbrev pub TurnedFrom : (calls : List ℕ) → Settings → State → (after : List ℕ) (capacity : ℕ) → Term → Turn → Type 0
+TurnedFrom calls settings s after capacity t r =
+    Turned (s .phase) calls after (s .start) (s .end) (s .left) (s .counts) (settings .ceilings) capacity t r
+
 -- after a step: what the phase takes as known still holds where the search goes on, and no redex stands before that place
 module _ (calls : List ℕ) where
   premise-next : (phase : Phase) (t : Term) (s : Step) → step (mayDrop calls) phase t ≡ some s → (i : ℕ) → PhasePremise calls phase t i
@@ -149,8 +154,7 @@ module _ (tables : Tables) (capacity : ℕ) (settings : Settings) (whole : Progr
     pub stands-refused : {after : List ℕ} (n : ℕ) → TurnFrom (tables .calls) settings s after (Refused n) → whole ≡ stopped n (s .counts)
     stands-refused n turn = told (turn .told (x .term) (x .at)) (x .long)
       where
-        told : {after : List ℕ} {n m : ℕ} → Turned (s .phase) (tables .calls) after (s .start) (s .end) (s .left) (s .counts) (settings .ceilings) m (x .term)
-            (Refused n)
+        told : {after : List ℕ} {n m : ℕ} → TurnedFrom (tables .calls) settings s after m (x .term) (Refused n)
             → m ≡ capacity → whole ≡ stopped n (s .counts)
         told (spent st e z) l = sym (comes-to (turn-spent pure capacity settings (s .phase) (s .left) (x .term) (s .counts) st e z))
             ∙ onwards-stopped pure capacity settings (s .phase) 10 (s .counts)
@@ -167,7 +171,7 @@ module _ (tables : Tables) (capacity : ℕ) (settings : Settings) (whole : Progr
     stands-steps rule from rest second fit limit long turn = told long (turn .told (x .term) (x .at))
       where
         told : {after : List ℕ} {rule : Rule} {from rest n : ℕ} → length after ≡ capacity
-            → Turned (s .phase) (tables .calls) after (s .start) (s .end) (s .left) (s .counts) (settings .ceilings) n (x .term) (Stepped rule from rest)
+            → TurnedFrom (tables .calls) settings s after n (x .term) (Stepped rule from rest)
             → (0 < s .left) × StandsFor (stepped s after from rest (raise rule (s .counts)) second)
         told long (goes st n e h u g) = (
           h,
@@ -196,7 +200,7 @@ module _ (tables : Tables) (capacity : ℕ) (settings : Settings) (whole : Progr
       stops-at : (step pure (s .phase) (x .term) ≡ none) × Current (tables .calls) after (s .start) (s .end) (x .term)
       stops-at = told (turn .told (x .term) (x .at))
         where
-          told : {after : List ℕ} {n : ℕ} → Turned (s .phase) (tables .calls) after (s .start) (s .end) (s .left) (s .counts) (settings .ceilings) n (x .term) Stop
+          told : {after : List ℕ} {n : ℕ} → TurnedFrom (tables .calls) settings s after n (x .term) Stop
               → (step pure (s .phase) (x .term) ≡ none) × Current (tables .calls) after (s .start) (s .end) (x .term)
           told (stops e c) = (e, c)
 

@@ -22,13 +22,14 @@ use Rattle.reduction.proofs.CountsBounded.{zeros}
 use Rattle.theory.proofs.Fields.{fitting}
 use Rattle.step.specs.Currents.{Gapped, Current}
 use Rattle.step.specs.Gaps.{Seeks}
-use Rattle.step.specs.Turns.{Turned, spent, met, full}
+use Rattle.step.specs.Turns.{spent, met, full}
 use Rattle.step.specs.declared.turn.Turn.{Turn}
 use Rattle.step.specs.declared.turn.Turn.the-variants.{Stop, Refused}
 use Rattle.normalizer.specs.Reductions.{Reducible, Reports, refusal, ended, Reduces}
 use Rattle.normalizer.specs.declared.reduce.Reduced.{Reduced}
 use Rattle.step.proofs.GapMoved.{gapped-size}
-use Rattle.normalizer.proofs.BetweenTurns.{State, atFront, TurnFrom, StandsFor, stands-refused, stands-onwards, stands-at-form}
+use Rattle.normalizer.proofs.BetweenTurns.{State, atFront, TurnFrom, TurnedFrom, StandsFor, stands-refused, stands-onwards}
+use Rattle.normalizer.proofs.BetweenTurns.{stands-at-form}
 use Rattle.normalizer.proofs.StepLoop.{Arrives}
 
 -- words are those of one term
@@ -68,7 +69,8 @@ initial-stands {calls = calls} {words = words} {A = A} {settings = settings} {t 
     }
 
 -- before the first turn
-pub arrives-initial : {calls words second : List ℕ} {begin : ℕ} {settings : Settings} → settings .budget ≤ 4294967295 → Reducible calls words begin second
+pub arrives-initial : {calls words second : List ℕ} {begin : ℕ} {settings : Settings} → settings .budget ≤ 4294967295
+    → Reducible calls words begin second
     → Arrives calls settings (initial words begin settings second) (initial words begin settings second)
 arrives-initial {calls} {words} {second} {begin} {settings} h x =
     let y = x .typed in
@@ -90,7 +92,8 @@ arrives-initial {calls} {words} {second} {begin} {settings} h x =
       none-yet = refl;
     }
 
-module _ {calls words second : List ℕ} {begin : ℕ} {settings : Settings} {b : State} (v : Arrives calls settings (initial words begin settings second) b) where
+module _ {calls words second : List ℕ} {begin : ℕ} {settings : Settings} {b : State}
+    (v : Arrives calls settings (initial words begin settings second) b) where
   -- the reduction of whatever term was current at first stands here
   stands-now : (t : Term) → Current calls words 0 begin t
       → StandsFor (over (v .premise .types) calls (v .premise .inputs)) (length words) settings
@@ -115,9 +118,7 @@ module _ {calls words second : List ℕ} {begin : ℕ} {settings : Settings} {b 
       refused-turn : TurnFrom calls settings b after (Refused n)
       refused-turn = subst (λ (y : Turn). TurnFrom calls settings b after y) te x
 
-      number : {t : Term} {n m : ℕ} {after : List ℕ} → Turned (b .phase) calls after (b .start) (b .end) (b .left) (b .counts)
-          (settings .ceilings) m t (Refused n)
-          → (k : ℕ) × (n ≡ suc k)
+      number : {t : Term} {n m : ℕ} {after : List ℕ} → TurnedFrom calls settings b after m t (Refused n) → (k : ℕ) × (n ≡ suc k)
       number (spent s e z) = (9, refl)
       number (met s e h u) = (12, refl)
       number (full s e h u l) = (10, refl)

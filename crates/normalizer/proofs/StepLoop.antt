@@ -88,8 +88,8 @@ module _ {calls : List ℕ} {settings : Settings} {a b : State} (v : Arrives cal
       → Seekable after (b .start) (b .end) place
   gap-seekable {after} place le x e = stands-seekable _ _ _ _ now (subst (λ (t : Turn). TurnFrom calls settings b after t) e x) place le
 
-  module _ {after : List ℕ} {r : Turn} {rule : Rule} {from rest : ℕ} (l : length after ≡ length (b .words)) (x : TurnFrom calls settings b after r)
-      (e : r ≡ Stepped rule from rest) where
+  module _ {after : List ℕ} {r : Turn} {rule : Rule} {from rest : ℕ} (l : length after ≡ length (b .words))
+      (x : TurnFrom calls settings b after r) (e : r ≡ Stepped rule from rest) where
     step-turn : TurnFrom calls settings b after (Stepped rule from rest)
     step-turn = subst (λ (t : Turn). TurnFrom calls settings b after t) e x
 

@@ -37,6 +37,7 @@ pub record Settleable (calls words output first second : List ℕ) : Type 0 wher
   pub room : length first ≤ length output
 
 -- for whatever term the words are
-pub record Settles (calls words : List ℕ) (A : ℕ) (settings : Settings) (capacity : ℕ) (before : List ℕ) (answer : Answer) (after : List ℕ) : Type 0 where
+pub record Settles (calls words : List ℕ) (A : ℕ) (settings : Settings) (capacity : ℕ) (before : List ℕ) (answer : Answer)
+    (after : List ℕ) : Type 0 where
   pub told : (t : Term) → Shaped calls t → words ≡ encode t
       → Fills (reducedTo A (reduce (mayDrop calls) capacity settings t)) before answer after

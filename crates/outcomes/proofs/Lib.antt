@@ -4,3 +4,4 @@ pub mod BeforeUnits
 pub mod BeforeActing
 pub mod BeforeCeilings
 pub mod RaisedSettings
+pub mod WithinSettings

@@ -32,7 +32,8 @@ pub below-unmet : (ceilings : List ℕ) (r : Rule) (ns : Counts) → ofRule r ns
 below-unmet ceilings r ns h = lt-leb (ofRule r ceilings) (ofRule r ns) h
 
 module _ (ceilings : List ℕ) where
-  raised-under : (s : Rule) (xs : Counts) → length xs ≡ 10 → ofRule s xs < ofRule s ceilings → Under xs ceilings → Under (raise s xs) ceilings
+  raised-under : (s : Rule) (xs : Counts) → length xs ≡ 10 → ofRule s xs < ofRule s ceilings → Under xs ceilings
+      → Under (raise s xs) ceilings
   raised-under s xs l h k r = go (eqb (index s) (index r)) (eqb→eq (index s) (index r))
       (raised-at xs (index s) (index r) (subst (λ (n : ℕ). index r < n) (sym l) (index-below r)))
     where
@@ -44,7 +45,8 @@ module _ (ceilings : List ℕ) where
   raise-ten : (s : Rule) (xs : Counts) → length xs ≡ 10 → length (raise s xs) ≡ 10
   raise-ten s xs l = length-set xs (index s) (ofRule s xs + 1) ∙ l
 
-  allowed-under : {ss : List Step} {xs : Counts} → length xs ≡ 10 → Under xs ceilings → Allowed ceilings xs ss → Under (tally ss xs) ceilings
+  allowed-under : {ss : List Step} {xs : Counts} → length xs ≡ 10 → Under xs ceilings → Allowed ceilings xs ss
+      → Under (tally ss xs) ceilings
   unfolding tally
   allowed-under l h all-allowed = h
   allowed-under {xs = xs} l h (allows {s = s} u a) =

@@ -43,7 +43,8 @@ raised-at xs j i l = go (eqb j i) (eqb→eq j i) (λ f e. T-not (eqb j i) f (sub
         ap (λ (n : ℕ). getD (set xs n (getD xs n 0 + 1)) i 0) e ∙ getD-set-same xs i (getD xs i 0 + 1) 0 l ∙ omega arith
     go false h k = getD-set-other xs j i (getD xs j 0 + 1) 0 (λ e. k tt (sym e)) ∙ omega arith
 
-pub tally-by : (r : Rule) (ss : List Step) (xs : Counts) → length xs ≡ 10 → getD (tally ss xs) (index r) 0 ≡ stepsBy r ss + getD xs (index r) 0
+pub tally-by : (r : Rule) (ss : List Step) (xs : Counts) → length xs ≡ 10
+    → getD (tally ss xs) (index r) 0 ≡ stepsBy r ss + getD xs (index r) 0
 unfolding tally stepsBy
 tally-by r [] xs l = omega arith
 tally-by r (s ∷ ss) xs l =

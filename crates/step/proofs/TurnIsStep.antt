@@ -33,6 +33,7 @@ use Rattle.step.specs.Turns.{CurrentClear, Ready, Turned, stops, spent, 
 use Rattle.search.specs.NextFrom.{nextFrom}
 use Rattle.step.specs.declared.rewrite.Rewritten.{Rewritten}
 use Rattle.step.specs.declared.rewrite.Rewritten.the-variants.{Full, Next}
+use Rattle.step.specs.declared.turn.Turn.{Turn}
 use Rattle.step.specs.declared.turn.Turn.the-variants.{Stop, Refused, Step as Stepped}
 use Rattle.step.proofs.GapMoved.{gapped-size, gapped-behind, gapped-seekable, gapped-sought}
 
@@ -223,8 +224,8 @@ module _ {phase : Phase} {calls before : List ℕ} {start end : ℕ} where
             let q : nextFrom phase (s .taken .place) ≡ to = ap (nextFrom phase) (s .at) ∙ sym e in
             let there = gapped-sought (next-there t a) k in
             let below = ap (λ (i : Rule). ceilingMet ceilings i counts) (s .by) ∙ u in
-            subst (λ (i : Rule). Turned phase calls after start end left counts ceilings (length before) t (Stepped i to rest)) (s .by)
-            (subst (λ (i : ℕ). Turned phase calls after start end left counts ceilings (length before) t (Stepped (s .taken .rule) i rest)) q
+            let turned : Turn → Type 0 = λ r. Turned phase calls after start end left counts ceilings (length before) t r in
+            subst (λ (i : Rule). turned (Stepped i to rest)) (s .by) (subst (λ (i : ℕ). turned (Stepped (s .taken .rule) i rest)) q
             (goes (s .taken) rest (s .is) h below (subst (λ (i : ℕ). Gapped after i rest (s .taken .next)) (sym q) there)));
       }
 

@@ -69,7 +69,8 @@ unfolding leaf unary binary splitForest callBuilder builders graft decodeForest 
     wellFormedTypes distinct wellFormedCalls wellFormedInputs wellFormedWords scopedAt scoped
 accepted-A = refl
 
--- With a budget of 2, ceilings of 1 for let and apply, and a capacity of 7 or more, case A is neither refused nor answered with other counts than one let and one apply.
+-- With a budget of 2, ceilings of 1 for let and apply and a capacity of 7, or more, case A is neither refused nor answered with other
+-- counts than one let and one apply.
 module _ {settings : Settings} {before after : Buffers} {answer : Answer} (budget : 2 ≤ settings .budget)
     (lets : 1 ≤ ofRule LetInsertion (settings .ceilings)) (applies : 1 ≤ ofRule Apply (settings .ceilings))
     (capacity : 7 ≤ capacityOf before)

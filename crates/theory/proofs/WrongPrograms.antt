@@ -11,7 +11,7 @@ use native.Mathlib.Omega.{arith}
 use Rattle.syntax.specs.Tables.{Tables}
 use Rattle.syntax.specs.Term.{Term}
 use Rattle.syntax.specs.Encoding.{size}
-use Rattle.typing.specs.Refusals.{Verdict, accepted, TypedTerm, elaborate, normalizeLimit}
+use Rattle.typing.specs.Refusals.{accepted, TypedTerm, elaborate, normalizeLimit}
 use Rattle.reduction.specs.MayDrop.{mayDrop}
 use Rattle.reduction.specs.declared.Phase.{Phase}
 use Rattle.reduction.specs.declared.Phase.the-variants.{Insertion}
@@ -23,9 +23,10 @@ use Rattle.reduction.proofs.Ceilings.{met-reached}
 use Rattle.reduction.proofs.CountOfRule.{index-below, stepsBy, count-by}
 use Rattle.reduction.proofs.Exact.{Refused, budget-spent, ceiling-met, next-too-long, first-too-long, reduce-refused}
 use Rattle.reduction.proofs.Path.{first-second, second-third, Within, fits, nexts, Path, here, taken, onward, steps}
-use Rattle.reduction.proofs.WithinSettings.{Stays, stays-reduce}
-use Rattle.outcomes.specs.Normalize.{reducedTo, checkedTo, normalizeWithin, Buffers, capacityOf, Outcome, normalizeOutcome}
+use Rattle.reduction.proofs.WithinSettings.{Stays}
+use Rattle.outcomes.specs.Normalize.{reducedTo, Buffers, capacityOf, Outcome}
 use Rattle.outcomes.specs.Contract.{Normalizes}
+use Rattle.outcomes.proofs.WithinSettings.{outcome-is, stays-accepted}
 use Rattle.outcomes.specs.declared.Answer.{Answer}
 
 -- all counts together
@@ -84,17 +85,12 @@ module _ {settings : Settings} {tables : Tables} {words : List ℕ} {before : Bu
 
   -- the answer is what the reduction comes to
   answer-is : (p : Progress) → reduce pure capacity settings (x .term) ≡ p → answer ≡ reducedTo (x .type) p .answer
-  unfolding normalizeOutcome normalizeWithin checkedTo
-  answer-is p r =
-      ap (λ (o : Outcome). o .answer) (contract .outcome)
-      ∙ ap (λ (v : Verdict TypedTerm). checkedTo pure capacity settings v .answer) checked
-      ∙ ap (λ (p : Progress). reducedTo (x .type) p .answer) r
+  answer-is p r = ap (λ (o : Outcome). o .answer) (contract .outcome ∙ outcome-is settings tables words before x checked p r)
 
   -- the answer to a term whose whole reduction stays within the budget, the ceilings and the capacity
   module _ {u : Term} (q : Sequence pure (x .term) u) (stays : Stays pure capacity settings q) where
     in-full : answer ≡ record { refusal = 0; ty = x .type; length = size u; counts = tally (steps pure q) zeroCounts }
-    unfolding reducedTo
-    in-full = answer-is _ (stays-reduce pure capacity settings (x .term) u q stays)
+    in-full = ap (λ (o : Outcome). o .answer) (contract .outcome ∙ stays-accepted settings tables words before x checked u q stays)
 
     -- the program that refuses
     pub refusing-ruled-out : (answer .refusal ≡ 0 → ⊥) → ⊥

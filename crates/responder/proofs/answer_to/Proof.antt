@@ -21,4 +21,5 @@ answer-to-spec =
     let set : tie.After-no-ceilings = search in
     let call : tie.After-normalize = search in
     let last : tie.After-listing = search in
-    listing-normalized _ _ _ _ _ _ _ _ (set .no-ceilings .ensures) (full-capacity _ _ _ refl refl refl) (call .normalize .ensures .outcome) (last .listing .ensures)))
+    listing-normalized _ _ _ _ _ _ _ _ (set .no-ceilings .ensures) (full-capacity _ _ _ refl refl refl) (call .normalize .ensures .outcome)
+    (last .listing .ensures)))

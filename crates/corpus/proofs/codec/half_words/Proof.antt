@@ -1,5 +1,5 @@
 -- The loop stays within the ten words.
-use Prim.Native.Nat.{ℕ, _-_}
+use Prim.Native.Nat.{_-_}
 use borrow.Author.Needs.{needs}
 use Rattle.corpus.proofs.codec.half_words.Statement.{statement}
 use Rattle.corpus.proofs.codec.half_words.Tie as tie

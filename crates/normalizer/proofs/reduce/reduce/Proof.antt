@@ -36,24 +36,24 @@ abbrev set : (budget : ℕ) (ceilings : List ℕ) → Settings
 set budget ceilings = record { budget = budget; ceilings = ceilings }
 
 abbrev Inv-loop : tie.InvT-loop
-Inv-loop calls current₀ begin second₀ acting budget ceilings pending₀ counts₀ left₀ phase refusal₀ start₀ end₀ current second pending counts left
-    refusal start end =
+Inv-loop calls current₀ begin second₀ acting budget ceilings pending₀ counts₀ left₀ phase refusal₀ start₀ end₀ current second pending
+    counts left refusal start end =
     Arrives calls (set budget ceilings) (state phase current₀ start₀ end₀ left₀ counts₀ second₀ refusal₀)
     (state phase current start end left counts second refusal) × (length pending ≡ 8194)
 
 abbrev μ-loop : tie.MeasureT-loop
-μ-loop calls current₀ begin second₀ acting budget ceilings pending₀ counts₀ left₀ phase refusal₀ start₀ end₀ current second pending counts left
-    refusal start end = left
+μ-loop calls current₀ begin second₀ acting budget ceilings pending₀ counts₀ left₀ phase refusal₀ start₀ end₀ current second pending
+    counts left refusal start end = left
 
 abbrev Inv-reduce : tie.InvT-reduce
-Inv-reduce calls current₀ begin second₀ acting budget ceilings pending₀ counts₀ left₀ phase₀ refusal₀ start₀ end₀ current second pending counts left
-    phase refusal start end =
-    Arrives calls (set budget ceilings) (initial current₀ begin (set budget ceilings) second₀) (state phase current start end left counts second refusal)
-    × (length pending ≡ 8194)
+Inv-reduce calls current₀ begin second₀ acting budget ceilings pending₀ counts₀ left₀ phase₀ refusal₀ start₀ end₀ current second pending
+    counts left phase refusal start end =
+    Arrives calls (set budget ceilings) (initial current₀ begin (set budget ceilings) second₀)
+    (state phase current start end left counts second refusal) × (length pending ≡ 8194)
 
 abbrev μ-reduce : tie.MeasureT-reduce
-μ-reduce calls current₀ begin second₀ acting budget ceilings pending₀ counts₀ left₀ phase₀ refusal₀ start₀ end₀ current second pending counts left
-    phase refusal start end = phasesAfter phase
+μ-reduce calls current₀ begin second₀ acting budget ceilings pending₀ counts₀ left₀ phase₀ refusal₀ start₀ end₀ current second pending
+    counts left phase refusal start end = phasesAfter phase
 
 -- the places, and the way back from each to the one above it
 abbrev Entry : Type 0
@@ -148,7 +148,8 @@ onward : (c : Sought) (next : Phase)
     → (let h = head (turned c) in
     let s = entry (phase-of h) .args in
     let l = h .loop in
-    Follows (phase-of h .reduce .phase) next → Arrives (s .calls .now) (s .settings) (initial (s .current .now) (s .begin) (s .settings) (s .second .now))
+    Follows (phase-of h .reduce .phase) next
+    → Arrives (s .calls .now) (s .settings) (initial (s .current .now) (s .begin) (s .settings) (s .second .now))
     (state next (c .seek .last .0) 0 (c .seek .result) (l .left) (l .counts) (turned c .take-turn .last .1 .1 .1 .1 .1 .1 .1 .1 .1 .0)
     (l .refusal)))
 onward c next f =

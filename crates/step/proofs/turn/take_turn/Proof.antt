@@ -1,9 +1,9 @@
 -- What is found is the definition's step; the budget is checked before the ceiling of the rule, and that before the next term's length.
 --
 -- Why it is right: a redex that the search finds is the first one (`redex`), so its place is one of the term's and the gap can go there
--- (`at-redex`). Where the ceiling decides the budget is not spent (`budget-left`), so 13 is answered only there. Where the redex is rewritten
--- its ceiling is not met either (`ceiling-unmet`), so 11 is answered only there; and where the next term is in the buffer the gap can go to
--- where the search goes on (`next`).
+-- (`at-redex`). Where the ceiling decides, the budget is not spent (`budget-left`), so 13 is answered only there. Where the redex is
+-- rewritten, its ceiling is not met either (`ceiling-unmet`), so 11 is answered only there; and where the next term is in the buffer the
+-- gap can go to where the search goes on (`next`).
 use native.Mathlib.Omega.{arith}
 use Prim.Native.Nat.{_+_, _<_}
 use mathlib.Core.Path.{_≡_, sym, _∙_}
@@ -13,7 +13,8 @@ use Rattle.reduction.specs.Reduction.{ceilingMet}
 use Rattle.step.specs.Rewrites.{RewritesRedex}
 use Rattle.step.specs.declared.rewrite.Rewritten.the-variants.{Next}
 use Rattle.step.proofs.TurnIsStep.{FirstRedex, GapAtRedex, turn-searchable, turned-stops, first-redex, turned-spent, turned-met}
-use Rattle.step.proofs.TurnIsStep.{place-small, redex-seekable, turn-rewritable, turned-full, next-seekable, turned-goes, rewrites-as}
+use Rattle.step.proofs.TurnIsStep.{place-small, redex-seekable, turn-rewritable, turned-full, next-seekable, turned-goes}
+use Rattle.step.proofs.TurnIsStep.{rewrites-as}
 use borrow.Author.Needs.{needs}
 use Rattle.step.proofs.turn.take_turn.Statement.{statement}
 use Rattle.step.proofs.turn.take_turn.Tie as tie
