@@ -5,18 +5,18 @@ use mathlib.Core.Option.{Option, some, none}
 use Prim.Native.Nat.{ℕ, zero, suc, _+_, _≤_}
 use native.Mathlib.Omega.{arith}
 use lib.Dec.{leb}
+use lib.ListN.{getD-replicate}
 use Rattle.syntax.specs.Term.{Term}
 use Rattle.syntax.specs.Encoding.{size}
 use Rattle.reduction.specs.declared.Phase.{Phase}
 use Rattle.reduction.specs.declared.Phase.the-variants.{Insertion, Reduction, Dropping}
 use Rattle.reduction.specs.declared.Rule.{Rule}
-use Rattle.reduction.specs.declared.Rule.the-variants.{LetInsertion, LetOfLet, LetOfCase, Apply, First, Second, LeftCase, RightCase}
-use Rattle.reduction.specs.declared.Rule.the-variants.{LetValue, Drop}
 use Rattle.reduction.specs.declared.Settings.{Settings}
 use Rattle.reduction.specs.Redex.{Step, step}
 use Rattle.reduction.specs.Reduction.{Counts, index, ofRule, raise, zeroCounts, noCeilings, Progress, stopped, reached}
 use Rattle.reduction.specs.Reduction.{runPhase, thenPhase, reduce}
 use Rattle.reduction.proofs.Remaining.{withNone, fitting, meeting, withSome}
+use Rattle.reduction.proofs.CountOfRule.{index-below}
 use Rattle.reduction.proofs.CountsBounded.{raised, zeros}
 use Rattle.reduction.proofs.Ceilings.{below-unmet}
 use Rattle.reduction.proofs.RaisedSettings.{never-met}
@@ -120,16 +120,7 @@ module _ (pure : Term → Bool) (capacity : ℕ) where
 
   -- with no ceilings and a 32-bit budget
   pub none-below : (budget : ℕ) → budget ≤ 4294967295 → (r : Rule) → budget ≤ ofRule r (noCeilings budget .ceilings)
-  none-below budget h LetInsertion = h
-  none-below budget h LetOfLet = h
-  none-below budget h LetOfCase = h
-  none-below budget h Apply = h
-  none-below budget h First = h
-  none-below budget h Second = h
-  none-below budget h LeftCase = h
-  none-below budget h RightCase = h
-  none-below budget h LetValue = h
-  none-below budget h Drop = h
+  none-below budget h r = omega (arith, h, getD-replicate {A = ℕ} 10 (index r) 4294967295 0 (index-below r))
 
   pub no-ceilings-as-before : (budget : ℕ) → budget ≤ 4294967295 → (t : Term)
       → reduce pure capacity (noCeilings budget) t ≡ formerReduce budget t
