@@ -1,12 +1,12 @@
 -- Steps that the ceilings allow are steps that use no rule more often than its ceiling says.
-use mathlib.Core.Path.{_≡_, refl, sym, _∙_, ap, subst}
+use mathlib.Core.Path.{_≡_, refl, sym, ap, subst}
 use mathlib.Core.Bool.{Bool, true, false}
 use mathlib.Core.List.{List, [], _∷_}
 use Prim.Native.Nat.{ℕ, _+_, _≤_, _<_}
 use native.Mathlib.Omega.{arith}
 use lib.Dec.{T, eqb, eqb→eq}
 use borrow.Author.Tests.{leb-true, leb-false, lt-leb}
-use lib.ListN.{length, getD, length-set}
+use lib.ListN.{length, getD}
 use lib.Seq.{getD-set-same}
 use Rattle.syntax.specs.Values.{counts}
 use Rattle.reduction.specs.declared.Rule.{Rule}
@@ -14,7 +14,7 @@ use Rattle.reduction.specs.Redex.{Step}
 use Rattle.reduction.specs.Reduction.{Counts, index, ofRule, raise, ceilingMet, zeroCounts}
 use Rattle.reduction.specs.Sequence.{tally}
 use Rattle.reduction.proofs.Path.{Allowed, all-allowed, allows}
-use Rattle.reduction.proofs.CountsBounded.{zeros}
+use Rattle.reduction.proofs.CountsBounded.{raise-ten, zeros}
 use Rattle.reduction.proofs.CountOfRule.{stepsBy, index-below, raised-at, tally-by, count-by}
 
 -- no rule's number is over its ceiling
@@ -41,9 +41,6 @@ module _ (ceilings : List ℕ) where
           → ofRule r (raise s xs) ≤ ofRule r ceilings
       go true f e = omega (arith, e, h, ap (λ (i : ℕ). getD xs i 0) (f tt), ap (λ (i : ℕ). getD ceilings i 0) (f tt))
       go false f e = omega (arith, e, k r)
-
-  raise-ten : (s : Rule) (xs : Counts) → length xs ≡ 10 → length (raise s xs) ≡ 10
-  raise-ten s xs l = length-set xs (index s) (ofRule s xs + 1) ∙ l
 
   allowed-under : {ss : List Step} {xs : Counts} → length xs ≡ 10 → Under xs ceilings → Allowed ceilings xs ss
       → Under (tally ss xs) ceilings

@@ -5,7 +5,7 @@ use mathlib.Core.List.{List, [], _∷_}
 use Prim.Native.Nat.{ℕ, _+_, _<_}
 use native.Mathlib.Omega.{arith}
 use lib.Dec.{T, eqb, eqb→eq, eqb-refl, T-not}
-use lib.ListN.{length, getD, set, length-set}
+use lib.ListN.{length, getD, set}
 use lib.Seq.{getD-set-same, getD-set-other}
 use Rattle.syntax.specs.Values.{counts}
 use Rattle.reduction.specs.declared.Rule.{Rule}
@@ -14,7 +14,7 @@ use Rattle.reduction.specs.declared.Rule.the-variants.{LetValue, Drop}
 use Rattle.reduction.specs.Redex.{Step}
 use Rattle.reduction.specs.Reduction.{Counts, index, raise, zeroCounts}
 use Rattle.reduction.specs.Sequence.{tally}
-use Rattle.reduction.proofs.CountsBounded.{zeros}
+use Rattle.reduction.proofs.CountsBounded.{raise-ten, zeros}
 
 -- how many of the steps are by a rule
 unfoldable pub stepsBy : Rule → List Step → ℕ
@@ -50,7 +50,7 @@ tally-by r [] xs l = omega arith
 tally-by r (s ∷ ss) xs l =
     omega (
       arith,
-      tally-by r ss (raise (s .rule) xs) (length-set xs (index (s .rule)) (getD xs (index (s .rule)) 0 + 1) ∙ l),
+      tally-by r ss (raise (s .rule) xs) (raise-ten (s .rule) xs l),
       raised-at xs (index (s .rule)) (index r) (subst (λ (n : ℕ). index r < n) (sym l) (index-below r)),
     )
 

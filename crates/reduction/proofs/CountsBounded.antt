@@ -6,6 +6,7 @@ use Prim.Native.Nat.{ℕ, zero, suc, _+_, _≤_}
 use native.Mathlib.Omega.{arith}
 use lib.ListN.{length, getD, set, replicate, length-set}
 use Rattle.syntax.specs.Term.{Term}
+use Rattle.reduction.specs.declared.Rule.{Rule}
 use Rattle.reduction.specs.Redex.{Step}
 use Rattle.reduction.specs.declared.Settings.{Settings}
 use Rattle.reduction.specs.Reduction.{Counts, index, raise, zeroCounts, Progress, stopped, reached, reduce}
@@ -26,11 +27,13 @@ unfolding tally
 tally-bound [] counts i = omega arith
 tally-bound (s ∷ ss) counts i = omega (arith, tally-bound ss (raise (s .rule) counts) i, raised counts (index (s .rule)) i)
 
+pub raise-ten : (r : Rule) (counts : Counts) → length counts ≡ 10 → length (raise r counts) ≡ 10
+raise-ten r counts h = length-set counts (index r) (getD counts (index r) 0 + 1) ∙ h
+
 tally-ten : (ss : List Step) (counts : Counts) → length counts ≡ 10 → length (tally ss counts) ≡ 10
 unfolding tally
 tally-ten [] counts h = h
-tally-ten (s ∷ ss) counts h =
-    tally-ten ss (raise (s .rule) counts) (length-set counts (index (s .rule)) (getD counts (index (s .rule)) 0 + 1) ∙ h)
+tally-ten (s ∷ ss) counts h = tally-ten ss (raise (s .rule) counts) (raise-ten (s .rule) counts h)
 
 pub zeros : (n i : ℕ) → _≡_ {A = ℕ} (getD (replicate n 0) i 0) 0
 zeros zero i = refl

@@ -5,7 +5,7 @@ use mathlib.Core.Path.{_≡_, refl, sym, _∙_, ap, subst}
 use mathlib.Core.Bool.{Bool}
 use mathlib.Core.List.{List, [], _∷_}
 use mathlib.Core.Option.{some, Option·some-injective, Option·none-ne-some}
-use lib.ListN.{length, getD, set, length-set}
+use lib.ListN.{length, getD, set}
 use Prim.Native.Nat.{ℕ, zero, suc, _+_, _≤_, _<_}
 use native.Mathlib.Omega.{arith}
 use Rattle.syntax.specs.Tables.{Tables}
@@ -21,6 +21,7 @@ use Rattle.reduction.specs.Reduction.{Counts, index, ofRule, raise, zeroCounts,
 use Rattle.reduction.specs.Sequence.{tally, Sequence}
 use Rattle.reduction.proofs.Ceilings.{met-reached}
 use Rattle.reduction.proofs.CountOfRule.{index-below, stepsBy, count-by}
+use Rattle.reduction.proofs.CountsBounded.{raise-ten}
 use Rattle.reduction.proofs.Exact.{Refused, budget-spent, ceiling-met, next-too-long, first-too-long, reduce-refused}
 use Rattle.reduction.proofs.Path.{first-second, second-third, Within, fits, nexts, Path, here, taken, onward, steps}
 use Rattle.reduction.proofs.WithinSettings.{Stays}
@@ -47,7 +48,7 @@ total-tally (s ∷ ss) counts l =
     let j = index (s .rule) in
     omega (
       arith,
-      total-tally ss (raise (s .rule) counts) (length-set counts j (getD counts j 0 + 1) ∙ l),
+      total-tally ss (raise (s .rule) counts) (raise-ten (s .rule) counts l),
       total-raised counts j (subst (λ (n : ℕ). j < n) (sym l) (index-below (s .rule))),
     )
 

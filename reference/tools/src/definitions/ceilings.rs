@@ -11,7 +11,8 @@ use Prim.Native.Nat.{ℕ}
 use mathlib.Core.List.{List, _++_}
 use lib.ListN.{replicate}
 use Rattle.syntax.specs.Tables.{over}
-use Rattle.outcomes.specs.Normalize.{Outcome, normalizeOutcome}
+use Rattle.reduction.specs.declared.Settings.{Settings}
+use Rattle.outcomes.specs.Normalize.{Buffers, Outcome, normalizeOutcome}
 
 pub record Row : Type 0 where
   pub types : List ℕ
@@ -37,11 +38,13 @@ abbrev pub nines : ℕ → List ℕ
 nines n = replicate n 9
 
 unfoldable pub computed : Row → Outcome
-computed x = normalizeOutcome (record { budget = x .budget; ceilings = x .ceilings }) (over (x .types) (x .calls) (x .inputs)) (x .term) (record {
-  output = nines (x .output);
-  scratch₁ = nines (x .scratch₁);
-  scratch₂ = nines (x .scratch₂);
-})
+computed x = normalizeOutcome settings (over (x .types) (x .calls) (x .inputs)) (x .term) buffers
+  where
+    settings : Settings
+    settings = record { budget = x .budget; ceilings = x .ceilings }
+
+    buffers : Buffers
+    buffers = record { output = nines (x .output); scratch₁ = nines (x .scratch₁); scratch₂ = nines (x .scratch₂) }
 
 unfoldable pub expected : Row → Outcome
 expected x = record {
