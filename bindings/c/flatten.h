@@ -97,8 +97,8 @@ struct flatten_inputs {
 
 /*
  * Reads a bundle, normalizes its term with budget 1,000,000, no ceilings and capacity 8,192, and
- * writes the listing to the front of the text; the rest of the text stays as it was. Answers how many bytes
- * were written. A bundle that cannot be read is listed as refused with 12.
+ * writes the listing to the front of the text; the rest of the text stays as it was. Answers how
+ * many bytes were written. A bundle that cannot be read is listed as refused with 12.
  *
  * A text that is shorter than the listing stays as it was, and the answer is 0. A text of
  * FLATTEN_MOST_WRITTEN bytes holds every listing.

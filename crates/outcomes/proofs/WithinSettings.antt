@@ -47,17 +47,17 @@ module _ (settings : Settings) (tables : Tables) (words : List ℕ) (before : Bu
   stays-accepted u q h = outcome-is _ (stays-reduce pure capacity settings (x .term) u q h)
 
   -- what is accepted has such a sequence
-  pub record Through : Type 0 where
+  pub record AcceptedSequence : Type 0 where
     pub normal : Term
     pub left : ℕ
     pub counts : Counts
     pub within : Accepted pure capacity settings (x .term) normal left counts
 
-  pub accepted-stays : outcome .answer .refusal ≡ 0 → Through
+  pub accepted-stays : outcome .answer .refusal ≡ 0 → AcceptedSequence
   unfolding reducedTo
   accepted-stays z = go (reduce pure capacity settings (x .term)) refl
     where
-      go : (p : Progress) → reduce pure capacity settings (x .term) ≡ p → Through
+      go : (p : Progress) → reduce pure capacity settings (x .term) ≡ p → AcceptedSequence
       go (stopped n counts) r = absurd (omega (
         arith,
         z,

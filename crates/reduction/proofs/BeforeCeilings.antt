@@ -21,6 +21,10 @@ use Rattle.reduction.proofs.CountsBounded.{raised, zeros}
 use Rattle.reduction.proofs.Ceilings.{below-unmet}
 use Rattle.reduction.proofs.RaisedSettings.{never-met}
 
+-- where there are no ceilings, none is below a 32-bit budget
+none-below : (budget : ℕ) → budget ≤ 4294967295 → (r : Rule) → budget ≤ ofRule r (noCeilings budget .ceilings)
+none-below budget h r = omega (arith, h, getD-replicate {A = ℕ} 10 (index r) 4294967295 0 (index-below r))
+
 module _ (pure : Term → Bool) (capacity : ℕ) where
   unfoldable pub formerPhase : Phase → ℕ → Term → Counts → Progress
   formerPhase phase zero t counts = elim (step pure phase t) [
@@ -119,9 +123,6 @@ module _ (pure : Term → Bool) (capacity : ℕ) where
       (then-same settings Dropping (then-same settings Reduction first) .same)
 
   -- with no ceilings and a 32-bit budget
-  pub none-below : (budget : ℕ) → budget ≤ 4294967295 → (r : Rule) → budget ≤ ofRule r (noCeilings budget .ceilings)
-  none-below budget h r = omega (arith, h, getD-replicate {A = ℕ} 10 (index r) 4294967295 0 (index-below r))
-
   pub no-ceilings-as-before : (budget : ℕ) → budget ≤ 4294967295 → (t : Term)
       → reduce pure capacity (noCeilings budget) t ≡ formerReduce budget t
   no-ceilings-as-before budget h t = reduce-as-before (noCeilings budget) (none-below budget h) t

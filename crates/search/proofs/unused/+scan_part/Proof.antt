@@ -240,9 +240,7 @@ module _ (m : ℕ) where
       let a : Called = search in
       scan-part (turn (counted a) .loop .inv) (some (search)) _ _ _ (a .scan-part .ensures) (search) (a .scan-part .kept .1 .1 .1 .0))
       (λ c κs. (c .before .before .loop .inv .known, deep (search)))
-      (λ c.
-      let l : Head = search in
-      l .loop .inv .len)
+      (λ c. let l : Head = search in l .loop .inv .len)
       (λ c.
       let l : place lts.After-loop = search in
       scan-end _ _ _ _ _ (l .before .loop .inv) _ (omega (arith, l .loop-test .left)) refl (c .least-mark .ensures))
