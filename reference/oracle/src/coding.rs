@@ -3,24 +3,30 @@
 use crate::tables::Signature;
 use crate::term::Term;
 use crate::words::*;
+use std::slice::Iter;
 
 /// Reads one whole term of known words; `None` if words end early or are left over.
 pub fn decode(words: &[u64], signatures: &[Signature]) -> Option<Term> {
+    let arguments = |number: u32| Some(signatures[number as usize].arguments.len());
     let mut remaining = words.iter();
-    let term = decode_node(&mut remaining, signatures)?;
+    let term = decode_front(&mut remaining, &arguments)?;
     remaining.next().is_none().then_some(term)
 }
 
-fn decode_node(words: &mut std::slice::Iter<u64>, signatures: &[Signature]) -> Option<Term> {
+/// Reads one term and leaves the words behind it; `None` if words end early or a word of the term has
+/// no known number of parts. `arguments` is that of the call with a number.
+pub fn decode_front(
+    words: &mut Iter<u64>,
+    arguments: &impl Fn(u32) -> Option<usize>,
+) -> Option<Term> {
     let (kind, number, type_number) = unpack_term(*words.next()?);
     let (number, type_number) = (number as u32, type_number as u32);
-    let mut part = || decode_node(words, signatures);
+    let mut part = || decode_front(words, arguments);
     let term = match kind {
         VARIABLE => Term::Variable(number),
         CALL => {
-            let types = &signatures[number as usize].arguments;
-            let arguments: Option<Vec<Term>> = types.iter().map(|_| part()).collect();
-            Term::Call(number, arguments?)
+            let parts: Option<Vec<Term>> = (0..arguments(number)?).map(|_| part()).collect();
+            Term::Call(number, parts?)
         }
         FUNCTION => Term::Function(type_number, Box::new(part()?)),
         APPLICATION => Term::Application(Box::new(part()?), Box::new(part()?)),
@@ -32,7 +38,7 @@ fn decode_node(words: &mut std::slice::Iter<u64>, signatures: &[Signature]) -> O
         RIGHT => Term::Right(type_number, Box::new(part()?)),
         CASE => Term::Case(Box::new(part()?), Box::new(part()?), Box::new(part()?)),
         UNIT => Term::Unit(type_number),
-        _ => panic!("a word of kind {kind} was refused before"),
+        _ => return None,
     };
     Some(term)
 }

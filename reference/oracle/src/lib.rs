@@ -8,6 +8,7 @@ pub mod coding;
 pub mod deep_stack;
 pub mod dialect;
 pub mod dropping;
+pub mod ends;
 pub mod free_inputs;
 pub mod listing;
 pub mod normal_form;

@@ -19,6 +19,7 @@ use tools::generate::long_readings::longest_readings;
 use tools::lines::bundles::bundle_line;
 use tools::lines::cases::case_line;
 use tools::lines::ceilings::ceilings_line;
+use tools::lines::ends::ends_line;
 use tools::lines::inputs::inputs_line;
 use tools::lines::runs::run_line;
 use tools::lines::{lines, Line};
@@ -38,6 +39,7 @@ const USAGE: &str = "usage: reference SUBCOMMAND
   inputs SEED COUNT   lines of short terms over up to 256 inputs, with those they read
                       (the last fifth of all these lines has the unit type in its tables, and
                       the fifth before it has calls that act)
+  ends SEED COUNT     lines of any words, with the end of the part at their front
   definitions REPOSITORY DIR SEED COUNT
                       the definitions of REPOSITORY/crates checked against such lines by rt, in a
                       repository written into DIR: COUNT cases, a fifth as many bundles, a quarter
@@ -81,6 +83,7 @@ fn dispatch(arguments: &[String]) -> io::Result<bool> {
         ["bundles", seed, count] => print_lines(seed, count, bundle_line),
         ["runs", seed, count] => print_lines(seed, count, run_line),
         ["inputs", seed, count] => print_lines(seed, count, inputs_line),
+        ["ends", seed, count] => print_lines(seed, count, ends_line),
         ["examples", repository] => write_examples(Path::new(repository)),
         ["corpus", input, output] => write_corpus(Path::new(input), Path::new(output)),
         ["bench"] => bench(None),

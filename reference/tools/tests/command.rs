@@ -223,6 +223,7 @@ fn anything_else_prints_the_usage() {
         &["cases", "1"],
         &["cases", "x", "1"],
         &["ceilings", "1"],
+        &["ends", "1"],
         &["show", "--svg", "file"],
         &["examples"],
         &["corpus", "file"],

@@ -11,6 +11,7 @@ pub mod ceilings;
 pub mod damage;
 pub mod deep;
 pub mod each;
+pub mod ends;
 pub mod examples;
 pub mod ill_typed;
 pub mod inputs;

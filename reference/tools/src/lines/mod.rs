@@ -5,6 +5,7 @@
 pub mod bundles;
 pub mod cases;
 pub mod ceilings;
+pub mod ends;
 pub mod inputs;
 pub mod runs;
 
