@@ -17,6 +17,7 @@ use Rattle.syntax.specs.Kinds.{bindersAt}
 use Rattle.syntax.specs.Shaped.{count, Shaped}
 use Rattle.syntax.proofs.ByKind.{by-kind}
 use Rattle.typing.specs.Infer.{Context, infer}
+use Rattle.syntax.proofs.KnownParts.{known-arity}
 use Rattle.checker.specs.Nodes.{binderType, judge, nodeType}
 use Rattle.checker.proofs.TypeParts.{parts-are}
 use Rattle.checker.proofs.PartTypes.{inferParts}
@@ -30,7 +31,7 @@ module _ (tables : Tables) where
       >>= nodeType tables (node t .kind) (node t .number) (node t .type))
   unfolding infer nodeType judge inferParts bindersAt binderType count node Shaped
   infer-node (var n) Γ s h l = absurd (h refl)
-  infer-node (call k ts) Γ s h l = infer-call tables k ts Γ (s .1) l
+  infer-node (call k ts) Γ s h l = infer-call tables k ts Γ (known-arity (tables .calls) k (count ts) (s .1) .0) l
   infer-node (lam F b) Γ s h l =
       lam-law (components tables arrow F) (λ A. infer tables b (A ∷ Γ)) (infer tables b (leftOf (getD (tables .types) F 0) ∷ Γ)) F
       (λ A B e. ap (λ (x : ℕ). infer tables b (x ∷ Γ)) (parts-are tables arrow F A B e .0))

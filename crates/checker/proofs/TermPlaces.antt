@@ -1,7 +1,7 @@
 -- The places of the term: words that pass place 6 and are one part stand for a term; the answers for scope and type are those of 8 and 9.
 use mathlib.Core.Path.{_≡_, refl, sym, _∙_, ap, subst}
 use mathlib.Core.Bool.{Bool, true, false, not}
-use mathlib.Core.List.{List, [], append-nil}
+use mathlib.Core.List.{List, []}
 use mathlib.Core.Option.{Option, some, none}
 use Prim.Native.Nat.{ℕ}
 use lib.Dec.{T}
@@ -9,11 +9,10 @@ use lib.ListN.{length}
 use borrow.Author.Tests.{eqb-true, eq-eqb}
 use Rattle.syntax.specs.Tables.{Tables}
 use Rattle.syntax.specs.Term.{Term}
-use Rattle.syntax.specs.Encoding.{encode, size}
 use Rattle.syntax.specs.Decoding.{decode}
 use Rattle.syntax.specs.Parts.{partEnd}
-use Rattle.syntax.proofs.Parts.{part-end}
 use Rattle.syntax.proofs.Forests.{even-term}
+use Rattle.syntax.proofs.ForestParts.{term-even}
 use Rattle.words.specs.Fronts.{Holds, Starts}
 use Rattle.typing.specs.Infer.{infer}
 use Rattle.typing.specs.TermChecks.{wellFormedWords, scoped}
@@ -21,7 +20,7 @@ use Rattle.checker.specs.Places.{Types}
 use Rattle.checker.specs.Answers.{wholeOf, Scopes, Infers}
 use Rattle.checker.specs.declared.node_type.Inferred.{Inferred}
 use Rattle.checker.specs.declared.node_type.Inferred.the-variants.{Typed, Untyped}
-use Rattle.checker.proofs.DecodedTerm.{kinds-of, holds-decoded}
+use Rattle.checker.proofs.DecodedTerm.{holds-decoded}
 use Rattle.checker.proofs.Every.{told-true, told-false}
 use Rattle.checker.proofs.InferredTypes.{untyped-if, typed-if}
 
@@ -42,14 +41,6 @@ module _ (tables : Tables) (words : List ℕ) (formed : T (wellFormedWords table
   decoded : (t : Term) → decode (tables .calls) words ≡ some t → Decoded tables words
   decoded t d = record { term = t; is = d; holds = holds-decoded tables words formed t d }
 
-  ended : Decoded tables words → whole ≡ true
-  unfolding size
-  ended x =
-      let h = x .holds in
-      ap (λ (ws : List ℕ). wholeOf (partEnd (tables .calls) ws) (length words)) (h .is)
-      ∙ ap (λ (o : Option ℕ). wholeOf o (length words)) (part-end (tables .calls) (x .term) [] (h .shaped))
-      ∙ eq-eqb (length (encode (x .term))) (length words) (sym (ap length (h .is ∙ append-nil (encode (x .term)))))
-
   exact : (o : Option ℕ) → wholeOf o (length words) ≡ true → o ≡ some (length words)
   exact none p = absurd (subst T (sym p) tt)
   exact (some m) p = ap (λ (x : ℕ). some x) (eqb-true m (length words) p)
@@ -58,8 +49,7 @@ module _ (tables : Tables) (words : List ℕ) (formed : T (wellFormedWords table
   whole-decoded f = go (decode (tables .calls) words) refl
     where
       go : (o : Option Term) → decode (tables .calls) words ≡ o → Decoded tables words
-      go none d =
-          absurd (even-term (tables .calls) words (kinds-of tables words formed) (exact (partEnd (tables .calls) words) f) d)
+      go none d = absurd (even-term (tables .calls) words (exact (partEnd (tables .calls) words) f) d)
       go (some t) d = decoded t d
 
   pub not-whole : whole ≡ false → decode (tables .calls) words ≡ none
@@ -67,7 +57,10 @@ module _ (tables : Tables) (words : List ℕ) (formed : T (wellFormedWords table
     where
       go : (o : Option Term) → decode (tables .calls) words ≡ o → decode (tables .calls) words ≡ none
       go none d = d
-      go (some t) d = absurd (subst T (sym (ended (decoded t d)) ∙ f) tt)
+      go (some t) d =
+          let w : whole ≡ true = ap (λ (o : Option ℕ). wholeOf o (length words)) (term-even (tables .calls) words t d)
+          ∙ eq-eqb (length words) (length words) refl in
+          absurd (subst T (sym w ∙ f) tt)
 
 -- the places 8 and 9, from the answers b and r of the code
 module _ (tables : Tables) (words : List ℕ) (b : Bool) (s : Scopes (tables .calls) (length (tables .inputs)) words b) where

@@ -57,6 +57,6 @@ pub fn is_whole(calls: &[u64], term: &[u64]) -> bool
     let e = part_end(calls, term);
     match e {
         End::At(n) => n == term.len(),
-        End::Short => false,
+        End::Nowhere => false,
     }
 }

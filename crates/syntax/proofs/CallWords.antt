@@ -1,14 +1,13 @@
--- Call words: in 64 bits the number of arguments is the count's remainder by 8; in a table where no call acts, none does by its number, and
--- every number of arguments is a count.
+-- Call words: in 64 bits the number of arguments is the count's remainder by 8, and it is the count of a call that does not act. In a table
+-- where no call acts, none does by its number.
 use mathlib.Core.Path.{_≡_, refl, ap}
 use mathlib.Core.Bool.{Bool, true, false, not, cond}
 use mathlib.Core.List.{List}
 use lib.Dec.{T, leb, leb→le, nleb→lt}
-use lib.ListN.{getD}
 use Prim.Native.Nat.{ℕ, _-_, _%_, _^_, _≤_, _<_}
 use native.Mathlib.Omega.{arith}
 use Rattle.syntax.specs.Words.{countOf, actsOf, arityOf}
-use Rattle.syntax.specs.Tables.{arity, acts, someActs}
+use Rattle.syntax.specs.Tables.{acts, someActs}
 use Rattle.syntax.proofs.AnyMember.{each-fails}
 
 -- with no branch, as code may compute it
@@ -26,6 +25,3 @@ none-acts calls e k = each-fails actsOf 0 refl calls e k
 -- a call that does not act takes as many arguments as its count says
 pub arity-is-count : (w : ℕ) → actsOf w ≡ false → arityOf w ≡ countOf w
 arity-is-count w e = ap (λ (b : Bool). cond b (countOf w - 8) (countOf w)) e
-
-pub arities-are-counts : (calls : List ℕ) → someActs calls ≡ false → (k : ℕ) → arity calls k ≡ countOf (getD calls k 0)
-arities-are-counts calls e k = arity-is-count (getD calls k 0) (none-acts calls e k)

@@ -6,7 +6,7 @@ use Prim.Native.Nat.{ℕ, _+_, _^_, _<_}
 use native.Mathlib.Omega.{arith}
 use Rattle.syntax.specs.Maybe.{_>>=_}
 use Rattle.syntax.specs.Words.{pack, kindOf, numberOf, typeOf}
-use Rattle.syntax.specs.Tables.{arity}
+use Rattle.syntax.specs.Tables.{knownArity}
 use Rattle.syntax.specs.Term.{Term, Terms, var, call, lam, app, bind, pair, fst, snd, inl, inr, case, unit, done, arg, node}
 use Rattle.syntax.specs.Shaped.{count, Shaped, ShapedAll}
 use Rattle.syntax.specs.Encoding.{wordOf, encode, encodeAll}
@@ -69,7 +69,7 @@ module _ (calls : List ℕ) where
   unfolding graft builders node leaf
   graft-var n h ts = rw (kind-pack 0 n 0 h (omega arith), number-pack 0 n 0 h (omega arith))
 
-  graft-call : (k : ℕ) (us : Terms) → k < 2 ^ 30 → arity calls k ≡ count us → (ts : Terms)
+  graft-call : (k : ℕ) (us : Terms) → k < 2 ^ 30 → knownArity calls k ≡ some (count us) → (ts : Terms)
       → graft calls (wordOf (call k us)) (before us ts) ≡ some (arg (call k us) ts)
   unfolding graft builders node callBuilder
   graft-call k us h e ts = rw (kind-pack 1 k 0 h (omega arith), number-pack 1 k 0 h (omega arith), e, split-before us ts)

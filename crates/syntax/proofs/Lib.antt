@@ -3,8 +3,13 @@ pub mod Views
 pub mod ByKind
 pub mod Values
 pub mod Algebra
+pub mod KnownParts
 pub mod Decoding
 pub mod Forests
+pub mod ShapedForests
+pub mod ForestParts
+pub mod Ends
+pub mod FormerDecoding
 pub mod Parts
 pub mod Positions
 pub mod CallsIn

@@ -11,6 +11,7 @@ use Rattle.syntax.specs.Encoding.{wordOf, encode, encodeAll, size}
 use Rattle.syntax.specs.Parts.{partCount}
 use Rattle.syntax.proofs.Decoding.{kind-pack, number-pack, type-pack}
 use Rattle.syntax.specs.Shaped.{count, Shaped, ShapedAll}
+use Rattle.syntax.proofs.KnownParts.{known-arity}
 use Rattle.syntax.proofs.Parts.{kinded}
 
 -- a term's words are its node's word and its parts' words
@@ -41,7 +42,7 @@ module _ (calls : List ℕ) where
   unfolding Shaped node count
   shaped-node (var n) s = record { number = s; type = omega arith; parts = kinded calls 0 n 0 s (omega arith); shaped = tt }
   shaped-node (call k ts) s =
-      record { number = s .0; type = omega arith; parts = kinded calls 1 k 0 (s .0) (omega arith) ∙ s .1; shaped = s .2 }
+      record { number = s .0; type = omega arith; parts = kinded calls 1 k 0 (s .0) (omega arith) ∙ known-arity calls k (count ts) (s .1) .0; shaped = s .2 }
   shaped-node (lam A b) s =
       record { number = omega arith; type = s .0; parts = kinded calls 2 0 A (omega arith) (s .0); shaped = (s .1, tt) }
   shaped-node (app f a) s =

@@ -5,12 +5,14 @@ use mathlib.Core.Option.{Option, some, none, Option·map}
 use Prim.Native.Nat.{ℕ, suc, _+_, _^_, _<_}
 use native.Mathlib.Omega.{arith}
 use lib.ListN.{length, length-append}
+use Rattle.syntax.specs.Maybe.{_>>=_}
 use Rattle.syntax.specs.Words.{pack, numberOf}
 use Rattle.syntax.specs.Tables.{arity}
 use Rattle.syntax.specs.Term.{Term, Terms, var, call, lam, app, bind, pair, fst, snd, inl, inr, case, unit, done, arg, node}
 use Rattle.syntax.specs.Encoding.{encode, encodeAll, size}
 use Rattle.syntax.specs.Kinds.{partsOfKind}
-use Rattle.syntax.specs.Parts.{partCount, extent, partEnd}
+use Rattle.syntax.specs.Parts.{partCount, knownParts, extent, partEnd}
+use Rattle.syntax.proofs.KnownParts.{knownBy}
 use Rattle.syntax.proofs.Decoding.{kind-pack, number-pack}
 use Rattle.syntax.specs.Shaped.{count, Shaped, ShapedAll}
 
@@ -48,14 +50,20 @@ module _ (calls : List ℕ) where
       ∙ p (vs ++ rest) (k + n) ∙ ap (longer (length ws)) (q rest n) ∙ longer-twice (length ws) (length vs) _ (extent calls rest n)
       (sym (length-append ws vs))
 
-  under : (w : ℕ) (ws : List ℕ) (m : ℕ) → partCount calls w ≡ m → Holds ws m → Holds (w ∷ ws) 1
+  under : (w : ℕ) (ws : List ℕ) (m : ℕ) → knownParts calls w ≡ some m → Holds ws m → Holds (w ∷ ws) 1
   unfolding extent
   under w ws m e p rest n =
-      ap (λ (k : ℕ). extent calls (w ∷ (ws ++ rest)) k) (one-more n) ∙ ap (λ (k : ℕ). Option·map suc (extent calls (ws ++ rest) (k + n))) e
+      ap (λ (k : ℕ). extent calls (w ∷ (ws ++ rest)) k) (one-more n)
+      ∙ ap (λ (o : Option ℕ). o >>= λ k. Option·map suc (extent calls (ws ++ rest) (k + n))) e
       ∙ ap (Option·map suc) (p rest n) ∙ one-longer (length ws) (extent calls rest n)
     where
       one-more : (n : ℕ) → 1 + n ≡ suc n
       one-more n = omega arith
+
+  known : (k m n : ℕ) → m < 2 ^ 30 → n < 2 ^ 30 → knownParts calls (pack k m n) ≡ knownBy calls k m
+  unfolding knownParts
+  known k m n h j = ap (λ (x : ℕ). knownBy calls x (numberOf (pack k m n))) (kind-pack k m n h j)
+      ∙ ap (knownBy calls k) (number-pack k m n h j)
 
   pub kinded : (k m n : ℕ) → m < 2 ^ 30 → n < 2 ^ 30 → partCount calls (pack k m n) ≡ partsOfKind (arity calls m) k
   unfolding partCount
@@ -66,23 +74,23 @@ module _ (calls : List ℕ) where
     unfolding encode Shaped node count
 
     pub term-holds : (t : Term) → Shaped calls t → Holds (encode t) 1
-    term-holds (var n) s = under _ [] 0 (kinded 0 n 0 s (omega arith)) nothing
-    term-holds (call k ts) s = under _ (encodeAll ts) (count ts) (kinded 1 k 0 (s .0) (omega arith) ∙ s .1) (terms-hold ts (s .2))
-    term-holds (lam A b) s = under _ (encode b) 1 (kinded 2 0 A (omega arith) (s .0)) (term-holds b (s .1))
-    term-holds (app f a) s = under _ (encode f ++ encode a) 2 (kinded 3 0 0 (omega arith) (omega arith))
+    term-holds (var n) s = under _ [] 0 (known 0 n 0 s (omega arith)) nothing
+    term-holds (call k ts) s = under _ (encodeAll ts) (count ts) (known 1 k 0 (s .0) (omega arith) ∙ ap (λ (o : Option ℕ). o >>= λ a. some a) (s .1)) (terms-hold ts (s .2))
+    term-holds (lam A b) s = under _ (encode b) 1 (known 2 0 A (omega arith) (s .0)) (term-holds b (s .1))
+    term-holds (app f a) s = under _ (encode f ++ encode a) 2 (known 3 0 0 (omega arith) (omega arith))
         (row (encode f) (encode a) 1 1 (term-holds f (s .0)) (term-holds a (s .1)))
-    term-holds (bind e b) s = under _ (encode e ++ encode b) 2 (kinded 4 0 0 (omega arith) (omega arith))
+    term-holds (bind e b) s = under _ (encode e ++ encode b) 2 (known 4 0 0 (omega arith) (omega arith))
         (row (encode e) (encode b) 1 1 (term-holds e (s .0)) (term-holds b (s .1)))
-    term-holds (pair A a b) s = under _ (encode a ++ encode b) 2 (kinded 5 0 A (omega arith) (s .0))
+    term-holds (pair A a b) s = under _ (encode a ++ encode b) 2 (known 5 0 A (omega arith) (s .0))
         (row (encode a) (encode b) 1 1 (term-holds a (s .1)) (term-holds b (s .2)))
-    term-holds (fst a) s = under _ (encode a) 1 (kinded 6 0 0 (omega arith) (omega arith)) (term-holds a s)
-    term-holds (snd a) s = under _ (encode a) 1 (kinded 7 0 0 (omega arith) (omega arith)) (term-holds a s)
-    term-holds (inl A a) s = under _ (encode a) 1 (kinded 8 0 A (omega arith) (s .0)) (term-holds a (s .1))
-    term-holds (inr A a) s = under _ (encode a) 1 (kinded 9 0 A (omega arith) (s .0)) (term-holds a (s .1))
-    term-holds (case c l r) s = under _ (encode c ++ (encode l ++ encode r)) 3 (kinded 10 0 0 (omega arith) (omega arith))
+    term-holds (fst a) s = under _ (encode a) 1 (known 6 0 0 (omega arith) (omega arith)) (term-holds a s)
+    term-holds (snd a) s = under _ (encode a) 1 (known 7 0 0 (omega arith) (omega arith)) (term-holds a s)
+    term-holds (inl A a) s = under _ (encode a) 1 (known 8 0 A (omega arith) (s .0)) (term-holds a (s .1))
+    term-holds (inr A a) s = under _ (encode a) 1 (known 9 0 A (omega arith) (s .0)) (term-holds a (s .1))
+    term-holds (case c l r) s = under _ (encode c ++ (encode l ++ encode r)) 3 (known 10 0 0 (omega arith) (omega arith))
         (row (encode c) (encode l ++ encode r) 1 2 (term-holds c (s .0))
         (row (encode l) (encode r) 1 1 (term-holds l (s .1)) (term-holds r (s .2))))
-    term-holds (unit A) s = under _ [] 0 (kinded 11 0 A (omega arith) s) nothing
+    term-holds (unit A) s = under _ [] 0 (known 11 0 A (omega arith) s) nothing
 
     pub terms-hold : (ts : Terms) → ShapedAll calls ts → Holds (encodeAll ts) (count ts)
     terms-hold done s = nothing

@@ -1,21 +1,23 @@
 -- A typed term that is not too long can be held in words: its types and calls are in the tables, and its variables count binders or inputs.
 use mathlib.Core.Path.{_≡_, refl, sym, _∙_, ap, subst}
-use mathlib.Core.Bool.{Bool, _&&_}
+use mathlib.Core.Bool.{Bool}
 use mathlib.Core.List.{List, [], _∷_, _++_}
 use mathlib.Core.Option.{Option, some, none, Option·some-injective, Option·none-ne-some}
 use lib.Dec.{T, leb, ltb, eqb, leb→le, ltb→lt}
-use lib.ListN.{length, length-append, length-take, getElem?, getD, take, drop}
+use lib.ListN.{length, length-append, length-take, getElem?}
+use borrow.Author.Tests.{le-leb}
 use Prim.Native.Nat.{ℕ, zero, suc, _+_, _^_, _≤_, _<_, min}
 use native.Mathlib.Omega.{arith}
 use Rattle.syntax.specs.Maybe.{_>>=_, given}
 use Rattle.syntax.specs.Words.{arityOf, resultOf, argumentFields, kindOf, leftOf, rightOf}
-use Rattle.syntax.specs.Tables.{Tables, arity, Signature, signatureOf}
+use Rattle.syntax.specs.Tables.{Tables, knownArity, Signature, signatureOf}
 use Rattle.syntax.specs.Term.{Term, Terms}
 use Rattle.syntax.specs.Encoding.{encode, encodeAll, size}
 use Rattle.syntax.specs.Shaped.{count, Shaped, ShapedAll}
 use Rattle.typing.specs.Infer.{Context}
 use Rattle.typing.specs.TableChecks.{every, wellFormedCall, wellFormedCalls, lengthsFit}
 use Rattle.typing.proofs.LengthsFit.{lengths-of}
+use Rattle.typing.proofs.CallCounts.{call-passes}
 use Rattle.syntax.proofs.Options.{and-left, and-right}
 use Rattle.typing.proofs.Typing.{Of, Signed, at-below, Typed, TypedAll, t-var, t-call, t-lam, t-app, t-bind, t-pair, t-fst, t-snd}
 use Rattle.typing.proofs.Typing.{t-inl, t-inr, t-case, t-unit, t-done, t-arg}
@@ -51,26 +53,23 @@ module _ (tables : Tables) (fit : Fitting tables) (ok : ℕ → Type 0) where
   type-below : {k F A B : ℕ} → Of tables k F A B → F < 2 ^ 30
   type-below o = omega (arith, known-type tables o, fit .types)
 
-  arity-is : (calls : List ℕ) (k w : ℕ) → getElem? calls k ≡ some w → getD calls k 0 ≡ w
-  arity-is [] k w e = absurd (Option·none-ne-some w e)
-  arity-is (x ∷ xs) zero w e = Option·some-injective x w e
-  arity-is (x ∷ xs) (suc k) w e = arity-is xs k w e
-
   counts-typed : {Γ : Context} {ts : Terms} {As : List ℕ} → TypedAll tables ok Γ ts As → count ts ≡ length As
   unfolding count
   counts-typed t-done = refl
   counts-typed (t-arg x xs) = ap (λ (n : ℕ). suc n) (counts-typed xs)
 
   call-fits : {Γ : Context} {k : ℕ} {ts : Terms} {s : Signature} → Signed tables k s → TypedAll tables ok Γ ts (s .arguments) → (k < 2 ^ 30)
-      × (arity (tables .calls) k ≡ count ts)
+      × (knownArity (tables .calls) k ≡ some (count ts))
   call-fits {Γ} {k} {ts} {s} e xs =
       let w = bind-some (getElem? (tables .calls) k) (λ w. some (signatureOf w)) (e .is) in
       let j = fit .arities k (w .0) (w .1) in
       let d = Option·some-injective (signatureOf (w .0)) s (w .2) in (
         omega (arith, known-call tables e, fit .calls),
-        ap arityOf (arity-is (tables .calls) k (w .0) (w .1)) ∙ min-is (arityOf (w .0)) j
-            ∙ sym (length-take (arityOf (w .0)) (argumentFields (w .0))) ∙ ap (λ (s : Signature). length (s .arguments)) d
-            ∙ sym (counts-typed xs),
+        ap (λ (o : Option ℕ). o >>= λ w. given (leb (arityOf w) 3) (arityOf w)) (w .1)
+            ∙ ap (λ (b : Bool). given b (arityOf (w .0))) (le-leb (arityOf (w .0)) 3 j)
+            ∙ ap (λ (n : ℕ). some n)
+            (min-is (arityOf (w .0)) j ∙ sym (length-take (arityOf (w .0)) (argumentFields (w .0)))
+            ∙ ap (λ (s : Signature). length (s .arguments)) d ∙ sym (counts-typed xs)),
       )
     where
       min-is : (n : ℕ) → n ≤ 3 → n ≡ min n 3
@@ -110,16 +109,6 @@ entry-passes test [] h k w e = absurd (Option·none-ne-some w e)
 entry-passes test (x ∷ ws) h zero w e = subst (λ (y : ℕ). T (test y)) (Option·some-injective x w e) (and-left (test x) (every test ws) h)
 entry-passes test (x ∷ ws) h (suc k) w e = entry-passes test ws (and-right (test x) (every test ws) h) k w e
 
--- what check 4 asks of a call's number of arguments and its result
-call-passes : (types w : ℕ) → T (wellFormedCall types w) → (arityOf w ≤ 3) × (resultOf w < types)
-call-passes types w h =
-    let a = leb (arityOf w) 3 in
-    let b = ltb (resultOf w) types in
-    let c = every (λ A. ltb A types) (take (arityOf w) (argumentFields w)) in
-    let d = every (λ A. eqb A 0) (drop (arityOf w) (argumentFields w)) in
-    let x = and-left (a && b) c (and-left (a && b && c) d h) in
-    (leb→le (arityOf w) 3 (and-left a b x), ltb→lt (resultOf w) types (and-right a b x))
-
 -- checks 1 and 4 say that the tables fit
 pub fitting : (limit : ℕ) (tables : Tables) (words : List ℕ) → T (lengthsFit limit tables words) → T (wellFormedCalls tables)
     → Fitting tables
@@ -127,7 +116,9 @@ unfolding wellFormedCalls
 fitting limit tables words h k =
     let l = lengths-of limit tables words h in
     let passes : (j w : ℕ) → getElem? (tables .calls) j ≡ some w → (arityOf w ≤ 3) × (resultOf w < length (tables .types)) =
-    λ j w e. call-passes (length (tables .types)) w (entry-passes (wellFormedCall (length (tables .types))) (tables .calls) k j w e) in
+    λ j w e.
+    let c = call-passes (length (tables .types)) w (entry-passes (wellFormedCall (length (tables .types))) (tables .calls) k j w e) in
+    (leb→le (arityOf w) 3 (c .0), ltb→lt (resultOf w) (length (tables .types)) (c .1)) in
     record {
       types = l .types;
       calls = l .calls;

@@ -7,17 +7,17 @@ use mathlib.Core.List.{List, [], _∷_}
 use mathlib.Core.Logic.{_≢_}
 use mathlib.Core.Option.{some}
 use lib.Dec.{T, leb, ltb, eqb, leb→le}
-use lib.ListN.{length, take, drop, getD, getElem?}
+use lib.ListN.{length, take, drop, getElem?}
 use borrow.Author.Tests.{lt-leb}
 use Prim.Native.Nat.{ℕ, zero, suc, _≤_}
 use native.Mathlib.Omega.{arith}
 use Rattle.syntax.specs.Lists.{any}
-use Rattle.syntax.specs.Maybe.{_>>=_}
+use Rattle.syntax.specs.Maybe.{_>>=_, given}
 use Rattle.syntax.specs.Words.{countOf, actsOf, resultOf, argumentFields}
-use Rattle.syntax.specs.Tables.{Tables, Signature, signatureOf, signature, arity, someActs}
+use Rattle.syntax.specs.Tables.{Tables, Signature, signatureOf, signature, knownArity, someActs}
 use Rattle.syntax.proofs.Options.{and-left, and-right}
 use Rattle.syntax.proofs.AnyMember.{or-false-left, or-false-right}
-use Rattle.syntax.proofs.CallWords.{arity-is-count, arities-are-counts}
+use Rattle.syntax.proofs.CallWords.{arity-is-count}
 use Rattle.typing.specs.TableChecks.{every, lengthsFit, wellFormedTypes, distinct, wellFormedCall, wellFormedCalls}
 use Rattle.typing.specs.TermChecks.{wellFormedWord}
 use Rattle.typing.specs.Refusals.{Verdict, refused, accepted, TypedTerm, elaborate}
@@ -49,7 +49,7 @@ NoneActs tables = someActs (tables .calls) ≡ false
 
 -- what is read of a call word: how many arguments the call takes, and its signature
 pub record ReadAsBefore (tables : Tables) : Type 0 where
-  pub arities : (k : ℕ) → arity (tables .calls) k ≡ countOf (getD (tables .calls) k 0)
+  pub arities : (k : ℕ) → knownArity (tables .calls) k ≡ (getElem? (tables .calls) k >>= λ w. given (leb (countOf w) 3) (countOf w))
   pub signatures : (k : ℕ) → signature tables k ≡ (getElem? (tables .calls) k >>= λ w. some (formerSignatureOf w))
 
 signature-same : (calls : List ℕ) → someActs calls ≡ false → (k : ℕ)
@@ -60,9 +60,16 @@ signature-same (w ∷ ws) h zero = ap (λ (n : ℕ). some (record { arguments = 
     (arity-is-count w (or-false-left (actsOf w) (someActs ws) h))
 signature-same (w ∷ ws) h (suc k) = signature-same ws (or-false-right (actsOf w) (someActs ws) h) k
 
+arity-same : (calls : List ℕ) → someActs calls ≡ false → (k : ℕ)
+    → knownArity calls k ≡ (getElem? calls k >>= λ w. given (leb (countOf w) 3) (countOf w))
+unfolding any
+arity-same [] h k = refl
+arity-same (w ∷ ws) h zero = ap (λ (n : ℕ). given (leb n 3) n) (arity-is-count w (or-false-left (actsOf w) (someActs ws) h))
+arity-same (w ∷ ws) h (suc k) = arity-same ws (or-false-right (actsOf w) (someActs ws) h) k
+
 pub read-as-before : (tables : Tables) → NoneActs tables → ReadAsBefore tables
 read-as-before tables h = record {
-  arities = arities-are-counts (tables .calls) h;
+  arities = arity-same (tables .calls) h;
   signatures = signature-same (tables .calls) h;
 }
 

@@ -7,7 +7,7 @@ use borrow.Author.Tests.{le-leb, lt-leb}
 use Prim.Native.Nat.{ℕ, _-_, _≤_, _<_}
 use native.Mathlib.Omega.{arith}
 use Rattle.syntax.specs.Words.{countOf, arityOf, resultOf, argumentFields}
-use Rattle.syntax.proofs.Options.{and-left}
+use Rattle.syntax.proofs.Options.{and-left, and-right}
 use Rattle.typing.specs.TableChecks.{every, wellFormedCall}
 
 pub few-arguments : (w : ℕ) → leb (arityOf w) 3 ≡ (leb (countOf w) 3 || (leb 8 (countOf w) && leb (countOf w) 11))
@@ -25,11 +25,16 @@ few-arguments w = go (countOf w) (leb 8 (countOf w)) (leb→le 8 (countOf w)) (n
         last true = refl
         last false = refl
 
--- so a call word that passes has one of them
-pub count-passes : (types w : ℕ) → T (wellFormedCall types w) → T (leb (countOf w) 3 || (leb 8 (countOf w) && leb (countOf w) 11))
-count-passes types w h =
+-- a call word that passes has at most three arguments, and a known result type
+pub call-passes : (types w : ℕ) → T (wellFormedCall types w) → T (leb (arityOf w) 3) × T (ltb (resultOf w) types)
+call-passes types w h =
     let a = leb (arityOf w) 3 in
     let b = ltb (resultOf w) types in
     let c = every (λ A. ltb A types) (take (arityOf w) (argumentFields w)) in
     let d = every (λ A. eqb A 0) (drop (arityOf w) (argumentFields w)) in
-    subst T (few-arguments w) (and-left a b (and-left (a && b) c (and-left (a && b && c) d h)))
+    let x = and-left (a && b) c (and-left (a && b && c) d h) in
+    (and-left a b x, and-right a b x)
+
+-- so it has one of these counts
+pub count-passes : (types w : ℕ) → T (wellFormedCall types w) → T (leb (countOf w) 3 || (leb 8 (countOf w) && leb (countOf w) 11))
+count-passes types w h = subst T (few-arguments w) (call-passes types w h .0)

@@ -8,7 +8,7 @@ use lib.Dec.{T, ltb, eqb, eqb→eq}
 use lib.ListN.{length, getElem?}
 use Rattle.syntax.specs.Maybe.{_>>=_}
 use Rattle.syntax.specs.Words.{pack, kindOf, numberOf, typeOf}
-use Rattle.syntax.specs.Tables.{Tables, arity}
+use Rattle.syntax.specs.Tables.{Tables, knownArity}
 use Rattle.syntax.specs.Term.{Term, Terms, var, call, lam, app, bind, pair, fst, snd, inl, inr, case, unit, done, arg, node}
 use Rattle.syntax.specs.Encoding.{encode, encodeAll}
 use Rattle.syntax.specs.Decoding.{leaf, unary, binary, ternary, splitForest, callBuilder, builders, graft, decodeForest, single}
@@ -85,12 +85,17 @@ module _ (tables : Tables) where
   call-undone k w ts us (some p) (split {front = f} {rest = r} d) e h = ap encodeAll (sym (Option·some-injective _ us e))
       ∙ ap₂ {C = List ℕ} (λ x y. x ∷ y) h (sym d)
 
+  known-undone : (k w : ℕ) (ts us : Terms) (o : Option ℕ)
+      → (o >>= λ n. splitForest n ts >>= λ (front, rest). some (arg (call k front) rest)) ≡ some us → pack 1 k 0 ≡ w → Undone us ts w
+  known-undone k w ts us none e h = absurd (Option·none-ne-some us e)
+  known-undone k w ts us (some n) e h = call-undone k w ts us (splitForest n ts) (splits n ts) e h
+
   -- with the fields taken apart
   undone : (k n A : ℕ) → T (wellFormedFields tables k n A) → (ts us : Terms)
       → (getElem? (builders (tables .calls)) k >>= λ build. build n A ts) ≡ some us → Undone us ts (pack k n A)
   unfolding builders encode node callBuilder
   undone zero n A h ts us e = leaf-undone (λ n A. var n) n A _ ts us e (ap {B = List ℕ} (λ (x : ℕ). pack 0 n x ∷ []) (sym (zero-field A h)))
-  undone (suc zero) n A h ts us e = call-undone n _ ts us (splitForest (arity (tables .calls) n) ts) (splits _ ts) e
+  undone (suc zero) n A h ts us e = known-undone n _ ts us (knownArity (tables .calls) n) e
       (ap (λ (x : ℕ). pack 1 n x) (sym (zero-field A (and-right (ltb n (length (tables .calls))) (eqb A 0) h))))
   undone (suc (suc zero)) n A h ts us e = unary-undone (λ n A. lam A) n A _ ts us e
       (λ a. ap {B = List ℕ} (λ (x : ℕ). pack 2 x A ∷ encode a)

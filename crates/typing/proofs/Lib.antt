@@ -15,3 +15,4 @@ pub mod PlacesBy
 pub mod BeforeUnits
 pub mod RefusedBeforeUnits
 pub mod BeforeActing
+pub mod BeforeKnownArity

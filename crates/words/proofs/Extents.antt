@@ -1,5 +1,5 @@
 -- The number of words that parts take, word by word: what a loop with an owed count keeps.
-use mathlib.Core.Path.{_≡_, refl, _∙_, ap}
+use mathlib.Core.Path.{_≡_, refl, sym, _∙_, ap}
 use mathlib.Core.List.{List, [], _∷_}
 use mathlib.Core.Bool.{Bool, true, false, cond}
 use mathlib.Core.Option.{Option, some, none, Option·map}
@@ -8,11 +8,13 @@ use native.Mathlib.Omega.{arith}
 use native.Mathlib.Nat.{add-zero}
 use native.Mathlib.Numerals.{add-one}
 use lib.Dec.{leb}
-use lib.ListN.{length, getD, drop}
+use lib.ListN.{length, getD, drop, length-drop}
 use lib.Seq.{drop-cons, drop-length}
+use Rattle.syntax.specs.Maybe.{_>>=_}
 use Rattle.syntax.specs.Kinds.{partsOfKind}
-use Rattle.syntax.specs.Parts.{partCount, extent}
+use Rattle.syntax.specs.Parts.{knownParts, extent}
 use Rattle.syntax.proofs.Parts.{longer, no-longer}
+use Rattle.words.specs.Shapes.{owedFor}
 
 cond-le : (b : Bool) (x y n : ℕ) → x ≤ n → y ≤ n → cond b x y ≤ n
 cond-le true x y n h g = h
@@ -35,17 +37,36 @@ unfolding extent
 nothing-owed calls [] = refl
 nothing-owed calls (w ∷ ws) = refl
 
+-- each word pays for one part at most, so more parts than words have no end
+pub too-many : (calls ws : List ℕ) (owed : ℕ) → length ws < owed → extent calls ws owed ≡ none
+unfolding extent
+too-many calls [] zero h = absurd (omega arith)
+too-many calls [] (suc owed) h = refl
+too-many calls (w ∷ ws) zero h = absurd (omega arith)
+too-many calls (w ∷ ws) (suc owed) h = go (knownParts calls w) (λ a. too-many calls ws (a + owed) (omega arith))
+  where
+    go : (o : Option ℕ) → ((a : ℕ) → extent calls ws (a + owed) ≡ none) → (o >>= λ a. Option·map suc (extent calls ws (a + owed))) ≡ none
+    go none ih = refl
+    go (some a) ih = ap (Option·map suc) (ih a)
+
 module _ (calls t : List ℕ) where
-  -- one word read
-  pub extent-word : (owed i : ℕ) → 0 < owed → i < length t
-      → extent calls (drop i t) owed ≡ Option·map suc (extent calls (drop (i + 1) t) (owed - 1 + partCount calls (getD t i 0)))
+  -- one word read: where the number of its parts is not known, more are owed than words are left
+  extent-word : (owed i : ℕ) → 0 < owed → i < length t → length t ≤ 8192
+      → extent calls (drop i t) owed ≡ Option·map suc (extent calls (drop (i + 1) t) (owed - 1 + owedFor (knownParts calls (getD t i 0))))
   unfolding extent
-  extent-word zero i p h = absurd (omega arith)
-  extent-word (suc n) i p h = rw (add-one i, drop-cons t i 0 h)
-      (ap (λ (k : ℕ). Option·map suc (extent calls (drop (suc i) t) k)) (same (partCount calls (getD t i 0)) n))
+  extent-word zero i p h l = absurd (omega arith)
+  extent-word (suc n) i p h l = rw (add-one i, drop-cons t i 0 h) (go (drop (suc i) t) (knownParts calls (getD t i 0)) few)
     where
+      few : length (drop (suc i) t) < 8192
+      few = omega (arith, h, l, length-drop (suc i) t)
+
       same : (a n : ℕ) → a + n ≡ suc n - 1 + a
       same a n = omega arith
+
+      go : (ws : List ℕ) (o : Option ℕ) → length ws < 8192
+          → (o >>= λ a. Option·map suc (extent calls ws (a + n))) ≡ Option·map suc (extent calls ws (suc n - 1 + owedFor o))
+      go ws none f = sym (ap (Option·map suc) (too-many calls ws (suc n - 1 + 8192) (omega (arith, f))))
+      go ws (some a) f = ap (λ (k : ℕ). Option·map suc (extent calls ws k)) (same a n)
 
   module _ (n : ℕ) where
     -- what a loop over the words of n parts keeps: i words are read, and so many parts are owed from there on
@@ -55,9 +76,10 @@ module _ (calls t : List ℕ) where
     pub owing-start : Owing n 0
     owing-start = no-longer (extent calls t n)
 
-    pub owing-word : (owed i : ℕ) → 0 < owed → i < length t → Owing owed i → Owing (owed - 1 + partCount calls (getD t i 0)) (i + 1)
-    owing-word owed i p h e = e ∙ ap (longer i) (extent-word owed i p h)
-        ∙ longer-suc i (extent calls (drop (i + 1) t) (owed - 1 + partCount calls (getD t i 0)))
+    pub owing-word : (owed i : ℕ) → 0 < owed → i < length t → length t ≤ 8192 → Owing owed i
+        → Owing (owed - 1 + owedFor (knownParts calls (getD t i 0))) (i + 1)
+    owing-word owed i p h l e = e ∙ ap (longer i) (extent-word owed i p h l)
+        ∙ longer-suc i (extent calls (drop (i + 1) t) (owed - 1 + owedFor (knownParts calls (getD t i 0))))
 
     pub owing-short : (owed i : ℕ) → 0 < owed → i ≡ length t → Owing owed i → extent calls t n ≡ none
     unfolding extent

@@ -1,16 +1,20 @@
 -- A call's parts are in the calls' table, any other node's are decided by its kind, and a table of the kinds is right if it is at each.
 use mathlib.Core.Path.{_≡_, refl, sym, _∙_, ap}
-use mathlib.Core.Bool.{Bool, true, false, _&&_, _||_, not, true≢false}
+use mathlib.Core.Bool.{Bool, true, false, cond, _&&_, _||_, not, true≢false}
 use mathlib.Core.List.{List}
+use mathlib.Core.Option.{Option, some, none}
 use Prim.Native.Nat.{ℕ, zero, suc, _≤_, _<_}
 use native.Mathlib.Omega.{arith}
 use native.Mathlib.Decide.{ℕ-discrete}
-use borrow.Author.Tests.{le-leb, lt-leb, leb-true, leb-false, eqb-true}
+use borrow.Author.Tests.{eqb-true, ne-eqb}
 use lib.Dec.{leb, eqb}
+use Rattle.syntax.specs.Maybe.{_>>=_, given}
 use Rattle.syntax.specs.Words.{kindOf, numberOf}
-use Rattle.syntax.specs.Tables.{arity}
+use Rattle.syntax.specs.Tables.{arity, knownArity}
 use Rattle.syntax.specs.Kinds.{partsOfKind}
-use Rattle.syntax.specs.Parts.{partCount}
+use Rattle.syntax.specs.Parts.{partCount, knownParts}
+use Rattle.syntax.proofs.KnownParts.{parts-any, knownBy}
+use Rattle.words.specs.Shapes.{owedFor, owedByKind}
 use Rattle.words.proofs.Extents.{parts-le}
 
 pub of-call : (calls : List ℕ) (w k n r : ℕ) → k ≡ kindOf w → k ≡ 1 → n ≡ numberOf w → (r ≡ arity calls n) × (r ≤ 15)
@@ -20,20 +24,39 @@ unfolding partCount
 of-call calls w k n r e t f (p, l) =
     (p ∙ ap (arity calls) f ∙ ap (λ (x : ℕ). partsOfKind (arity calls (numberOf w)) x) (sym (sym e ∙ t)), l)
 
-same : (a k : ℕ) → (k ≡ 1 → ⊥) → partsOfKind 0 k ≡ partsOfKind a k
-same a k n = go (leb k 0) refl
-  where
-    go : (b : Bool) → leb k 0 ≡ b → partsOfKind 0 k ≡ partsOfKind a k
-    go Bool.true e = simp (le-leb k 0 (leb-true k 0 e))
-    go Bool.false e = simp (lt-leb k 0 (leb-false k 0 e), lt-leb k 1 (omega (arith, n, leb-false k 0 e)))
-
 pub of-kind : (calls : List ℕ) (w k r : ℕ) → k ≡ kindOf w → (k ≡ 1 → ⊥) → r ≡ partsOfKind 0 k → (r ≡ partCount calls w) × (r ≤ 15)
 unfolding partCount
 of-kind calls w k r e n p = (
-  p ∙ same (arity calls (numberOf w)) k n ∙ ap (λ (x : ℕ). partsOfKind (arity calls (numberOf w)) x) e,
+  p ∙ parts-any (arity calls (numberOf w)) k n ∙ ap (λ (x : ℕ). partsOfKind (arity calls (numberOf w)) x) e,
   omega
       (arith, p, parts-le 0 k (omega arith)),
 )
+
+-- what a word owes: a call by its number, any other word by its kind
+pub owed-by-call : (calls : List ℕ) (w k n r : ℕ) → k ≡ kindOf w → k ≡ 1 → n ≡ numberOf w → r ≡ owedFor (knownArity calls n)
+    → r ≡ owedFor (knownParts calls w)
+unfolding knownParts
+owed-by-call calls w k n r e t f p =
+    p ∙ ap (λ (m : ℕ). owedFor (knownArity calls m)) f ∙ ap owedFor (given-all (knownArity calls (numberOf w)))
+    ∙ ap (λ (j : ℕ). owedFor (knownBy calls j (numberOf w))) (sym (sym e ∙ t))
+  where
+    given-all : (o : Option ℕ) → o ≡ (o >>= λ a. some a)
+    given-all none = refl
+    given-all (some a) = refl
+
+pub owed-by-kind : (calls : List ℕ) (w k r : ℕ) → k ≡ kindOf w → (k ≡ 1 → ⊥) → r ≡ owedByKind k → r ≡ owedFor (knownParts calls w)
+unfolding knownParts
+owed-by-kind calls w k r e n p =
+    p ∙ ap (λ (b : Bool). owedFor (cond b (knownArity calls (numberOf w)) (some 0) >>= λ a. given (leb k 11) (partsOfKind a k)))
+    (sym (ne-eqb k 1 n))
+    ∙ ap (λ (j : ℕ). owedFor (knownBy calls j (numberOf w))) e
+
+pub owed-by-kind-few : (k : ℕ) → owedByKind k ≤ 8192
+owed-by-kind-few k = go (leb k 11)
+  where
+    go : (b : Bool) → owedFor (given b (partsOfKind 0 k)) ≤ 8192
+    go true = omega (arith, parts-le 0 k (omega arith))
+    go false = omega arith
 
 -- a test passes at every number below n
 abbrev pub passes : (ℕ → Bool) → ℕ → Bool

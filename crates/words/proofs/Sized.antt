@@ -16,7 +16,7 @@ use Rattle.syntax.proofs.Sizes.{sizeAll}
 use Rattle.words.specs.Fronts.{Holds, HoldsAll, StartsAll}
 use Rattle.words.specs.Ends.{endOf, SizedAll}
 use Rattle.words.specs.declared.ends.End.{End}
-use Rattle.words.specs.declared.ends.End.the-variants.{At, Short}
+use Rattle.words.specs.declared.ends.End.the-variants.{At, Nowhere}
 use Rattle.words.proofs.Traversal.{front-words, all-fit}
 use Rattle.words.proofs.Extents.{nothing-owed}
 
@@ -49,8 +49,8 @@ module _ (calls words : List ℕ) (m : ℕ) where
         let y : n ≡ sizeAll (s .terms) = cc in
         record { within = omega (arith, y, all-fit (s .holds)); told = λ ts rest h. let x = ended ts rest h in (cc) }
 
-    pub never-short : e ≡ Short → SizedAll calls words m n
-    never-short q =
+    pub never-nowhere : e ≡ Nowhere → SizedAll calls words m n
+    never-nowhere q =
         let x = ended (s .terms) (s .rest) (s .holds) in
         let z : _≡_ {A = ℕ} 0 1 = cc in
         absurd (omega arith)

@@ -8,10 +8,10 @@ use Rattle.syntax.specs.Term.{Term, Terms}
 use Rattle.syntax.specs.Encoding.{size, encodeAll}
 use Rattle.words.specs.Fronts.{Holds, HoldsAll}
 use Rattle.words.specs.declared.ends.End.{End}
-use Rattle.words.specs.declared.ends.End.the-variants.{At, Short}
+use Rattle.words.specs.declared.ends.End.the-variants.{At, Nowhere}
 
 abbrev pub endOf : Option ℕ → End
-endOf none = Short
+endOf none = Nowhere
 endOf (some n) = At n
 
 -- the term at the front has so many words

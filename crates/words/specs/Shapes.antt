@@ -3,8 +3,10 @@ use mathlib.Core.Path.{_≡_}
 use Prim.Native.Nat.{ℕ, _<_}
 use mathlib.Core.Bool.{cond, _||_}
 use mathlib.Core.List.{List}
-use lib.Dec.{eqb}
+use mathlib.Core.Option.{Option, some, none}
+use lib.Dec.{leb, eqb}
 use lib.ListN.{getD}
+use Rattle.syntax.specs.Maybe.{given}
 use Rattle.syntax.specs.Words.{argumentFields}
 use Rattle.syntax.specs.Kinds.{partsOfKind, usesNumber, usesType, bindsOf, freeOf}
 use Rattle.words.specs.declared.shape.Shape.{Shape}
@@ -25,6 +27,15 @@ pub record Shaping (k : ℕ) (s : Shape) : Type 0 where
 -- parts of any other node
 unfoldable pub operandCount : ℕ → ℕ → ℕ
 operandCount k n = cond (eqb k 2 || eqb k 4) 0 (cond (eqb k 10) 1 n)
+
+-- the parts that a word owes: as many as are known, or more than the words that are left, of at most 8,192
+abbrev pub owedFor : Option ℕ → ℕ
+owedFor none = 8192
+owedFor (some n) = n
+
+-- those of a word of a kind that is no call
+abbrev pub owedByKind : ℕ → ℕ
+owedByKind k = owedFor (given (leb k 11) (partsOfKind 0 k))
 
 -- how many parts a value's node of a kind has; 4 if it is a function, whose body is any term; 5 if the kind is no value's
 abbrev pub valueParts : ℕ → ℕ

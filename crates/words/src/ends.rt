@@ -1,4 +1,4 @@
-// Where a part ends.
+// Where a part ends: the one loop that finds it.
 ghost use mathlib.Core.Path.{_≡_};
 ghost use Prim.Native.Nat.{_≤_};
 ghost use lib.ListN.{length};
@@ -7,15 +7,15 @@ ghost use Rattle.words.specs.Ends.{endOf, Sized, SizedAll};
 ghost use Rattle.words.specs.Fronts.{Starts, StartsAll};
 use crate::fields::kind;
 use crate::fields::number;
-use crate::shape::arity;
+use crate::shape::known_arity;
 use crate::shape::part_counts;
 
 pub enum End {
     At(usize),
-    Short,
+    Nowhere,
 }
 
-// where the first n parts end, by a loop over words that keeps how many parts are still owed
+// where the first n parts end, by a loop over words that keeps how many parts are still owed. It ends when none is, or no word is left.
 fn parts_end(calls: &[u64], t: &[u64], n: usize) -> End
     requires { ⌜ (length (now t) ≤ 8192) × (n ≤ 8192) ⌝ }
     ensures { λ r. ⌜ r ≡ endOf (extent (now (calls .entry)) (now (t .entry)) n) ⌝ }
@@ -25,12 +25,12 @@ fn parts_end(calls: &[u64], t: &[u64], n: usize) -> End
     let mut i: usize = 0;
     while 0 < owed {
         if i == t.len() {
-            return End::Short;
+            return End::Nowhere;
         }
         let w = t[i];
         let k = kind(w);
         if k == 1 {
-            owed = owed - 1 + arity(calls, number(w));
+            owed = owed - 1 + known_arity(calls, number(w));
             i += 1;
         } else {
             owed = owed - 1 + counts[k as usize] as usize;
@@ -40,7 +40,7 @@ fn parts_end(calls: &[u64], t: &[u64], n: usize) -> End
     End::At(i)
 }
 
-// where the first part ends
+// where the part at the front ends, of any words; nowhere if no front of them is one term
 pub fn part_end(calls: &[u64], t: &[u64]) -> End
     requires { ⌜ length (now t) ≤ 8192 ⌝ }
     ensures { λ r. ⌜ r ≡ endOf (partEnd (now (calls .entry)) (now (t .entry))) ⌝ }
@@ -56,7 +56,7 @@ pub fn parts_size(calls: &[u64], t: &[u64], n: usize) -> usize
     let end = parts_end(calls, t, n);
     match end {
         End::At(size) => size,
-        End::Short => 0,
+        End::Nowhere => 0,
     }
 }
 

@@ -2,11 +2,11 @@
 ghost use mathlib.Core.Path.{_≡_};
 ghost use Prim.Native.Nat.{_≤_};
 ghost use lib.Dec.{eqb};
-ghost use Rattle.syntax.specs.Kinds.{bindersAt, bindsOf, partsOfKind};
-ghost use Rattle.syntax.specs.Tables.{arity as arityOf};
+ghost use Rattle.syntax.specs.Kinds.{bindersAt, bindsOf};
+ghost use Rattle.syntax.specs.Tables.{arity as arityOf, knownArity};
 ghost use Rattle.syntax.specs.Parts.{partCount};
 ghost use Rattle.syntax.specs.Values.{counts};
-ghost use Rattle.words.specs.Shapes.{Shaping, Tabled, valueParts, operandCount};
+ghost use Rattle.words.specs.Shapes.{Shaping, Tabled, owedFor, owedByKind, valueParts, operandCount};
 ghost use Rattle.words.specs.Reach.{outerCount};
 use crate::fields::arguments;
 use crate::fields::kind;
@@ -110,11 +110,31 @@ pub fn middle_binder(k: u64) -> u64
     0
 }
 
+// in the place of a number of parts that is not known: more than the words that are left, of at most 8,192
+pub const UNKNOWN: u16 = 8192;
+
 // how many parts a node of each kind has, a call's aside: for a loop over words, where a load is faster than the shift in `part_count`
-pub fn part_counts() -> [u8; 16]
-    ensures { λ r. ⌜ Tabled (partsOfKind 0) r ⌝ }
+pub fn part_counts() -> [u16; 16]
+    ensures { λ r. ⌜ Tabled owedByKind r ⌝ }
 {
-    [0, 0, 1, 2, 2, 2, 1, 1, 1, 1, 3, 0, 0, 0, 0, 0]
+    [
+        0,
+        0,
+        1,
+        2,
+        2,
+        2,
+        1,
+        1,
+        1,
+        1,
+        3,
+        0,
+        UNKNOWN,
+        UNKNOWN,
+        UNKNOWN,
+        UNKNOWN,
+    ]
 }
 
 // what the table of the value test says of a function
@@ -136,6 +156,21 @@ pub fn arity(calls: &[u64], n: u64) -> usize
         return arguments(calls[i]) as usize;
     }
     0
+}
+
+// the same where it is known: the call is in the table, and its count is well formed
+pub fn known_arity(calls: &[u64], n: u64) -> usize
+    ensures { λ r. ⌜ (r ≡ owedFor (knownArity (now (calls .entry)) n)) × (r ≤ 8192) ⌝ }
+{
+    let i = n as usize;
+    if i < calls.len() {
+        let a = arguments(calls[i]);
+        if a <= 3 {
+            return a as usize;
+        }
+        return UNKNOWN as usize;
+    }
+    UNKNOWN as usize
 }
 
 // how many parts a word's node has: a call's are in the calls' table, any other's in a number, a hexadecimal digit for each kind,

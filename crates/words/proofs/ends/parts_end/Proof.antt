@@ -1,15 +1,17 @@
--- Each word read pays for one part and owes its own: `Turn` says that what is left to read is what is owed. How many parts a word owes
--- is in the calls' table for a call (`owed-by-call`) and in the table of the kinds for any other (`owed-by-kind`).
+-- Each word read pays for one part and owes its own: `Turn` says that what is left to read is what is owed. What a word owes is in the calls'
+-- table for a call (`call-owes`) and in the table of the kinds for any other (`kind-owes`). Where it is not known, what is owed is more than
+-- the words that are left, so that these run out.
 use mathlib.Core.Path.{_≡_, sym, ap}
 use mathlib.Core.List.{List}
 use Prim.Native.Nat.{ℕ, _≤_, _<_, _+_, _-_, _*_}
 use native.Mathlib.Omega.{arith}
 use borrow.Author.Needs.{needs}
 use lib.ListN.{length, getD}
-use Rattle.syntax.specs.Parts.{partCount}
+use Rattle.syntax.specs.Parts.{knownParts}
 use Rattle.words.specs.Ends.{endOf}
+use Rattle.words.specs.Shapes.{owedFor}
 use Rattle.words.proofs.Extents.{Owing, owing-start, owing-word, owing-short, owing-done}
-use Rattle.words.proofs.PartCounts.{of-call, of-kind}
+use Rattle.words.proofs.PartCounts.{owed-by-call, owed-by-kind, owed-by-kind-few}
 use Rattle.words.proofs.ends.parts_end.Statement.{statement}
 use Rattle.words.proofs.ends.parts_end.Tie as tie
 
@@ -17,18 +19,19 @@ use Rattle.words.proofs.ends.parts_end.Tie as tie
 record Turn (calls t : List ℕ) (n owed i : ℕ) : Type 0 where
   small : (length t ≤ 8192) × (n ≤ 8192)
   within : i ≤ length t
-  few : owed ≤ 15 * i + n
+  few : owed ≤ 8192 * i + n
   owing : Owing calls t n owed i
 
-turn : (calls t : List ℕ) (n owed i r : ℕ) → Turn calls t n owed i → 0 < owed → (i ≡ length t → ⊥) → (r ≡ partCount calls (getD t i 0))
-    × (r ≤ 15) → Turn calls t n (owed - 1 + r) (i + 1)
+-- the turn after a word that owes r parts
+turn : (calls t : List ℕ) (n owed i r : ℕ) → Turn calls t n owed i → 0 < owed → (i ≡ length t → ⊥)
+    → (r ≡ owedFor (knownParts calls (getD t i 0))) × (r ≤ 8192) → Turn calls t n (owed - 1 + r) (i + 1)
 turn calls t n owed i r s p z (q, l) =
     let h : i < length t = omega (arith, z) in
-    record { small = s .small; within = omega arith; few = omega arith; owing = rw q (owing-word calls t n owed i p h (s .owing)) }
+    record { small = s .small; within = omega arith; few = omega arith; owing = rw q (owing-word calls t n owed i p h (s .small .0) (s .owing)) }
 
--- what is owed behind a word is far below a machine word's bound
-still-few : {calls t : List ℕ} {n owed i r : ℕ} → Turn calls t n owed i → r ≤ 15 → owed - 1 + r ≤ 140000
-still-few s l = omega (arith, s .small, s .within, s .few, l)
+-- what is owed is far below a machine word's bound
+few-owed : {calls t : List ℕ} {n owed i : ℕ} → Turn calls t n owed i → owed ≤ 67117056
+few-owed s = omega (arith, s .small, s .within, s .few)
 
 abbrev Inv-loop : tie.InvT-loop
 Inv-loop calls t n counts owed₀ i₀ owed i = Turn calls t n owed i
@@ -47,7 +50,7 @@ abbrev Word : Type 0
 Word = tie.After-kind Inv-loop μ-loop
 
 abbrev Call : Type 0
-Call = tie.After-arity Inv-loop μ-loop
+Call = tie.After-known-arity Inv-loop μ-loop
 
 abbrev Other : Type 0
 Other = tie.Else2 Inv-loop μ-loop
@@ -61,39 +64,46 @@ head c = c .before .before .before
 abbrev word : Call → Word
 word c = c .before .before .before
 
+-- what the word at a turn's start owes, and the turn after it
 abbrev Owes : Word → ℕ → Type 0
-Owes c r = let a = entry (head c) .args in (r ≡ partCount (a .calls .now) (getD (a .t .now) (head c .before .loop .i) 0)) × (r ≤ 15)
+Owes c r =
+    let a = entry (head c) .args in
+    (r ≡ owedFor (knownParts (a .calls .now) (getD (a .t .now) (head c .before .loop .i) 0))) × (r ≤ 8192)
 
--- the turn after a word that owes r parts
-onward : (c : Word) (r : ℕ) → Owes c r
-    → (let a = entry (head c) .args in let l = head c .before .loop in Turn (a .calls .now) (a .t .now) (a .n) (l .owed - 1 + r) (l .i + 1))
+abbrev Next : Word → ℕ → Type 0
+Next c r =
+    let a = entry (head c) .args in
+    let l = head c .before .loop in
+    Turn (a .calls .now) (a .t .now) (a .n) (l .owed - 1 + r) (l .i + 1)
+
+onward : (c : Word) (r : ℕ) → Owes c r → Next c r
 onward c r owes = turn _ _ _ _ _ r (head c .before .loop .inv) (head c .loop-test .taken) (c .before .before .if1 .left) owes
 
 small-kind : (c : Word) → c .kind .result < 16
 small-kind c = omega (arith, c .kind .ensures, c .before .shared-slice-known3 .given (head c .before .loop .i))
 
-owed-by-call : (c : Call) → Owes (word c) (c .arity .result)
-owed-by-call c = of-call _ _ _ _ _ (word c .kind .ensures) (c .before .before .if2 .taken) (c .before .number .ensures) (c .arity .ensures)
+call-owes : (c : Call) → Next (word c) (c .known-arity .result)
+call-owes c = onward (word c) _ (
+  owed-by-call _ _ _ _ _ (word c .kind .ensures) (search) (c .before .number .ensures) (c .known-arity .ensures .0),
+  c .known-arity .ensures .1,
+)
 
-owed-by-kind : (c : Other)
-    → Owes (c .before) (getD (head (c .before) .before .before .part-counts .result) (c .before .kind .result) 0)
-owed-by-kind c =
-    let table = head (c .before) .before .before .part-counts .ensures in
-    of-kind _ _ _ _ (c .before .kind .ensures) (c .if2 .left) (table .at-kind _ (small-kind (c .before)))
+abbrev counted : Other → ℕ
+counted c = getD (head (c .before) .before .before .part-counts .result) (c .before .kind .result) 0
 
--- what is owed then is far below a machine word's bound
-few-by-call : (c : Call) → head (word c) .before .loop .owed - 1 + c .arity .result ≤ 140000
-few-by-call c = still-few (head (word c) .before .loop .inv) (owed-by-call c .1)
+kind-owes : (c : Other) → Owes (c .before) (counted c)
+kind-owes c =
+    let table = head (c .before) .before .before .part-counts .ensures .at-kind (c .before .kind .result) (small-kind (c .before)) in
+    (owed-by-kind _ _ _ _ (c .before .kind .ensures) (c .if2 .left) table, omega (arith, table, owed-by-kind-few (c .before .kind .result)))
 
-few-by-kind : (c : Other) → head (c .before) .before .loop .owed - 1 + getD (head (c .before) .before .before .part-counts .result)
-    (c .before .kind .result) 0 ≤ 140000
-few-by-kind c = still-few (head (c .before) .before .loop .inv) (owed-by-kind c .1)
+kind-next : (c : Other) → Next (c .before) (counted c)
+kind-next c = onward (c .before) (counted c) (kind-owes c)
 
 begins : tie.Need-loop-holds Inv-loop μ-loop
 begins c = record { small = c .before .before .before .pre; within = omega arith; few = omega arith; owing = owing-start _ _ _ }
 
-short : tie.Need-returns Inv-loop μ-loop
-short c = sym (ap endOf (owing-short _ _ _ _ _ (c .before .loop-test .taken) (c .if1 .taken) (c .before .before .loop .inv .owing)))
+nowhere : tie.Need-returns Inv-loop μ-loop
+nowhere c = sym (ap endOf (owing-short _ _ _ _ _ (c .before .loop-test .taken) (c .if1 .taken) (c .before .before .loop .inv .owing)))
 
 whole : tie.Need-returns-2 Inv-loop μ-loop
 whole c = sym (ap endOf (owing-done _ _ _ _ _ (c .loop-test .left) (c .before .loop .inv .owing)))
@@ -106,22 +116,23 @@ parts-end-spec =
     μ-loop
     (λ c κs. search needs)
     begins
-    short
+    nowhere
     (λ c. search needs)
     (λ c. search needs)
     (λ c κs. search needs)
     (λ c. search needs)
     (λ c κs. search needs)
     (λ c κs. search needs)
-    (λ c. omega (arith, few-by-call (search)))
+    (λ c. omega (arith, few-owed (call-owes (search))))
     (λ c. search needs)
     (λ c. search needs)
-    (λ c. onward (search) _ (owed-by-call (search)))
+    (λ c. call-owes (search))
     (λ c. search needs)
+    (λ c. omega (arith, small-kind (search)))
     (λ c. small-kind (search))
-    (λ c. omega (arith, owed-by-kind (search)))
-    (λ c. omega (arith, few-by-kind (search)))
+    (λ c. omega (arith, kind-owes (search)))
+    (λ c. omega (arith, few-owed (kind-next (search))))
     (λ c. search needs)
     (λ c. search needs)
-    (λ c. onward (search) _ (owed-by-kind (search)))
+    (λ c. kind-next (search))
     whole)

@@ -2,7 +2,7 @@
 use borrow.Author.Needs.{needs}
 use native.Mathlib.Omega.{arith}
 use Rattle.words.proofs.Rows.{few-terms}
-use Rattle.words.proofs.Sized.{sized, never-short}
+use Rattle.words.proofs.Sized.{sized, never-nowhere}
 use Rattle.words.proofs.ends.parts_size.Statement.{statement}
 use Rattle.words.proofs.ends.parts_size.Tie as tie
 
@@ -16,4 +16,4 @@ parts-size-spec = tie.close (tie.spec parts-end-requires (λ c. search needs) (�
     sized _ _ _ _ (pre .0) (parts-end .ensures) (c .before .end .given .1)) (λ c.
     let pre = c .before .before .before .before .before .pre in
     let parts-end = c .before .before .parts-end in
-    never-short _ _ _ _ (pre .0) (parts-end .ensures) (c .enum-told .given .1)))
+    never-nowhere _ _ _ _ (pre .0) (parts-end .ensures) (c .enum-told .given .1)))

@@ -1,9 +1,9 @@
 -- The table is the definition at each kind.
 use mathlib.Core.Path.{refl}
-use Rattle.syntax.specs.Kinds.{partsOfKind}
+use Rattle.words.specs.Shapes.{owedByKind}
 use Rattle.words.proofs.PartCounts.{kinds-agree}
 use Rattle.words.proofs.shape.part_counts.Statement.{statement}
 use Rattle.words.proofs.shape.part_counts.Tie as tie
 
 pub part-counts-spec : {M : Type 1} → statement M
-part-counts-spec = tie.close (tie.spec (λ c. record { at-kind = kinds-agree _ (partsOfKind 0) refl }))
+part-counts-spec = tie.close (tie.spec (λ c. record { at-kind = kinds-agree _ owedByKind refl }))
