@@ -19,6 +19,7 @@ MAY_DROP, TABLE_CHECKS, OPERANDS = "reduction/specs/MayDrop", "typing/specs/Tabl
 A_HALF, B_HALF = "at a (λ x. pair A x b)", "at b (λ x. pair A a x)"
 MET = "leb (ofRule r ceilings) (ofRule r counts)"
 TOTAL = "abbrev total : ℕ → (ℕ → ℕ) → ℕ\ntotal zero f = 0\ntotal (suc n) f = f 0 + total n (λ i. f (suc i))\n\n"
+PART_ENDS = "syntax/specs/Parts"
 CAPACITY = "min (min (length (b .output)) (min (length (b .scratch₁)) (length (b .scratch₂)))) maxCapacity"
 
 # Name, the crate that refuses, edits (files, old, new). Laws of `reduction` state the rules twice more, as families; the first six mutants
@@ -115,6 +116,13 @@ MUTANTS = [
         ("syntax/specs/Words", "cond (actsOf w) (countOf w - 8) (countOf w)", "countOf w")]),
     ("a count of 4 or of 12", "typing", [(TABLE_CHECKS, "leb (arityOf w) 3", "leb (arityOf w) 4")]),
     ("a call acts if its count is 9 or more", "syntax", [("syntax/specs/Words", "leb 8 (countOf w)", "leb 9 (countOf w)")]),
+    ("a call past the table has no arguments", "syntax", [
+        ("syntax/specs/Tables", "  w ← getElem? calls k\n  given (leb (arityOf w) 3)", "  w ← some (getD calls k 0)\n  given (leb (arityOf w) 3)")]),
+    ("a malformed count is a number of arguments", "syntax", [
+        ("syntax/specs/Tables", "given (leb (arityOf w) 3) (arityOf w)", "given (leb (arityOf w) 7) (arityOf w)")]),
+    ("a word of an unknown kind has no parts", "syntax", [(PART_ENDS, "given (leb (kindOf w) 11)", "given (leb (kindOf w) 15)")]),
+    ("a word's parts are owed but not the word's own place paid", "syntax", [(PART_ENDS, "(n + owed)", "(n + suc owed)")]),
+    ("the words may run out with a part owed", "syntax", [(PART_ENDS, "extent calls [] (suc owed) = none", "extent calls [] (suc owed) = some zero")]),
 ]
 
 def refusal(edits):

@@ -14,7 +14,7 @@ use Rattle.syntax.specs.Maybe.{_>>=_}
 use Rattle.syntax.specs.Kinds.{partsOfKind}
 use Rattle.syntax.specs.Parts.{knownParts, extent}
 use Rattle.syntax.proofs.Parts.{longer, no-longer}
-use Rattle.words.specs.Shapes.{owedFor}
+use Rattle.words.specs.Shapes.{Owes}
 
 cond-le : (b : Bool) (x y n : ℕ) → x ≤ n → y ≤ n → cond b x y ≤ n
 cond-le true x y n h g = h
@@ -51,22 +51,19 @@ too-many calls (w ∷ ws) (suc owed) h = go (knownParts calls w) (λ a. too-many
 
 module _ (calls t : List ℕ) where
   -- one word read: where the number of its parts is not known, more are owed than words are left
-  extent-word : (owed i : ℕ) → 0 < owed → i < length t → length t ≤ 8192
-      → extent calls (drop i t) owed ≡ Option·map suc (extent calls (drop (i + 1) t) (owed - 1 + owedFor (knownParts calls (getD t i 0))))
+  extent-word : (owed i r : ℕ) → 0 < owed → i < length t → Owes (length t) (knownParts calls (getD t i 0)) r
+      → extent calls (drop i t) owed ≡ Option·map suc (extent calls (drop (i + 1) t) (owed - 1 + r))
   unfolding extent
-  extent-word zero i p h l = absurd (omega arith)
-  extent-word (suc n) i p h l = rw (add-one i, drop-cons t i 0 h) (go (drop (suc i) t) (knownParts calls (getD t i 0)) few)
+  extent-word zero i r p h q = absurd (omega arith)
+  extent-word (suc n) i r p h q = rw (add-one i, drop-cons t i 0 h) (go (drop (suc i) t) (knownParts calls (getD t i 0)) few q)
     where
-      few : length (drop (suc i) t) < 8192
-      few = omega (arith, h, l, length-drop (suc i) t)
+      few : length (drop (suc i) t) < length t
+      few = omega (arith, h, length-drop (suc i) t)
 
-      same : (a n : ℕ) → a + n ≡ suc n - 1 + a
-      same a n = omega arith
-
-      go : (ws : List ℕ) (o : Option ℕ) → length ws < 8192
-          → (o >>= λ a. Option·map suc (extent calls ws (a + n))) ≡ Option·map suc (extent calls ws (suc n - 1 + owedFor o))
-      go ws none f = sym (ap (Option·map suc) (too-many calls ws (suc n - 1 + 8192) (omega (arith, f))))
-      go ws (some a) f = ap (λ (k : ℕ). Option·map suc (extent calls ws k)) (same a n)
+      go : (ws : List ℕ) (o : Option ℕ) → length ws < length t → Owes (length t) o r
+          → (o >>= λ a. Option·map suc (extent calls ws (a + n))) ≡ Option·map suc (extent calls ws (suc n - 1 + r))
+      go ws none f q = sym (ap (Option·map suc) (too-many calls ws (suc n - 1 + r) (omega (arith, f, q))))
+      go ws (some a) f q = ap (λ (k : ℕ). Option·map suc (extent calls ws k)) (omega (arith, q))
 
   module _ (n : ℕ) where
     -- what a loop over the words of n parts keeps: i words are read, and so many parts are owed from there on
@@ -76,10 +73,10 @@ module _ (calls t : List ℕ) where
     pub owing-start : Owing n 0
     owing-start = no-longer (extent calls t n)
 
-    pub owing-word : (owed i : ℕ) → 0 < owed → i < length t → length t ≤ 8192 → Owing owed i
-        → Owing (owed - 1 + owedFor (knownParts calls (getD t i 0))) (i + 1)
-    owing-word owed i p h l e = e ∙ ap (longer i) (extent-word owed i p h l)
-        ∙ longer-suc i (extent calls (drop (i + 1) t) (owed - 1 + owedFor (knownParts calls (getD t i 0))))
+    pub owing-word : (owed i r : ℕ) → 0 < owed → i < length t → Owes (length t) (knownParts calls (getD t i 0)) r → Owing owed i
+        → Owing (owed - 1 + r) (i + 1)
+    owing-word owed i r p h q e = e ∙ ap (longer i) (extent-word owed i r p h q)
+        ∙ longer-suc i (extent calls (drop (i + 1) t) (owed - 1 + r))
 
     pub owing-short : (owed i : ℕ) → 0 < owed → i ≡ length t → Owing owed i → extent calls t n ≡ none
     unfolding extent

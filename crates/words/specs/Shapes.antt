@@ -1,6 +1,6 @@
 -- What a node's kind decides, as the code answers it, and a call word's argument types by place.
 use mathlib.Core.Path.{_≡_}
-use Prim.Native.Nat.{ℕ, _<_}
+use Prim.Native.Nat.{ℕ, _-_, _≤_, _<_}
 use mathlib.Core.Bool.{cond, _||_}
 use mathlib.Core.List.{List}
 use mathlib.Core.Option.{Option, some, none}
@@ -28,14 +28,22 @@ pub record Shaping (k : ℕ) (s : Shape) : Type 0 where
 unfoldable pub operandCount : ℕ → ℕ → ℕ
 operandCount k n = cond (eqb k 2 || eqb k 4) 0 (cond (eqb k 10) 1 n)
 
--- the parts that a word owes: as many as are known, or more than the words that are left, of at most 8,192
+-- the parts that a word owes: as many as are known, and where that is not known so many or more
+abbrev pub Owes : ℕ → Option ℕ → ℕ → Type 0
+Owes many none r = many ≤ r
+Owes many (some n) r = r ≡ n
+
+-- in a table 8,192 stands for a number that is not known
 abbrev pub owedFor : Option ℕ → ℕ
 owedFor none = 8192
 owedFor (some n) = n
 
--- those of a word of a kind that is no call
+-- of a word of a kind that is no call, and of a call whose word has a count
 abbrev pub owedByKind : ℕ → ℕ
 owedByKind k = owedFor (given (leb k 11) (partsOfKind 0 k))
+
+abbrev pub owedByCount : ℕ → ℕ
+owedByCount c = let a = cond (leb 8 c) (c - 8) c in owedFor (given (leb a 3) a)
 
 -- how many parts a value's node of a kind has; 4 if it is a function, whose body is any term; 5 if the kind is no value's
 abbrev pub valueParts : ℕ → ℕ

@@ -7,6 +7,7 @@ ghost use Rattle.words.specs.Ends.{endOf, Sized, SizedAll};
 ghost use Rattle.words.specs.Fronts.{Starts, StartsAll};
 use crate::fields::kind;
 use crate::fields::number;
+use crate::shape::argument_counts;
 use crate::shape::known_arity;
 use crate::shape::part_counts;
 
@@ -15,22 +16,25 @@ pub enum End {
     Nowhere,
 }
 
-// where the first n parts end, by a loop over words that keeps how many parts are still owed. It ends when none is, or no word is left.
+// where the first n parts end, by a loop over words that keeps how many parts are still owed. It ends when none is, or no word is left; a
+// word whose number of parts is not known owes more than the words behind it.
 fn parts_end(calls: &[u64], t: &[u64], n: usize) -> End
     requires { ⌜ (length (now t) ≤ 8192) × (n ≤ 8192) ⌝ }
     ensures { λ r. ⌜ r ≡ endOf (extent (now (calls .entry)) (now (t .entry)) n) ⌝ }
 {
     let counts = part_counts();
+    let arities = argument_counts();
+    let words = t.len();
     let mut owed = n;
     let mut i: usize = 0;
     while 0 < owed {
-        if i == t.len() {
+        if i == words {
             return End::Nowhere;
         }
         let w = t[i];
         let k = kind(w);
         if k == 1 {
-            owed = owed - 1 + known_arity(calls, number(w));
+            owed = owed - 1 + known_arity(calls, &arities, number(w), words);
             i += 1;
         } else {
             owed = owed - 1 + counts[k as usize] as usize;

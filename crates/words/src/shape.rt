@@ -6,9 +6,10 @@ ghost use Rattle.syntax.specs.Kinds.{bindersAt, bindsOf};
 ghost use Rattle.syntax.specs.Tables.{arity as arityOf, knownArity};
 ghost use Rattle.syntax.specs.Parts.{partCount};
 ghost use Rattle.syntax.specs.Values.{counts};
-ghost use Rattle.words.specs.Shapes.{Shaping, Tabled, owedFor, owedByKind, valueParts, operandCount};
+ghost use Rattle.words.specs.Shapes.{Shaping, Tabled, Owes, owedByKind, owedByCount, valueParts, operandCount};
 ghost use Rattle.words.specs.Reach.{outerCount};
 use crate::fields::arguments;
+use crate::fields::count;
 use crate::fields::kind;
 use crate::fields::number;
 
@@ -110,31 +111,21 @@ pub fn middle_binder(k: u64) -> u64
     0
 }
 
-// in the place of a number of parts that is not known: more than the words that are left, of at most 8,192
-pub const UNKNOWN: u16 = 8192;
+// stands in a table for a number of parts that is not known: as many as there are words at most
+pub const NA: u16 = 8192;
 
 // how many parts a node of each kind has, a call's aside: for a loop over words, where a load is faster than the shift in `part_count`
 pub fn part_counts() -> [u16; 16]
     ensures { λ r. ⌜ Tabled owedByKind r ⌝ }
 {
-    [
-        0,
-        0,
-        1,
-        2,
-        2,
-        2,
-        1,
-        1,
-        1,
-        1,
-        3,
-        0,
-        UNKNOWN,
-        UNKNOWN,
-        UNKNOWN,
-        UNKNOWN,
-    ]
+    [0, 0, 1, 2, 2, 2, 1, 1, 1, 1, 3, 0, NA, NA, NA, NA]
+}
+
+// how many arguments a call takes, by the count of its word: for the same loop
+pub fn argument_counts() -> [u16; 16]
+    ensures { λ r. ⌜ Tabled owedByCount r ⌝ }
+{
+    [0, 1, 2, 3, NA, NA, NA, NA, 0, 1, 2, 3, NA, NA, NA, NA]
 }
 
 // what the table of the value test says of a function
@@ -158,19 +149,16 @@ pub fn arity(calls: &[u64], n: u64) -> usize
     0
 }
 
-// the same where it is known: the call is in the table, and its count is well formed
-pub fn known_arity(calls: &[u64], n: u64) -> usize
-    ensures { λ r. ⌜ (r ≡ owedFor (knownArity (now (calls .entry)) n)) × (r ≤ 8192) ⌝ }
+// the same where it is known, and else `many` or more: past the table, and where the count is malformed. `arities` is `argument_counts()`.
+pub fn known_arity(calls: &[u64], arities: &[u16; 16], n: u64, many: usize) -> usize
+    requires { ⌜ Tabled owedByCount (now arities) × (many ≤ 8192) ⌝ }
+    ensures { λ r. ⌜ Owes many (knownArity (now (calls .entry)) n) r × (r ≤ 8192) ⌝ }
 {
     let i = n as usize;
     if i < calls.len() {
-        let a = arguments(calls[i]);
-        if a <= 3 {
-            return a as usize;
-        }
-        return UNKNOWN as usize;
+        return arities[count(calls[i]) as usize] as usize;
     }
-    UNKNOWN as usize
+    many
 }
 
 // how many parts a word's node has: a call's are in the calls' table, any other's in a number, a hexadecimal digit for each kind,

@@ -43,7 +43,7 @@ const USAGE: &str = "usage: reference SUBCOMMAND
   definitions REPOSITORY DIR SEED COUNT
                       the definitions of REPOSITORY/crates checked against such lines by rt, in a
                       repository written into DIR: COUNT cases, a fifth as many bundles, a quarter
-                      as many runs, a fifth as many of inputs
+                      as many runs, a fifth as many of inputs, half as many of ceilings and of ends
   examples REPOSITORY the examples written into REPOSITORY/examples and REPOSITORY/docs/pictures
   corpus STDIN STDOUT the records of a test program, and what it writes
   bench [--plot FILE] times on the named shapes as a table, and as an SVG plot (release build)

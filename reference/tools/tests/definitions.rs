@@ -5,6 +5,7 @@ use std::{env, fs, process};
 use tools::definitions::bundles;
 use tools::definitions::cases;
 use tools::definitions::ceilings;
+use tools::definitions::ends;
 use tools::definitions::inputs;
 use tools::definitions::opened::unfoldable_names;
 use tools::definitions::repository::write_repository;
@@ -33,13 +34,14 @@ fn a_repository_is_written_into_an_empty_folder_outside() {
     assert!(figures.contains("runs: 15 rows; "));
     assert!(figures.contains("inputs: 12 rows; "));
     assert!(figures.contains("ceilings: 30 rows; "));
+    assert!(figures.contains("ends: 30 rows; "));
     assert!(figures.contains("a unit is in ") && !figures.contains("a unit is in 0 "));
 
     let crosscheck = folder.join("crates/crosscheck");
     let text = |name: &str| fs::read_to_string(crosscheck.join(name)).expect("a module");
     assert_eq!(
         text("proofs/Lib.antt"),
-        "pub mod Cases1\npub mod Cases2\npub mod Bundles1\npub mod Runs1\npub mod Inputs1\npub mod Ceilings1\n"
+        "pub mod Cases1\npub mod Cases2\npub mod Bundles1\npub mod Runs1\npub mod Inputs1\npub mod Ceilings1\npub mod Ends1\n"
     );
     assert_eq!(text("proofs/Cases1.antt").matches("record {").count(), 50);
     assert_eq!(text("proofs/Cases2.antt").matches("record {").count(), 10);
@@ -113,6 +115,9 @@ fn a_row_has_what_the_line_says() {
     ] {
         assert!(row.contains(field), "{field}");
     }
+    let row = ends::row("0 1;2 3 4;2");
+    assert!(row.contains("calls = 0 ∷ 1 ∷ [];") && row.contains("words = 2 ∷ 3 ∷ 4 ∷ [];"));
+    assert!(row.contains("end = some 2;") && ends::row(";;-").contains("end = none;"));
     let row = runs::row("0;0 9223372036854775808;0;0;n 1 p l n 2 r n 3;n 4;1:|0:n 5,n 6");
     for field in [
         "values = (also (num 1) (also (tuple (left (num 2)) (right (num 3))) empty));",

@@ -47,6 +47,22 @@ fn refusal_written(output: &str) -> &str {
     }
 }
 
+/// Of lines of `ends`: how many have an end, and how many words there are.
+pub fn ends_figures(lines: &[String]) -> String {
+    let fields: Vec<Vec<&str>> = lines.iter().map(|line| line.split(';').collect()).collect();
+    let ended = fields.iter().filter(|fields| fields[2] != "-");
+    let behind = ended.clone().filter(|fields| {
+        let words = fields[1].split_whitespace().count();
+        fields[2].parse() != Ok(words)
+    });
+    format!(
+        "ends: {} rows; {} have an end, {} of these with words behind it\n",
+        lines.len(),
+        ended.clone().count(),
+        behind.count()
+    )
+}
+
 /// Of lines of `runs`: calls made.
 pub fn run_figures(lines: &[String]) -> String {
     let calls: Vec<usize> = lines.iter().map(|line| line.matches(':').count()).collect();

@@ -3,14 +3,15 @@
 use super::copy::{copy_folder, make_empty_folder_outside};
 use super::crosscheck::write_crosscheck;
 use super::figures::{
-    acting_figures, bundle_figures, case_figures, ceilings_figures, inputs_figures, run_figures,
-    unit_figures,
+    acting_figures, bundle_figures, case_figures, ceilings_figures, ends_figures, inputs_figures,
+    run_figures, unit_figures,
 };
 use super::opened::opened_definitions;
-use super::{bundles, cases, ceilings, inputs, runs};
+use super::{bundles, cases, ceilings, ends, inputs, runs};
 use crate::lines::bundles::bundle_line;
 use crate::lines::cases::case_line;
 use crate::lines::ceilings::ceilings_line;
+use crate::lines::ends::ends_line;
 use crate::lines::inputs::inputs_line;
 use crate::lines::runs::run_line;
 use crate::lines::{lines, Line};
@@ -33,6 +34,7 @@ pub fn write_repository(
     let runs = lines_of(run_line, seed, count.div_ceil(4));
     let inputs = lines_of(inputs_line, seed, count.div_ceil(5));
     let ceilings = lines_of(ceilings_line, seed, count.div_ceil(2));
+    let ends = lines_of(ends_line, seed, count.div_ceil(2));
 
     make_empty_folder_outside(folder, repository)?;
     let crates = folder.join("crates");
@@ -50,6 +52,7 @@ pub fn write_repository(
         runs::table(&runs),
         inputs::table(&inputs),
         ceilings::table(&ceilings),
+        ends::table(&ends),
     ];
     write_crosscheck(&crates.join("crosscheck"), &opened, seed, &tables)?;
 
@@ -59,6 +62,7 @@ pub fn write_repository(
         run_figures(&runs),
         inputs_figures(&inputs),
         ceilings_figures(&ceilings),
+        ends_figures(&ends),
         acting_figures(&cases, &runs, &inputs),
         unit_figures(&cases, &runs, &inputs),
     ]

@@ -9,9 +9,9 @@ use borrow.Author.Needs.{needs}
 use lib.ListN.{length, getD}
 use Rattle.syntax.specs.Parts.{knownParts}
 use Rattle.words.specs.Ends.{endOf}
-use Rattle.words.specs.Shapes.{owedFor}
+use Rattle.words.specs.Shapes.{Owes as OwesParts}
 use Rattle.words.proofs.Extents.{Owing, owing-start, owing-word, owing-short, owing-done}
-use Rattle.words.proofs.PartCounts.{owed-by-call, owed-by-kind, owed-by-kind-few}
+use Rattle.words.proofs.PartCounts.{owed-by-call, owed-by-kind}
 use Rattle.words.proofs.ends.parts_end.Statement.{statement}
 use Rattle.words.proofs.ends.parts_end.Tie as tie
 
@@ -23,25 +23,32 @@ record Turn (calls t : List ℕ) (n owed i : ℕ) : Type 0 where
   owing : Owing calls t n owed i
 
 -- the turn after a word that owes r parts
-turn : (calls t : List ℕ) (n owed i r : ℕ) → Turn calls t n owed i → 0 < owed → (i ≡ length t → ⊥)
-    → (r ≡ owedFor (knownParts calls (getD t i 0))) × (r ≤ 8192) → Turn calls t n (owed - 1 + r) (i + 1)
-turn calls t n owed i r s p z (q, l) =
-    let h : i < length t = omega (arith, z) in
-    record { small = s .small; within = omega arith; few = omega arith; owing = rw q (owing-word calls t n owed i p h (s .small .0) (s .owing)) }
+turn : (calls t : List ℕ) (n owed i r : ℕ) → Turn calls t n owed i → 0 < owed → i < length t
+    → OwesParts (length t) (knownParts calls (getD t i 0)) r × (r ≤ 8192) → Turn calls t n (owed - 1 + r) (i + 1)
+turn calls t n owed i r s p h (q, l) = record {
+  small = s .small;
+  within = omega arith;
+  few = omega arith;
+  owing = owing-word calls t n owed i r p h q (s .owing);
+}
 
 -- what is owed is far below a machine word's bound
 few-owed : {calls t : List ℕ} {n owed i : ℕ} → Turn calls t n owed i → owed ≤ 67117056
 few-owed s = omega (arith, s .small, s .within, s .few)
 
 abbrev Inv-loop : tie.InvT-loop
-Inv-loop calls t n counts owed₀ i₀ owed i = Turn calls t n owed i
+Inv-loop calls t n counts arities words owed₀ i₀ owed i = Turn calls t n owed i
 
 abbrev μ-loop : tie.MeasureT-loop
-μ-loop calls t n counts owed₀ i₀ owed i = length t - i
+μ-loop calls t n counts arities words owed₀ i₀ owed i = length t - i
 
--- the places: the entry, a turn's start, where the word's kind is known, and behind that a call's and any other word's
+-- the places: the entry, where both tables are made, a turn's start, where the word's kind is known, and behind that a call's and
+-- any other word's
 abbrev Entry : Type 0
 Entry = tie.Start Inv-loop μ-loop
+
+abbrev Tables : Type 0
+Tables = tie.After-argument-counts Inv-loop μ-loop
 
 abbrev Head : Type 0
 Head = tie.In-loop Inv-loop μ-loop
@@ -55,20 +62,26 @@ Call = tie.After-known-arity Inv-loop μ-loop
 abbrev Other : Type 0
 Other = tie.Else2 Inv-loop μ-loop
 
+abbrev start : Tables → Entry
+start c = c .before .before .before .before
+
+abbrev tables : Head → Tables
+tables c = c .before .before
+
 abbrev entry : Head → Entry
-entry c = c .before .before .before .before .before
+entry c = start (tables c)
 
 abbrev head : Word → Head
 head c = c .before .before .before
 
 abbrev word : Call → Word
-word c = c .before .before .before
+word c = c .before .before .before .before
 
 -- what the word at a turn's start owes, and the turn after it
 abbrev Owes : Word → ℕ → Type 0
 Owes c r =
     let a = entry (head c) .args in
-    (r ≡ owedFor (knownParts (a .calls .now) (getD (a .t .now) (head c .before .loop .i) 0))) × (r ≤ 8192)
+    OwesParts (length (a .t .now)) (knownParts (a .calls .now) (getD (a .t .now) (head c .before .loop .i) 0)) r × (r ≤ 8192)
 
 abbrev Next : Word → ℕ → Type 0
 Next c r =
@@ -76,37 +89,48 @@ Next c r =
     let l = head c .before .loop in
     Turn (a .calls .now) (a .t .now) (a .n) (l .owed - 1 + r) (l .i + 1)
 
+inside : (c : Word) → head c .before .loop .i < length (entry (head c) .args .t .now)
+inside c = omega (arith, c .before .before .if1 .left, head c .before .loop .inv .within)
+
 onward : (c : Word) (r : ℕ) → Owes c r → Next c r
-onward c r owes = turn _ _ _ _ _ r (head c .before .loop .inv) (head c .loop-test .taken) (c .before .before .if1 .left) owes
+onward c r owes = turn _ _ _ _ _ r (head c .before .loop .inv) (omega (arith, head c .loop-test .taken)) (inside c) owes
 
 small-kind : (c : Word) → c .kind .result < 16
 small-kind c = omega (arith, c .kind .ensures, c .before .shared-slice-known3 .given (head c .before .loop .i))
 
 call-owes : (c : Call) → Next (word c) (c .known-arity .result)
 call-owes c = onward (word c) _ (
-  owed-by-call _ _ _ _ _ (word c .kind .ensures) (search) (c .before .number .ensures) (c .known-arity .ensures .0),
+  owed-by-call _ _ _ _ _ _ (word c .kind .ensures) (search) (c .before .number .ensures) (c .known-arity .ensures .0),
   c .known-arity .ensures .1,
 )
 
 abbrev counted : Other → ℕ
-counted c = getD (head (c .before) .before .before .part-counts .result) (c .before .kind .result) 0
+counted c = getD (tables (head (c .before)) .before .part-counts .result) (c .before .kind .result) 0
 
 kind-owes : (c : Other) → Owes (c .before) (counted c)
 kind-owes c =
-    let table = head (c .before) .before .before .part-counts .ensures .at-kind (c .before .kind .result) (small-kind (c .before)) in
-    (owed-by-kind _ _ _ _ (c .before .kind .ensures) (c .if2 .left) table, omega (arith, table, owed-by-kind-few (c .before .kind .result)))
+    let counts = tables (head (c .before)) .before .part-counts .ensures .at-kind (c .before .kind .result) (small-kind (c .before)) in
+    owed-by-kind _ _ _ _ _ (c .before .kind .ensures) (c .if2 .left) counts (head (c .before) .before .loop .inv .small .0)
 
 kind-next : (c : Other) → Next (c .before) (counted c)
 kind-next c = onward (c .before) (counted c) (kind-owes c)
 
 begins : tie.Need-loop-holds Inv-loop μ-loop
-begins c = record { small = c .before .before .before .pre; within = omega arith; few = omega arith; owing = owing-start _ _ _ }
+begins c = record { small = start c .pre; within = omega arith; few = omega arith; owing = owing-start _ _ _ }
 
 nowhere : tie.Need-returns Inv-loop μ-loop
-nowhere c = sym (ap endOf (owing-short _ _ _ _ _ (c .before .loop-test .taken) (c .if1 .taken) (c .before .before .loop .inv .owing)))
+nowhere c =
+    let a = entry (c .before) .args in
+    let l = c .before .before .loop in
+    let p : 0 < l .owed = omega (arith, c .before .loop-test .taken) in
+    let e : l .i ≡ length (a .t .now) = omega (arith, c .if1 .taken, l .inv .within) in
+    sym (ap endOf (owing-short _ _ _ _ _ p e (l .inv .owing)))
 
 whole : tie.Need-returns-2 Inv-loop μ-loop
-whole c = sym (ap endOf (owing-done _ _ _ _ _ (c .loop-test .left) (c .before .loop .inv .owing)))
+whole c =
+    let l = c .before .loop in
+    let z : l .owed ≤ 0 = omega (arith, c .loop-test .left) in
+    sym (ap endOf (owing-done _ _ _ _ _ z (l .inv .owing)))
 
 pub parts-end-spec : {M : Type 1} → statement M
 parts-end-spec =
@@ -114,6 +138,7 @@ parts-end-spec =
     (tie.spec
     Inv-loop
     μ-loop
+    (λ c κs. search needs)
     (λ c κs. search needs)
     begins
     nowhere
