@@ -1,6 +1,6 @@
--- Each word read pays for one part and owes its own: `Turn` says that what is left to read is what is owed. What a word owes is in the calls'
--- table for a call (`call-owes`) and in the table of the kinds for any other (`kind-owes`). Where it is not known, what is owed is more than
--- the words that are left, so that these run out.
+-- Each word read pays for one part and owes its own: `Turn` says that what is left to read is what is owed. What a word owes is in the
+-- table of the counts for a call (`call-owes`), in the table of the kinds for any other (`kind-owes`). Where it is not known, more is owed
+-- than the words that are left, so these run out.
 use mathlib.Core.Path.{_≡_, sym, ap}
 use mathlib.Core.List.{List}
 use Prim.Native.Nat.{ℕ, _≤_, _<_, _+_, _-_, _*_}
@@ -50,6 +50,9 @@ Entry = tie.Start Inv-loop μ-loop
 abbrev Tables : Type 0
 Tables = tie.After-argument-counts Inv-loop μ-loop
 
+abbrev Turning : Type 0
+Turning = tie.At-loop Inv-loop μ-loop
+
 abbrev Head : Type 0
 Head = tie.In-loop Inv-loop μ-loop
 
@@ -65,8 +68,11 @@ Other = tie.Else2 Inv-loop μ-loop
 abbrev start : Tables → Entry
 start c = c .before .before .before .before
 
+abbrev turn-at : Head → Turning
+turn-at c = c .before
+
 abbrev tables : Head → Tables
-tables c = c .before .before
+tables c = turn-at c .before
 
 abbrev entry : Head → Entry
 entry c = start (tables c)
@@ -81,22 +87,25 @@ word c = c .before .before .before .before
 abbrev Owes : Word → ℕ → Type 0
 Owes c r =
     let a = entry (head c) .args in
-    OwesParts (length (a .t .now)) (knownParts (a .calls .now) (getD (a .t .now) (head c .before .loop .i) 0)) r × (r ≤ 8192)
+    OwesParts (length (a .t .now)) (knownParts (a .calls .now) (getD (a .t .now) (turn-at (head c) .loop .i) 0)) r × (r ≤ 8192)
 
 abbrev Next : Word → ℕ → Type 0
 Next c r =
     let a = entry (head c) .args in
-    let l = head c .before .loop in
+    let l = turn-at (head c) .loop in
     Turn (a .calls .now) (a .t .now) (a .n) (l .owed - 1 + r) (l .i + 1)
 
-inside : (c : Word) → head c .before .loop .i < length (entry (head c) .args .t .now)
-inside c = omega (arith, c .before .before .if1 .left, head c .before .loop .inv .within)
+inside : (c : Word) → turn-at (head c) .loop .i < length (entry (head c) .args .t .now)
+inside c = omega (arith, c .before .before .if1 .left, turn-at (head c) .loop .inv .within)
+
+owes-some : (c : Word) → 0 < turn-at (head c) .loop .owed
+owes-some c = omega (arith, head c .loop-test .taken)
 
 onward : (c : Word) (r : ℕ) → Owes c r → Next c r
-onward c r owes = turn _ _ _ _ _ r (head c .before .loop .inv) (omega (arith, head c .loop-test .taken)) (inside c) owes
+onward c r owes = turn _ _ _ _ _ r (turn-at (head c) .loop .inv) (owes-some c) (inside c) owes
 
 small-kind : (c : Word) → c .kind .result < 16
-small-kind c = omega (arith, c .kind .ensures, c .before .shared-slice-known3 .given (head c .before .loop .i))
+small-kind c = omega (arith, c .kind .ensures, c .before .shared-slice-known3 .given (turn-at (head c) .loop .i))
 
 call-owes : (c : Call) → Next (word c) (c .known-arity .result)
 call-owes c = onward (word c) _ (
@@ -110,7 +119,7 @@ counted c = getD (tables (head (c .before)) .before .part-counts .result) (c .be
 kind-owes : (c : Other) → Owes (c .before) (counted c)
 kind-owes c =
     let counts = tables (head (c .before)) .before .part-counts .ensures .at-kind (c .before .kind .result) (small-kind (c .before)) in
-    owed-by-kind _ _ _ _ _ (c .before .kind .ensures) (c .if2 .left) counts (head (c .before) .before .loop .inv .small .0)
+    owed-by-kind _ _ _ _ _ (c .before .kind .ensures) (c .if2 .left) counts (turn-at (head (c .before)) .loop .inv .small .0)
 
 kind-next : (c : Other) → Next (c .before) (counted c)
 kind-next c = onward (c .before) (counted c) (kind-owes c)
