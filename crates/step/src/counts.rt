@@ -23,14 +23,19 @@ fn index_of(rule: Rule) -> usize
     }
 }
 
-// the counts with one more for a rule
+// the counts with one more for a rule. The place is looked for: a write at a place that is not known before would be waited for where the
+// ten are copied right behind it.
 pub fn raise(counts: [u32; 10], rule: Rule) -> [u32; 10]
     requires { ⌜ ((i : ℕ) → getD counts i 0 < 4294967295) ⌝ }
     ensures { λ r. ⌜ r ≡ raiseOf rule counts ⌝ }
 {
-    let mut c = counts;
     let i = index_of(rule);
-    c[i] = c[i] + 1;
+    let mut c = counts;
+    for k in 0..10 {
+        if k == i {
+            c[k] = c[k] + 1;
+        }
+    }
     c
 }
 
