@@ -7,8 +7,10 @@ use std::fs;
 use std::io::{self, BufWriter, Error, Read, Write};
 use std::path::Path;
 use std::process::ExitCode;
+use tools::bench::bundles::bundles_file;
 use tools::bench::free_inputs::{find, finders};
 use tools::bench::plot::plot;
+use tools::bench::workloads;
 use tools::bench::{implementations, measure, report};
 use tools::corpus::contents::records;
 use tools::corpus::corpus;
@@ -48,6 +50,8 @@ const USAGE: &str = "usage: reference SUBCOMMAND
   corpus STDIN STDOUT the records of a test program, and what it writes
   bench [--plot FILE] times on the named shapes as a table, and as an SVG plot (release build)
   bench --inputs      times of free_inputs on terms of 8,192 words (release build)
+  bench --bundles FILE
+                      the bundles of the named shapes written into FILE, for tools/orders
 ";
 
 /// A bundle is refused from this length on, so that no more is read.
@@ -89,6 +93,7 @@ fn dispatch(arguments: &[String]) -> io::Result<bool> {
         ["bench"] => bench(None),
         ["bench", "--plot", file] => bench(Some(Path::new(file))),
         ["bench", "--inputs"] => bench_free_inputs(),
+        ["bench", "--bundles", file] => write_bundles(Path::new(file)),
         ["definitions", repository, folder, seed, count] => {
             check_definitions(Path::new(repository), Path::new(folder), seed, count)
         }
@@ -181,6 +186,11 @@ fn bench_free_inputs() -> io::Result<bool> {
     for shape in longest_readings() {
         println!("{}", report::line_of_free_inputs(&find(shape, &finders)));
     }
+    Ok(true)
+}
+
+fn write_bundles(file: &Path) -> io::Result<bool> {
+    fs::write(file, bundles_file(&workloads::all()))?;
     Ok(true)
 }
 

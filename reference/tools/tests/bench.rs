@@ -1,6 +1,7 @@
-//! The benchmark's table and plot, on made-up times.
+//! The benchmark's table and plot, on made-up times, and the file of its bundles.
 
 use std::time::Duration;
+use tools::bench::bundles::bundles_file;
 use tools::bench::free_inputs::{find, finders, Found};
 use tools::bench::plot::plot;
 use tools::bench::timing::{time_all, Timing};
@@ -40,6 +41,26 @@ fn lines_have_the_columns_of_the_head() {
     assert!(line.contains("440.00 µs (50 to 200 %, 3) | 10.00 µs | - | - | -"));
     measurement.timings[1] = Some(timing(1100));
     assert!(report::line(&measurement).contains("| 25.00 µs | 2.50 |"));
+}
+
+#[test]
+fn names_and_bundles_come_after_their_lengths() {
+    let two = workloads::workload("two".into(), vec![doubling(1), doubling(2)]);
+    let bundles = two.bundles.clone();
+    let file = bundles_file(&[two, workload(44, 100)]);
+    let mut expected = vec![0, 0, 0, 2, 0, 0, 0, 3];
+    expected.extend(b"two");
+    expected.extend([0, 0, 0, 2]);
+    for bundle in &bundles {
+        expected.extend([0, 0, 0, u8::try_from(bundle.len()).unwrap()]);
+        expected.extend(bundle);
+    }
+    expected.extend([0, 0, 0, 7]);
+    expected.extend(b"made up");
+    expected.extend([0, 0, 0, 1]);
+    assert_eq!(file[..expected.len()], expected);
+    let last = doubling(3).bundle();
+    assert_eq!(file[expected.len() + 4..], last);
 }
 
 #[test]

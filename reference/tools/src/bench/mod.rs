@@ -1,6 +1,7 @@
 //! Times of the program on the named shapes, and of free_inputs: on trees, on words, and the verified
 //! library's.
 
+pub mod bundles;
 mod clock;
 pub mod free_inputs;
 mod heap;
