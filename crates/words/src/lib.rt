@@ -1,4 +1,5 @@
 // Words and the parts of a node: what every traversal of a term on words stands on.
+#![tactic(auto)]
 
 // space for the binder depths of the parts still to come of a term of up to 8,192 words, and two more
 pub const PENDING: usize = 8194;

@@ -21,4 +21,4 @@ call_acts_spec =
     (λ c. search rules)
     (λ c κs. search rules)
     (λ c. c.acts.ensures)
-    (λ c. past c.before.before.args.calls.now _ c.if1.false))
+    (λ c. past c.before.before.args.calls.now _ c.if-i-calls.false))

@@ -8,10 +8,10 @@ use borrow.Author.Rules.{rules}
 use Rattle.words.proofs.acting.some_acts.Statement.{statement}
 use Rattle.words.proofs.acting.some_acts.Tie as tie
 
-abbrev invariant-loop : tie.invariant-loop
+abbrev invariant-loop : tie.invariant-loop-i
 invariant-loop calls i₀ i = NoneBefore acts_of calls i
 
-abbrev decreases-loop : tie.decreases-loop
+abbrev decreases-loop : tie.decreases-loop-i
 decreases-loop calls i₀ i = length calls - i
 
 pub some_acts_spec : {M : Type 1} → statement M
@@ -27,11 +27,11 @@ some_acts_spec =
     (λ c.
     let at-acts = c.before in
     let at-loop-test = at-acts.before.before in
-    word_passes acts_of at-loop-test.before.loop.invariant at-loop-test.loop-test.true (sym at-acts.acts.ensures ∙ c.if1.true))
+    word_passes acts_of at-loop-test.before.loop-i.invariant at-loop-test.loop-i-test.true (sym at-acts.acts.ensures ∙ c.if-acts.true))
     (λ c. search rules)
     (λ c. search rules)
     (λ c.
     let at-acts = c.before in
     let at-loop-test = at-acts.before.before in
-    word_fails acts_of at-loop-test.before.loop.invariant at-loop-test.loop-test.true (sym at-acts.acts.ensures ∙ c.if1.false))
-    (λ c. none_passes acts_of c.before.loop.invariant c.loop-test.false))
+    word_fails acts_of at-loop-test.before.loop-i.invariant at-loop-test.loop-i-test.true (sym at-acts.acts.ensures ∙ c.if-acts.false))
+    (λ c. none_passes acts_of c.before.loop-i.invariant c.loop-i-test.false))

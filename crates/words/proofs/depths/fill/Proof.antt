@@ -33,10 +33,10 @@ next {words₀} {words} {start} {end} {w} {i} g lt e = record {
     at j l h (yes q) = ap (λ (x : ℕ). get_or (set words i w) x 0) q ∙ get_or-set_same words i w 0 (omega (arith, lt, e, g.len))
     at j l h (no q) = get_or-set_other words i j w 0 q ∙ g.filled.set_to j l (omega (arith, h, q))
 
-abbrev invariant-loop : tie.invariant-loop
+abbrev invariant-loop : tie.invariant-loop-i
 invariant-loop words₀ start end w i₀ words i = Filling words₀ words start end w i
 
-abbrev decreases-loop : tie.decreases-loop
+abbrev decreases-loop : tie.decreases-loop-i
 decreases-loop words₀ start end w i₀ words i = end - i
 
 pub fill_spec : {M : Type 1} → statement M
@@ -52,11 +52,11 @@ fill_spec =
       filled = record { kept = λ j l. refl; set_to = λ j l h. absurd (omega (arith, l, h)) };
     })
     (λ c. search rules)
-    (λ c. omega (arith, c.loop-test.true, c.before.loop.invariant.len, c.before.before.requires.1))
+    (λ c. omega (arith, c.loop-i-test.true, c.before.loop-i.invariant.len, c.before.before.requires.1))
     (λ c. search rules)
-    (λ c. omega (arith, c.loop-test.true))
-    (λ c. next c.before.loop.invariant c.loop-test.true c.before.before.requires.1)
-    (λ c. c.before.loop.invariant.len)
+    (λ c. omega (arith, c.loop-i-test.true))
+    (λ c. next c.before.loop-i.invariant c.loop-i-test.true c.before.before.requires.1)
+    (λ c. c.before.loop-i.invariant.len)
     (λ c.
-    let i = c.before.loop.invariant in
-    record { kept = i.filled.kept; set_to = λ j l h. i.filled.set_to j l (omega (arith, h, c.loop-test.false)) }))
+    let i = c.before.loop-i.invariant in
+    record { kept = i.filled.kept; set_to = λ j l h. i.filled.set_to j l (omega (arith, h, c.loop-i-test.false)) }))

@@ -14,13 +14,13 @@ use Rattle.words.proofs.depths.open_parts.Tie as tie
 
 -- the places: the entry, where the part count is known, and where both binders are
 abbrev Counted : Type 0
-Counted = tie.After-part-count
+Counted = tie.After-part_count-n
 
 abbrev Last : Type 0
-Last = tie.After-last-binder
+Last = tie.After-last_binder
 
 abbrev Both : Type 0
-Both = tie.After-middle-binder
+Both = tie.After-middle_binder
 
 abbrev entry : Counted → tie.Start
 entry c = c.before.before.before.before
@@ -29,10 +29,10 @@ abbrev counted : Last → Counted
 counted c = c.before.before
 
 abbrev deepest : Last → ℕ
-deepest c = (entry (counted c)).args.depth + c.last-binder.result
+deepest c = (entry (counted c)).args.depth + c.last_binder.result
 
 abbrev middle : Both → ℕ
-middle c = (entry (counted c.before)).args.depth + c.middle-binder.result
+middle c = (entry (counted c.before)).args.depth + c.middle_binder.result
 
 -- the buffer with the first depth, with two, and with three
 abbrev one : Last → List ℕ
@@ -58,18 +58,18 @@ all_length c =
 -- the words from there to the node's last part are then filled with the depth
 opens : (c : Both) (new : List ℕ)
     → let m = counted c.before in let a = (entry m).args in
-    Filled (all c) new (a.last + 3) (a.last + m.part_count.result) a.depth
-    → OpensParts a.calls.now a.w a.depth a.pending.now new a.last (a.last + m.part_count.result)
+    Filled (all c) new (a.last + 3) (a.last + m.part_count-n.result) a.depth
+    → OpensParts a.calls.now a.w a.depth a.pending.now new a.last (a.last + m.part_count-n.result)
 opens c new f =
     let m = counted c.before in
-    filled_opens _ _ _ _ _ _ _ _ _ _ m.before.kind.ensures m.part_count.ensures.0 c.before.last-binder.ensures.0
-    c.middle-binder.ensures.0 (entry m).pre.0 f
+    filled_opens _ _ _ _ _ _ _ _ _ _ m.before.kind-k.ensures m.part_count-n.ensures.0 c.before.last_binder.ensures.0
+    c.middle_binder.ensures.0 (entry m).requires.0 f
 
 fill_asked : tie.Need-fill-requires
 fill_asked c κs =
     let b : Both = search in
     let m = counted b.before in
-    (omega (arith, c.before.if2.true), omega (arith, (entry m).pre.1, m.part_count.ensures.0, all_length b))
+    (omega (arith, c.before.if-n-gt3.true), omega (arith, (entry m).requires.1, m.part_count-n.ensures.0, all_length b))
 
 pub open_parts_spec : {M : Type 1} → statement M
 open_parts_spec =
@@ -77,7 +77,7 @@ open_parts_spec =
     (tie.spec
     (λ c κs. search rules)
     (λ c κs. search rules)
-    (λ c. opens_none _ _ _ _ _ (sym c.before.part_count.ensures.0 ∙ c.if1.true))
+    (λ c. opens_none _ _ _ _ _ (sym c.before.part_count-n.ensures.0 ∙ c.if-n-eq0.true))
     (λ c κs. search rules)
     (λ c. search rules)
     (λ c. search rules)
@@ -94,8 +94,8 @@ open_parts_spec =
     (λ c. search rules)
     fill_asked
     (λ c. search rules)
-    (λ c. c.before.before.fill.auto.0 ∙ all_length (search))
+    (λ c. c.before.before.fill.auto.words ∙ all_length (search))
     (λ c. opens (search) _ c.before.before.fill.ensures)
     (λ c. search rules)
     (λ c. all_length (search))
-    (λ c. opens (search) _ (three_filled _ _ _ _ (omega (arith, c.if2.false)))))
+    (λ c. opens (search) _ (three_filled _ _ _ _ (omega (arith, c.if-n-gt3.false)))))

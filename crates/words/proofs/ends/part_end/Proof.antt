@@ -6,7 +6,7 @@ use Rattle.words.proofs.ends.part_end.Tie as tie
 
 returns : tie.Need-returns
 unfolding part_end
-returns c = c.parts-end.ensures
+returns c = c.parts_end.ensures
 
 pub part_end_spec : {M : Type 1} → statement M
 part_end_spec = tie.close (tie.spec (λ c κs. (c.before.before.requires, omega arith)) returns)

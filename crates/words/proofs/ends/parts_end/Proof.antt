@@ -36,10 +36,10 @@ turn calls t n owed i r s p h (q, l) = record {
 few_owed : {calls t : List ℕ} {n owed i : ℕ} → Turn calls t n owed i → owed ≤ 67117056
 few_owed s = omega (arith, s.small, s.within, s.few)
 
-abbrev invariant-loop : tie.invariant-loop
+abbrev invariant-loop : tie.invariant-loop-owed
 invariant-loop calls t n counts arities words owed₀ i₀ owed i = Turn calls t n owed i
 
-abbrev decreases-loop : tie.decreases-loop
+abbrev decreases-loop : tie.decreases-loop-owed
 decreases-loop calls t n counts arities words owed₀ i₀ owed i = length t - i
 
 -- the places: the entry, where both tables are made, a turn's start, where the word's kind is known, and behind that a call's and
@@ -48,22 +48,22 @@ abbrev Entry : Type 0
 Entry = tie.Start invariant-loop decreases-loop
 
 abbrev Tables : Type 0
-Tables = tie.After-argument-counts invariant-loop decreases-loop
+Tables = tie.After-argument_counts-arities invariant-loop decreases-loop
 
 abbrev Turning : Type 0
-Turning = tie.At-loop invariant-loop decreases-loop
+Turning = tie.At-loop-owed invariant-loop decreases-loop
 
 abbrev Head : Type 0
-Head = tie.In-loop invariant-loop decreases-loop
+Head = tie.In-loop-owed invariant-loop decreases-loop
 
 abbrev Word : Type 0
-Word = tie.After-kind invariant-loop decreases-loop
+Word = tie.After-kind-k invariant-loop decreases-loop
 
 abbrev Call : Type 0
-Call = tie.After-known-arity invariant-loop decreases-loop
+Call = tie.After-known_arity invariant-loop decreases-loop
 
 abbrev Other : Type 0
-Other = tie.Else2 invariant-loop decreases-loop
+Other = tie.Else-k-eq1 invariant-loop decreases-loop
 
 abbrev start : Tables → Entry
 start c = c.before.before.before.before
@@ -87,58 +87,58 @@ word c = c.before.before.before.before
 abbrev Owes : Word → ℕ → Type 0
 Owes c r =
     let a = (entry (head c)).args in
-    OwesParts (length a.t.now) (known_parts a.calls.now (get_or a.t.now (turn_at (head c)).loop.i 0)) r × (r ≤ 8192)
+    OwesParts (length a.t.now) (known_parts a.calls.now (get_or a.t.now (turn_at (head c)).loop-owed.i 0)) r × (r ≤ 8192)
 
 abbrev Next : Word → ℕ → Type 0
 Next c r =
     let a = (entry (head c)).args in
-    let l = (turn_at (head c)).loop in
+    let l = (turn_at (head c)).loop-owed in
     Turn a.calls.now a.t.now a.n (l.owed - 1 + r) (l.i + 1)
 
-inside : (c : Word) → (turn_at (head c)).loop.i < length (entry (head c)).args.t.now
-inside c = omega (arith, c.before.before.if1.false, (turn_at (head c)).loop.inv.within)
+inside : (c : Word) → (turn_at (head c)).loop-owed.i < length (entry (head c)).args.t.now
+inside c = omega (arith, c.before.before.if-i-words.false, (turn_at (head c)).loop-owed.invariant.within)
 
-owes_some : (c : Word) → 0 < (turn_at (head c)).loop.owed
-owes_some c = omega (arith, (head c).loop-test.true)
+owes_some : (c : Word) → 0 < (turn_at (head c)).loop-owed.owed
+owes_some c = omega (arith, (head c).loop-owed-test.true)
 
 onward : (c : Word) (r : ℕ) → Owes c r → Next c r
-onward c r owes = turn _ _ _ _ _ r (turn_at (head c)).loop.inv (owes_some c) (inside c) owes
+onward c r owes = turn _ _ _ _ _ r (turn_at (head c)).loop-owed.invariant (owes_some c) (inside c) owes
 
-small_kind : (c : Word) → c.kind.result < 16
-small_kind c = omega (arith, c.kind.ensures, c.before.shared-slice-known3.given (turn_at (head c)).loop.i)
+small_kind : (c : Word) → c.kind-k.result < 16
+small_kind c = omega (arith, c.kind-k.ensures, c.before.shared_slice_known-in-loop-owed-1.given (turn_at (head c)).loop-owed.i)
 
-call_owes : (c : Call) → Next (word c) c.known_arity_lem.result
+call_owes : (c : Call) → Next (word c) c.known_arity.result
 call_owes c = onward (word c) _ (
-  owed_by_call _ _ _ _ _ _ (word c).kind.ensures (search) c.before.number.ensures c.known_arity_lem.ensures.0,
-  c.known_arity_lem.ensures.1,
+  owed_by_call _ _ _ _ _ _ (word c).kind-k.ensures (search) c.before.number.ensures c.known_arity.ensures.0,
+  c.known_arity.ensures.1,
 )
 
 abbrev counted : Other → ℕ
-counted c = get_or (tables (head c.before)).before.part-counts.result c.before.kind.result 0
+counted c = get_or (tables (head c.before)).before.part_counts-counts.result c.before.kind-k.result 0
 
 kind_owes : (c : Other) → Owes c.before (counted c)
 kind_owes c =
-    let counts = (tables (head c.before)).before.part-counts.ensures.at_kind c.before.kind.result (small_kind c.before) in
-    owed_by_kind_lem _ _ _ _ _ c.before.kind.ensures c.if2.false counts (turn_at (head c.before)).loop.inv.small.0
+    let counts = (tables (head c.before)).before.part_counts-counts.ensures.at_kind c.before.kind-k.result (small_kind c.before) in
+    owed_by_kind_lem _ _ _ _ _ c.before.kind-k.ensures c.if-k-eq1.false counts (turn_at (head c.before)).loop-owed.invariant.small.0
 
 kind_next : (c : Other) → Next c.before (counted c)
 kind_next c = onward c.before (counted c) (kind_owes c)
 
-begins : tie.Need-loop-init invariant-loop decreases-loop
+begins : tie.Need-loop-owed-init invariant-loop decreases-loop
 begins c = record { small = (start c).requires; within = omega arith; few = omega arith; owing = owing_start _ _ _ }
 
-nowhere : tie.Need-returns invariant-loop decreases-loop
+nowhere : tie.Need-returns-then-i-words invariant-loop decreases-loop
 nowhere c =
     let a = (entry c.before).args in
-    let l = c.before.before.loop in
-    let p : 0 < l.owed = omega (arith, c.before.loop-test.true) in
-    let e : l.i ≡ length a.t.now = omega (arith, c.if1.true, l.invariant.within) in
+    let l = c.before.before.loop-owed in
+    let p : 0 < l.owed = omega (arith, c.before.loop-owed-test.true) in
+    let e : l.i ≡ length a.t.now = omega (arith, c.if-i-words.true, l.invariant.within) in
     sym (ap end_of (owing_short _ _ _ _ _ p e l.invariant.owing))
 
-whole : tie.Need-returns-2 invariant-loop decreases-loop
+whole : tie.Need-returns invariant-loop decreases-loop
 whole c =
-    let l = c.before.loop in
-    let z : l.owed ≤ 0 = omega (arith, c.loop-test.false) in
+    let l = c.before.loop-owed in
+    let z : l.owed ≤ 0 = omega (arith, c.loop-owed-test.false) in
     sym (ap end_of (owing_done _ _ _ _ _ z l.invariant.owing))
 
 pub parts_end_spec : {M : Type 1} → statement M

@@ -28,7 +28,7 @@ pub argument_spec : {M : Type 1} → statement M
 argument_spec =
     tie.close
     (tie.spec
-    (λ c. at_0 _ _ c.if1.true)
-    (λ c. at_1 _ _ c.if2.true)
-    (λ c. at_2 _ _ c.if3.true)
-    (λ c. past _ _ c.before.before.if1.false c.before.if2.false c.if3.false))
+    (λ c. at_0 _ _ c.if-i-eq0.true)
+    (λ c. at_1 _ _ c.if-i-eq1.true)
+    (λ c. at_2 _ _ c.if-i-eq2.true)
+    (λ c. past _ _ c.before.before.if-i-eq0.false c.before.if-i-eq1.false c.if-i-eq2.false))

@@ -33,10 +33,10 @@ turn {l₀} {l} {i} c lt =
 finish : {l₀ l : List ℕ} {i : ℕ} → Cleared l₀ l i → length l ≤ i → l ≡ replicate (length l₀) 0
 finish {l₀} {l} {i} c ge = zeros_all l₀ l i (omega (arith, ge, same_length c)) c.upto c.zeros
 
-abbrev invariant-loop : tie.invariant-loop
+abbrev invariant-loop : tie.invariant-loop-i
 invariant-loop words₀ i₀ words i = Cleared words₀ words i
 
-abbrev decreases-loop : tie.decreases-loop
+abbrev decreases-loop : tie.decreases-loop-i
 decreases-loop words₀ i₀ words i = length words₀ - i
 
 pub clear_spec : {M : Type 1} → statement M
@@ -49,7 +49,7 @@ clear_spec =
     (λ c. search rules)
     (λ c. search rules)
     (λ c. search rules)
-    (λ c. omega (arith, c.loop-test.true, same_length c.before.loop.invariant))
-    (λ c. turn c.before.loop.invariant c.loop-test.true)
-    (λ c. same_length c.before.loop.invariant)
-    (λ c. finish c.before.loop.invariant c.loop-test.false))
+    (λ c. omega (arith, c.loop-i-test.true, same_length c.before.loop-i.invariant))
+    (λ c. turn c.before.loop-i.invariant c.loop-i-test.true)
+    (λ c. same_length c.before.loop-i.invariant)
+    (λ c. finish c.before.loop-i.invariant c.loop-i-test.false))

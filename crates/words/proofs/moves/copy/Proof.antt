@@ -8,35 +8,35 @@ use Rattle.words.proofs.PastedWords.{Pasted, pasted_none, pasted_length, pasted_
 use Rattle.words.proofs.moves.copy.Statement.{statement}
 use Rattle.words.proofs.moves.copy.Tie as tie
 
-abbrev invariant-loop : tie.invariant-loop
+abbrev invariant-loop : tie.invariant-loop-i
 invariant-loop src start n dst₀ at i₀ dst i = Pasted src dst₀ dst start at i × (i ≤ n)
 
-abbrev decreases-loop : tie.decreases-loop
+abbrev decreases-loop : tie.decreases-loop-i
 decreases-loop src start n dst₀ at i₀ dst i = n - i
 
 abbrev Head : Type 0
-Head = tie.At-loop invariant-loop decreases-loop
+Head = tie.At-loop-i invariant-loop decreases-loop
 
 abbrev Turn : Type 0
-Turn = tie.In-loop invariant-loop decreases-loop
+Turn = tie.In-loop-i invariant-loop decreases-loop
 
-same : (c : Head) → length c.loop.dst ≡ length c.before.args.dst.now
-same c = pasted_length c.loop.invariant.0
+same : (c : Head) → length c.loop-i.dst ≡ length c.before.args.dst.now
+same c = pasted_length c.loop-i.invariant.0
 
-next : tie.Need-loop-preserved invariant-loop decreases-loop
+next : tie.Need-loop-i-preserved invariant-loop decreases-loop
 next c =
     let t : Turn = search in
-    let pre = t.before.before.pre in (
-      pasted_next t.before.loop.inv.0 _ (omega (arith, pre.1, t.loop-test.taken))
-          (omega (arith, pre.0, t.loop-test.taken)) refl,
-      omega (arith, t.loop-test.taken),
+    let pre = t.before.before.requires in (
+      pasted_next t.before.loop-i.invariant.0 _ (omega (arith, pre.1, t.loop-i-test.true))
+          (omega (arith, pre.0, t.loop-i-test.true)) refl,
+      omega (arith, t.loop-i-test.true),
     )
 
 whole : tie.Need-returns invariant-loop decreases-loop
 whole c =
     let a = c.before.before.args in
-    (pasted_at a.start a.at a.n c.before.loop.invariant.0 refl refl
-    (omega (arith, c.before.loop.invariant.1, c.loop-test.false))).pasted
+    (pasted_at a.start a.at a.n c.before.loop-i.invariant.0 refl refl
+    (omega (arith, c.before.loop-i.invariant.1, c.loop-i-test.false))).pasted
 
 pub copy_spec : {M : Type 1} → statement M
 copy_spec =

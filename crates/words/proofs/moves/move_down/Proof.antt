@@ -8,34 +8,34 @@ use Rattle.words.proofs.PastedWords.{Pasted, pasted_none, pasted_length, unchang
 use Rattle.words.proofs.moves.move_down.Statement.{statement}
 use Rattle.words.proofs.moves.move_down.Tie as tie
 
-abbrev invariant-loop : tie.invariant-loop
+abbrev invariant-loop : tie.invariant-loop-i
 invariant-loop words₀ from n to i₀ words i = Pasted words₀ words₀ words from to i × (i ≤ n)
 
-abbrev decreases-loop : tie.decreases-loop
+abbrev decreases-loop : tie.decreases-loop-i
 decreases-loop words₀ from n to i₀ words i = n - i
 
 abbrev Head : Type 0
-Head = tie.At-loop invariant-loop decreases-loop
+Head = tie.At-loop-i invariant-loop decreases-loop
 
 abbrev Turn : Type 0
-Turn = tie.In-loop invariant-loop decreases-loop
+Turn = tie.In-loop-i invariant-loop decreases-loop
 
-same : (c : Head) → length c.loop.words ≡ length c.before.args.words.now
-same c = pasted_length c.loop.invariant.0
+same : (c : Head) → length c.loop-i.words ≡ length c.before.args.words.now
+same c = pasted_length c.loop-i.invariant.0
 
-next : tie.Need-loop-preserved invariant-loop decreases-loop
+next : tie.Need-loop-i-preserved invariant-loop decreases-loop
 next c =
     let t : Turn = search in
-    let pre = t.before.before.pre in
-    let more = t.loop-test.taken in
-    let p = t.before.loop.inv.0 in
+    let pre = t.before.before.requires in
+    let more = t.loop-i-test.true in
+    let p = t.before.loop-i.invariant.0 in
     (pasted_next p _ (omega (arith, pre, more)) (omega (arith, pre, more)) (unchanged_past p _ (omega (arith, pre))), omega (arith, more))
 
 whole : tie.Need-returns invariant-loop decreases-loop
 whole c =
     let a = c.before.before.args in
-    (pasted_at a.from a.to a.n c.before.loop.invariant.0 refl refl
-    (omega (arith, c.before.loop.invariant.1, c.loop-test.false))).pasted
+    (pasted_at a.from a.to a.n c.before.loop-i.invariant.0 refl refl
+    (omega (arith, c.before.loop-i.invariant.1, c.loop-i-test.false))).pasted
 
 pub move_down_spec : {M : Type 1} → statement M
 move_down_spec =

@@ -25,4 +25,4 @@ move_words_spec =
     (λ c. search rules)
     (λ c.
     let args = c.before.before.before.args in
-    in_place args.words.now args.from args.n args.to c.before.if1.false c.if2.false))
+    in_place args.words.now args.from args.n args.to c.before.if-to-from.false c.if-from-to.false))

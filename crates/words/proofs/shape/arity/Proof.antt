@@ -21,4 +21,4 @@ arity_spec =
     (λ c. search rules)
     (λ c κs. search rules)
     (λ c. (c.arguments.ensures.0, omega (arith, c.arguments.ensures.1)))
-    (λ c. (past c.before.before.args.calls.now _ c.if1.false, omega arith)))
+    (λ c. (past c.before.before.args.calls.now _ c.if-i-calls.false, omega arith)))

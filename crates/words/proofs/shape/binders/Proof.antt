@@ -34,6 +34,6 @@ binders_spec =
     tie.close
     (tie.spec
     (λ c κs. search rules)
-    (λ c. (free _ _ _ c.before.before.before.shape_of.ensures c.before.before.if1.true c.if2.true, omega arith))
-    (λ c. (bound _ _ _ c.before.before.before.shape_of.ensures c.before.before.if1.true c.if2.false, omega arith))
-    (λ c. (none _ _ _ c.before.shape_of.ensures c.if1.false, omega arith)))
+    (λ c. (free _ _ _ c.before.before.before.shape_of-s.ensures c.before.before.if-s.true c.if-j-s.true, omega arith))
+    (λ c. (bound _ _ _ c.before.before.before.shape_of-s.ensures c.before.before.if-s.true c.if-j-s.false, omega arith))
+    (λ c. (none _ _ _ c.before.shape_of-s.ensures c.if-s.false, omega arith)))

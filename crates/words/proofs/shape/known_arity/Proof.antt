@@ -1,10 +1,9 @@
 -- A call of the table takes as many arguments as the table of the counts says of its word; past the calls' table no number is known.
-use mathlib.Core.Path.{◌≡◌, ◌∙◌, ap}
-use Prim.Native.Nat.{ℕ, ◌≤◌, ◌<◌}
+use mathlib.Core.Path.{◌∙◌, ap}
+use Prim.Native.Nat.{◌≤◌, ◌<◌}
 use native.Mathlib.Omega.{arith}
 use borrow.Author.Rules.{rules}
 use lib.ListN.{length, get_or}
-use Rattle.syntax.specs.Words.{count_of}
 use Rattle.syntax.specs.Tables.{known_arity}
 use Rattle.words.specs.Shapes.{Owes, owed_by_count}
 use Rattle.words.proofs.PartCounts.{owed_inside, owed_past}
@@ -16,7 +15,7 @@ abbrev entry : tie.After-count → tie.Start
 entry c = c.before.before.before.before
 
 small_count : (c : tie.After-count) → c.count.result < 16
-small_count c = omega (arith, c.count.ensures, c.before.shared-slice-known2.given (entry c).args.n)
+small_count c = omega (arith, c.count.ensures, c.before.shared_slice_known-then-i-calls-1.given (entry c).args.n)
 
 inside : (c : tie.After-count) → (entry c).args.n < length (entry c).args.calls.now
 inside c = search rules
@@ -27,8 +26,8 @@ known : (c : tie.After-count)
     Owes a.many (known_arity a.calls.now a.n) r × (r ≤ 8192))
 known c =
     let s = entry c in
-    owed_inside s.args.calls.now s.args.n s.args.many s.pre.1 _ (inside c)
-    (s.pre.0.at_kind c.count.result (small_count c) ∙ ap owed_by_count c.count.ensures)
+    owed_inside s.args.calls.now s.args.n s.args.many s.requires.1 _ (inside c)
+    (s.requires.0.at_kind c.count.result (small_count c) ∙ ap owed_by_count c.count.ensures)
 
 pub known_arity_spec : {M : Type 1} → statement M
 known_arity_spec =
@@ -41,4 +40,4 @@ known_arity_spec =
     (λ c. small_count (search))
     (λ c. omega (arith, known (search)))
     (λ c. known (search))
-    (λ c. let s = c.before.before in owed_past s.args.calls.now s.args.n s.args.many s.requires.1 c.if1.false))
+    (λ c. let s = c.before.before in owed_past s.args.calls.now s.args.n s.args.many s.requires.1 c.if-i-calls.false))

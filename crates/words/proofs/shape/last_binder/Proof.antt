@@ -9,5 +9,5 @@ use Rattle.words.proofs.shape.last_binder.Tie as tie
 pub last_binder_spec : {M : Type 1} → statement M
 last_binder_spec = tie.close
     (tie.spec (λ c κs. search rules)
-    (λ c. (ap counts (sym c.if1.true ∙ c.before.shape_of.ensures.binds), omega arith))
-    (λ c. (ap counts (sym c.if1.false ∙ c.before.shape_of.ensures.binds), omega arith)))
+    (λ c. (ap counts (sym c.if-s.true ∙ c.before.shape_of-s.ensures.binds), omega arith))
+    (λ c. (ap counts (sym c.if-s.false ∙ c.before.shape_of-s.ensures.binds), omega arith)))

@@ -28,5 +28,5 @@ of_others k n ne = simp (ne_eqb k 4 ne) (by_tests (eqb k 2) (eqb k 10) refl refl
 
 pub operand_count_spec : {M : Type 1} → statement M
 operand_count_spec = tie.close
-    (tie.spec (λ c. of_let _ _ c.if1.true) (λ c κs. search rules)
-    (λ c. c.outer-count.ensures ∙ of_others _ _ c.before.if1.false))
+    (tie.spec (λ c. of_let _ _ c.if-k-eq4.true) (λ c κs. search rules)
+    (λ c. c.outer_count.ensures ∙ of_others _ _ c.before.if-k-eq4.false))

@@ -22,5 +22,5 @@ module _ (k n : ℕ) (s : Shape) (h : Shaping k s) where
   all b = sym (ap (λ (x : Bool). cond x s.free n) b) ∙ by_shape
 
 pub outer_count_spec : {M : Type 1} → statement M
-outer_count_spec = tie.close (tie.spec (λ c κs. search rules) (λ c. some _ _ _ c.before.shape_of.ensures c.if1.true)
-    (λ c. all _ _ _ c.before.shape_of.ensures c.if1.false))
+outer_count_spec = tie.close (tie.spec (λ c κs. search rules) (λ c. some _ _ _ c.before.shape_of-s.ensures c.if-s.true)
+    (λ c. all _ _ _ c.before.shape_of-s.ensures c.if-s.false))

@@ -22,8 +22,8 @@ part_count_spec =
     (λ c κs. search rules)
     (λ c κs. search rules)
     (λ c κs. search rules)
-    (λ c. of_call _ _ _ _ _ c.before.before.before.kind.ensures c.before.before.if1.true c.before.number.ensures
+    (λ c. of_call _ _ _ _ _ c.before.before.before.kind-k.ensures c.before.before.if-k-eq1.true c.before.number.ensures
     c.arity.ensures)
     (λ c. search rules)
     (λ c. search rules)
-    (λ c. of_kind _ _ _ _ c.before.kind.ensures c.if1.false (agrees _ refl _ (omega (arith, c.before.kind.ensures)))))
+    (λ c. of_kind _ _ _ _ c.before.kind-k.ensures c.if-k-eq1.false (agrees _ refl _ (omega (arith, c.before.kind-k.ensures)))))
