@@ -1,1 +1,3 @@
 // Cases A to L and the sample bundle, computed through the definitions.
+
+#![tactic(auto)]

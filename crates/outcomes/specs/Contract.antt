@@ -1,5 +1,5 @@
 -- What the public call `normalize` promises: its outcome by one equation (demands 1 and 2), and the claim (demand 3).
-use Rattle.std.specs.Prelude.{ℕ, ◌≡◌, List, length, take}
+use Rattle.std.specs.Prelude.{ℕ, ◌≡◌, List, take}
 use Rattle.syntax.specs.Tables.{Tables}
 use Rattle.reduction.specs.declared.Settings.{Settings}
 use Rattle.semantics.specs.Claim.{Claim}

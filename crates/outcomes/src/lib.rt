@@ -1,5 +1,7 @@
 // The answers of the public calls. Their meaning stands in specs/.
 
+#![tactic(auto)]
+
 // the type check: refusal 0 and the type number, or the refusal and 0
 #[derive(Drop)]
 pub struct Checked {

@@ -1,5 +1,7 @@
 // The ten rules in the order of the counts, the three phases, and the answer of the search. The definitions stand in specs/.
 
+#![tactic(auto)]
+
 #[derive(Drop)]
 pub enum Rule {
     LetInsertion,

@@ -40,7 +40,7 @@ module _ {P : Term → Type 0} where
   look (more h a) (suc i) p e = look a i p e
 
   look_in : {X : Type 0} {ps : List (Position X)} → All P ps → (p : Position X) → p ∈ ps → P p.subterm
-  look_in {X = X} no_more p i = elim i [ ]
+  look_in no_more p i = elim i [ ]
   look_in (more h a) p here = h
   look_in (more h a) p (there i) = look_in a p i
 

@@ -7,7 +7,7 @@ use lib.ListN.{length, get_or, drop, take, length-drop}
 use lib.Seq.{drop-append_seam, drop-drop, take_all}
 use Rattle.syntax.specs.Words.{pack, kind_of, number_of, type_of}
 use Rattle.syntax.specs.Term.{Term, Terms, var, call, lam, app, bind, pair, fst, snd, inl, inr, case, unit, arg, node}
-use Rattle.syntax.specs.Encoding.{word_of, encode, encode_all, size}
+use Rattle.syntax.specs.Encoding.{word_of, encode, encode_all}
 use Rattle.syntax.specs.Parts.{part_count}
 use Rattle.syntax.proofs.Decoding.{kind_pack, number_pack, type_pack}
 use Rattle.syntax.specs.Shaped.{count, Shaped, ShapedAll}

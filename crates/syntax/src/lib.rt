@@ -1,1 +1,3 @@
 // Words, tables and terms. The definitions stand in specs/, laws about them in proofs/.
+
+#![tactic(auto)]

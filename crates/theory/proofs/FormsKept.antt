@@ -70,28 +70,38 @@ module _ (pure : Term → Bool) where
     form_step (letting o k b) (s_root (r_drop _ _ _)) = form_rename lower b
     form_step (letting {b = c} o k b) (s_bind₁ {a' = e} s) = letting (operation_step o s) (stays e c) b
     form_step (letting {e = e} o k b) (s_bind₂ {b' = c} s) = letting o (stays e c) (form_step b s)
+    form_step (branching a b) (s_root r) = elim r [ ]
     form_step (branching a b) (s_case₁ s) = absurd (var_step s)
     form_step (branching a b) (s_case₂ s) = branching (form_step a s) b
     form_step (branching a b) (s_case₃ s) = branching a (form_step b s)
 
     value_step : {t t' : Term} → NormalValue never t → Step (Drops pure) t t' → NormalValue never t'
     value_step variable s = absurd (var_step s)
+    value_step (function b) (s_root r) = elim r [ ]
     value_step (function b) (s_lam s) = function (form_step b s)
+    value_step (both a b) (s_root r) = elim r [ ]
     value_step (both a b) (s_pair₁ s) = both (value_step a s) b
     value_step (both a b) (s_pair₂ s) = both a (value_step b s)
+    value_step (left a) (s_root r) = elim r [ ]
     value_step (left a) (s_inl s) = left (value_step a s)
+    value_step (right a) (s_root r) = elim r [ ]
     value_step (right a) (s_inr s) = right (value_step a s)
     value_step the_unit s = absurd (unit_step s)
 
     values_step : {ts us : Terms} → NormalValues never ts → StepAll (Drops pure) ts us → NormalValues never us
+    values_step no_more s = elim s [ ]
     values_step (more v vs) (s_this s) = more (value_step v s) vs
     values_step (more v vs) (s_next s) = more v (values_step vs s)
 
     operation_step : {t t' : Term} → Operation never t → Step (Drops pure) t t' → Operation never t'
+    operation_step (application v) (s_root r) = elim r [ ]
     operation_step (application v) (s_app₁ s) = absurd (var_step s)
     operation_step (application v) (s_app₂ s) = application (value_step v s)
+    operation_step (calling vs) (s_root r) = elim r [ ]
     operation_step (calling vs) (s_call s) = calling (values_step vs s)
+    operation_step taking₁ (s_root r) = elim r [ ]
     operation_step taking₁ (s_fst s) = absurd (var_step s)
+    operation_step taking₂ (s_root r) = elim r [ ]
     operation_step taking₂ (s_snd s) = absurd (var_step s)
 
 values_are : {ts : Terms} → NormalValues never ts → AllValues ts

@@ -38,6 +38,7 @@ module _ (tables : Tables) (wf : Earlier tables) (fit : Fitting tables) (ok : �
       one_more (ltb→lt A (length tables.types) (and_left first rest h)) (inputs_known Γ (and_right first rest h))
 
   variable_known : {Γ : Context} {n A : ℕ} → Known Γ → At Γ n A → InTable A
+  variable_known none x = elim x [ ]
   variable_known (one_more a h) here = a
   variable_known (one_more a h) (there x) = variable_known h x
 

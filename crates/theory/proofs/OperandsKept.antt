@@ -4,7 +4,7 @@ use mathlib.Core.Bool.{true}
 use lib.Dec.{T}
 use Prim.Native.Nat.{ℕ, zero, suc}
 use Rattle.syntax.specs.Term.{Term, Terms, var, call, lam, app, bind, pair, fst, snd, inl, inr, case, unit, done, arg}
-use Rattle.syntax.specs.Substitution.{Kit, under, traverse, traverse_all, renaming, rename, weaken, substitution, only, ◌⟦◌⟧}
+use Rattle.syntax.specs.Substitution.{Kit, under, traverse, traverse_all, renaming, rename, substitution, only, ◌⟦◌⟧}
 use Rattle.syntax.specs.Values.{is_value}
 use Rattle.syntax.proofs.Options.{is_true, and_left, and_right, both_true}
 use Rattle.syntax.proofs.Values.{value_kept, value_renamed}

@@ -2,7 +2,7 @@
 -- call, which does not act; first and second make none. An application may be dropped only where no call of the table acts, and there no
 -- trace has an acting call: nothing has to be known of what the function does, nor of its type.
 use mathlib.Core.Path.{◌≡◌, refl, ◌∙◌, ap₂, subst}
-use mathlib.Core.Bool.{false, not}
+use mathlib.Core.Bool.{false}
 use mathlib.Core.List.{List, [], ◌∷◌, ◌++◌}
 use lib.Dec.{T}
 use Prim.Native.Nat.{ℕ, zero, suc}

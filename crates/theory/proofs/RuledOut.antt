@@ -31,7 +31,7 @@ use Rattle.typing.specs.Infer.{infer}
 use Rattle.typing.specs.NodeTypes.{node_types}
 use Rattle.typing.specs.TableChecks.{well_formed_types}
 use Rattle.semantics.specs.TypeParts.{types_of}
-use Rattle.semantics.specs.Claim.{Subformula, of_result, of_call, Claim}
+use Rattle.semantics.specs.Claim.{Subformula, of_result, of_input, of_call, Claim}
 use Rattle.semantics.proofs.PartsEarlier.{part_at_most}
 
 -- no claim holds of words that decode to a term with a redex
@@ -66,6 +66,7 @@ copies_ruled_out = no_claim tables (encode source) 0 (encode source) source refl
 -- each type of a call is type 0
 one_zero : {A : ℕ} → A ∈ (0 ∷ []) → A ≡ 0
 one_zero here = refl
+one_zero (there i) = elim i [ ]
 
 two_zeros : {A : ℕ} → A ∈ (0 ∷ 0 ∷ []) → A ≡ 0
 two_zeros here = refl
@@ -82,6 +83,7 @@ call_types (suc (suc k)) s e i = absurd (none-ne-some s e)
 pub function_no_subformula : (t : Term) → Subformula tables 0 t 1 → ⊥
 unfolding well_formed_types
 function_no_subformula t (of_result p) = omega (arith, part_at_most tables tt p)
+function_no_subformula t (of_input i _) = elim i [ ]
 function_no_subformula t (of_call c p) =
     omega (arith, part_at_most tables tt p, call_types c.number c.sign c.listed c.among)
 

@@ -33,6 +33,7 @@ all_append all_none q = q
 all_append (all_more p ps) q = all_more p (all_append ps q)
 
 pub all_at : {P : ℕ → Type 0} {As : List ℕ} {D : ℕ} → AllIn P As → D ∈ As → P D
+all_at all_none i = elim i [ ]
 all_at (all_more p ps) here = p
 all_at (all_more p ps) (there i) = all_at ps i
 

@@ -1,1 +1,3 @@
 // Theorems about the definitions: demand 3. They stand in proofs/.
+
+#![tactic(auto)]
