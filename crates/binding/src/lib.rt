@@ -1,4 +1,5 @@
 // Variables and binders on words: how often a variable is used, renaming, substitution.
+#![tactic(auto)]
 
 pub mod uses; // uses.rt: how often a part uses a variable
 pub mod rename; // rename.rt: a part with its variables raised, into a buffer

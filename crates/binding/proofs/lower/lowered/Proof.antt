@@ -14,7 +14,7 @@ lowered_spec =
     (λ c. search rules)
     (λ c.
     let a = c.before.before.args in
-    simp (lt-ltb a.depth (number_of a.w) (omega (arith, c.if1.true, c.before.number.ensures))))
+    simp (lt-ltb a.depth (number_of a.w) (omega (arith, c.if-depth-number.true, c.before.number.ensures))))
     (λ c.
     let a = c.before.before.args in
-    simp (le-ltb a.depth (number_of a.w) (omega (arith, c.if1.false, c.before.number.ensures)))))
+    simp (le-ltb a.depth (number_of a.w) (omega (arith, c.if-depth-number.false, c.before.number.ensures)))))

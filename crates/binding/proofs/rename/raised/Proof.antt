@@ -15,7 +15,7 @@ raised_spec =
     (λ c. search rules)
     (λ c.
     let a = c.before.before.args in
-    simp (le-leb a.cut (number_of a.w) (omega (arith, c.if1.true, c.before.number.ensures))))
+    simp (le-leb a.cut (number_of a.w) (omega (arith, c.if-cut-number.true, c.before.number.ensures))))
     (λ c.
     let a = c.before.before.args in
-    simp (lt-leb a.cut (number_of a.w) (omega (arith, c.if1.false, c.before.number.ensures)))))
+    simp (lt-leb a.cut (number_of a.w) (omega (arith, c.if-cut-number.false, c.before.number.ensures)))))

@@ -11,6 +11,6 @@ use Rattle.binding.proofs.uses.is_variable.Tie as tie
 pub is_variable_spec : {M : Type 1} → statement M
 is_variable_spec = tie.close (tie.spec (λ c. search rules) (λ c.
     let a = c.before.args in
-    (ap counts (sym (eq-eqb a.w (pack 0 a.depth 0) (omega (arith, c.if1.true)))), omega arith)) (λ c.
+    (ap counts (sym (eq-eqb a.w (pack 0 a.depth 0) (omega (arith, c.if-w-depth.true)))), omega arith)) (λ c.
     let a = c.before.args in
-    (ap counts (sym (ne_eqb a.w (pack 0 a.depth 0) (λ e. c.if1.false (omega (arith, e))))), omega arith)))
+    (ap counts (sym (ne_eqb a.w (pack 0 a.depth 0) (λ e. c.if-w-depth.false (omega (arith, e))))), omega arith)))
