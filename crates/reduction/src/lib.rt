@@ -2,7 +2,7 @@
 
 #![tactic(auto)]
 
-#[derive(Drop)]
+#[derive(Clone, Copy)]
 pub enum Rule {
     LetInsertion,
     LetOfLet,
@@ -16,7 +16,7 @@ pub enum Rule {
     Drop,
 }
 
-#[derive(Drop)]
+#[derive(Clone, Copy)]
 pub enum Phase {
     Insertion,
     Reduction,

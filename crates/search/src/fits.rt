@@ -70,6 +70,7 @@ fn kind_at(t: &[u64], i: usize) -> u64
 }
 
 // the rule of phase 2 that fits a let, by the kind of its bound part and of that part's first part
+#[tactic(auto, unfolding(reduction::specs::FitByKinds::let_by_kinds))]
 fn fit_let(k1: u64, k2: u64) -> Found
     ensures { result ≡ root_redex (let_by_kinds k1 k2) }
 {
@@ -81,6 +82,7 @@ fn fit_let(k1: u64, k2: u64) -> Found
 }
 
 // the rule of phase 2 that fits a case, by the kind of its subject
+#[tactic(auto, unfolding(crate::specs::Fits::case_by_kind))]
 fn fit_case(k1: u64) -> Found
     ensures { result ≡ root_redex (case_by_kind k1) }
 {
@@ -93,6 +95,7 @@ fn fit_case(k1: u64) -> Found
 
 // the rule of phase 2 that fits a node, by its kind, its first part's, and that part's first part's: what a kind asks here is a rule, and
 // no number of parts
+#[tactic(auto, unfolding(reduction::specs::FitByKinds::rule_by_kinds))]
 fn fit_kinds(k0: u64, k1: u64, k2: u64) -> Found
     ensures { result ≡ root_redex (rule_by_kinds k0 k1 k2) }
 {

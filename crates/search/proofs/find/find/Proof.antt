@@ -32,32 +32,32 @@ find_spec =
     (λ c. search rules)
     (λ c κs.
     let pre = c.before.before.before.before.before.requires.0 in (
-      continues_at Insertion c.enum_told.given.1 (continues insertion_ready
-          (searchable_at Insertion c.enum_told.given.1 (pre))),
+      continues_at Insertion c.enum_told-1.given.1 (continues insertion_ready
+          (searchable_at Insertion c.enum_told-1.given.1 (pre))),
       pre.small,
     ))
     (λ c. search rules)
     (λ c κs.
     let pre = c.before.before.before.before.before.requires.0 in (
-      continues_at Reduction c.enum-told2.given.1 (continues reduction_ready
-          (searchable_at Reduction c.enum-told2.given.1 (pre))),
+      continues_at Reduction c.enum_told-in-Reduction-1.given.1 (continues reduction_ready
+          (searchable_at Reduction c.enum_told-in-Reduction-1.given.1 (pre))),
       pre.small,
     ))
     (λ c. search rules)
     (λ c κs.
     let at-enum-told3 = c.before in
     let pre = at-enum-told3.before.before.before.before.before.requires in
-    ((whole_starts (searchable_at Dropping at-enum-told3.enum-told3.given.1 pre.0), marks_open pre.0, pre.0.small), pre.1))
+    ((whole_starts (searchable_at Dropping at-enum-told3.enum_told-in-Dropping-1.given.1 pre.0), marks_open pre.0, pre.0.small), pre.1))
     (λ c.
     let enum_told = c.before.enum_told in
     finds_at Insertion enum_told.given.1 (finds_first insertion_ready
-    (first_at Insertion enum_told.given.1 c.first_redex_lem.ensures)))
+    (first_at Insertion enum_told.given.1 c.first_redex.ensures)))
     (λ c.
     let enum-told2 = c.before.enum-told2 in
     finds_at Reduction enum-told2.given.1 (finds_first reduction_ready
-    (first_at Reduction enum-told2.given.1 c.first-redex2.ensures)))
+    (first_at Reduction enum-told2.given.1 c.first_redex-in-Reduction.ensures)))
     (λ c. search rules)
     (λ c.
     let at-first-unused = c.before.before in
-    finds_at Dropping at-first-unused.before.before.enum-told3.given.1
+    finds_at Dropping at-first-unused.before.before.enum_told-in-Dropping-1.given.1
     (finds_unused at-first-unused.first_unused.ensures)))

@@ -11,10 +11,10 @@ use Rattle.search.proofs.FirstOperand.{Seeking, find_enter, find_none, find_part
 use Rattle.search.proofs.fits.first_computation.Statement.{statement}
 use Rattle.search.proofs.fits.first_computation.Tie as tie
 
-abbrev invariant-loop : tie.invariant-loop
+abbrev invariant-loop : tie.invariant-loop-j
 invariant-loop calls t w n m at₀ j₀ at j = Seeking calls t n m at j
 
-abbrev decreases-loop : tie.decreases-loop
+abbrev decreases-loop : tie.decreases-loop-j
 decreases-loop calls t w n m at₀ j₀ at j = m - j
 
 -- the places, and the way back from each to the one above it
@@ -22,10 +22,10 @@ abbrev Entry : Type 0
 Entry = tie.Start invariant-loop decreases-loop
 
 abbrev Head : Type 0
-Head = tie.At-loop invariant-loop decreases-loop
+Head = tie.At-loop-j invariant-loop decreases-loop
 
 abbrev OperandTested : Type 0
-OperandTested = tie.After-value-test invariant-loop decreases-loop
+OperandTested = tie.After-value_test-part invariant-loop decreases-loop
 
 abbrev entry : Head → Entry
 entry c = c.before.before.before.before.before.before.before
@@ -34,19 +34,19 @@ abbrev head : OperandTested → Head
 head c = c.before.before.before
 
 -- at the head of the loop
-inside : (c : Head) → c.loop.at ≤ length (entry c).args.t.now
-inside c = c.loop.invariant.going.high
+inside : (c : Head) → c.loop-j.at ≤ length (entry c).args.t.now
+inside c = c.loop-j.invariant.going.high
 
 short : (c : Head) → length (entry c).args.t.now ≤ 8192
 short c = (entry c).requires.1
 
 -- where the operand is a value
-reached : (c : tie.Else1 invariant-loop decreases-loop)
+reached : (c : tie.Else-not-part invariant-loop decreases-loop)
     → (let p = c.before.before in
-    (head p).loop.at + p.value_test.result.end ≤ length (entry (head p)).args.t.now)
+    (head p).loop-j.at + p.value_test-part.result.end ≤ length (entry (head p)).args.t.now)
 reached c =
     let p : OperandTested = search in
-    find_reached (head p).loop.inv (search) p.value_test.ensures (not-false _ c.if1.false)
+    find_reached (head p).loop-j.invariant (search) p.value_test-part.ensures (not-false _ c.if-not-part.false)
 
 pub first_computation_spec : {M : Type 1} → statement M
 first_computation_spec =
@@ -56,30 +56,30 @@ first_computation_spec =
     decreases-loop
     (λ c.
     let s : Entry = search in
-    not_empty s.pre.0)
+    not_empty s.requires.0)
     (λ c κs. search rules)
     (λ c κs. search rules)
     (λ c κs. search rules)
     (λ c.
     let s : Entry = search in
-    let n : tie.After-part-count invariant-loop decreases-loop = search in
-    find_enter _ _ _ _ _ s.pre.0 c.before.kind.ensures n.part_count.ensures.0 c.operand-count.ensures)
+    let n : tie.After-part_count-n invariant-loop decreases-loop = search in
+    find_enter _ _ _ _ _ s.requires.0 c.before.kind.ensures n.part_count-n.ensures.0 c.operand_count-m.ensures)
     (λ c. omega (arith, inside (search), short (search)))
     (λ c. inside (search))
     (λ c. omega (arith, inside (search)))
     (λ c. search rules)
     (λ c κs.
     let l : Head = search in (
-      part_starts _ _ l.loop.inv.going (find_part l.loop.inv (search)),
-      omega (arith, from_length (entry l).args.t.now l.loop.at, short l),
+      part_starts _ _ l.loop-j.invariant.going (find_part l.loop-j.invariant (search)),
+      omega (arith, from_length (entry l).args.t.now l.loop-j.at, short l),
     ))
     (λ c.
     let p : OperandTested = search in
-    find_first (head p).loop.inv (search) p.value_test.ensures _ (not-true _ c.if1.true) refl refl refl)
+    find_first (head p).loop-j.invariant (search) p.value_test-part.ensures _ (not-true _ c.if-not-part.true) refl refl refl)
     (λ c. omega (arith, reached (search), short (search)))
     (λ c. search rules)
     (λ c. search rules)
     (λ c.
     let p : OperandTested = search in
-    find_next (head p).loop.inv (search) p.value_test.ensures (not-false _ c.before.if1.false))
-    (λ c. find_none c.before.loop.invariant _ c.loop-test.false refl))
+    find_next (head p).loop-j.invariant (search) p.value_test-part.ensures (not-false _ c.before.if-not-part.false))
+    (λ c. find_none c.before.loop-j.invariant _ c.loop-j-test.false refl))

@@ -21,10 +21,10 @@ fit_spec =
     (λ c. search rules)
     (λ c.
     let enum_told = c.before.before.enum_told in
-    fits_insertion _ _ enum_told.given.1 c.before.first-computation.ensures c.only_if.ensures)
+    fits_insertion _ _ enum_told.given.1 c.before.first_computation-operand.ensures c.only_if.ensures)
     (λ c.
     let enum-told2 = c.before.before.before.before.enum-told2 in
     let kind_at = c.before.before.before.kind_at in
     let kind-at2 = c.before.before.kind-at2 in
-    fits_reduction _ _ enum-told2.given.1 kind_at.ensures kind-at2.ensures c.before.kind-at3.ensures c.fit-kinds.ensures)
-    (λ c. fits_dropping _ _ c.enum-told3.given.1))
+    fits_reduction _ _ enum-told2.given.1 kind_at.ensures kind-at2.ensures c.before.kind_at-in-Reduction-2.ensures c.fit_kinds.ensures)
+    (λ c. fits_dropping _ _ c.enum_told-in-Dropping-1.given.1))

@@ -9,4 +9,4 @@ use Rattle.search.proofs.fits.kind_at.Tie as tie
 pub kind_at_spec : {M : Type 1} → statement M
 kind_at_spec = tie.close (tie.spec (λ c. search rules) (λ c. search rules) (λ c κs. search rules) (λ c. search rules) (λ c.
     let args = c.before.before.args in
-    sym (ap (λ (w : ℕ). w / 2 ^ 60) (get_or-eq_default args.t.now 0 c.if1.false))))
+    sym (ap (λ (w : ℕ). w / 2 ^ 60) (get_or-eq_default args.t.now 0 c.if-i-t.false))))

@@ -23,5 +23,5 @@ mark_spec =
     (λ c. search rules)
     (λ c.
     let pre = c.before.before.requires in
-    mark_binder _ _ _ _ c.before.if1.true pre.deep)
-    (λ c. mark_input _ _ _ _ c.if1.false))
+    mark_binder _ _ _ _ c.before.if-number-depth.true pre.deep)
+    (λ c. mark_input _ _ _ _ c.if-number-depth.false))

@@ -32,15 +32,15 @@ may_drop_spec =
     (λ c κs. search rules)
     (λ c.
     let s : tie.Start = search in
-    let k : tie.After-kind = search in
+    let k : tie.After-kind-k = search in
     let n : tie.After-number = search in
-    let t : tie.Then1 = search in
-    ap not (c.call-acts.ensures ∙ ap (acts s.args.calls.now) n.number.ensures)
-    ∙ a_call _ _ _ (sym k.kind.ensures ∙ t.if1.taken))
+    let t : tie.Then-k-eq1 = search in
+    ap not (c.call_acts-acts.ensures ∙ ap (acts s.args.calls.now) n.number.ensures)
+    ∙ a_call _ _ _ (sym k.kind-k.ensures ∙ t.if-k-eq1.true))
     (λ c.
     let s : tie.Start = search in
-    let k : tie.After-kind = search in
-    ap not s.pre ∙ an_application _ _ _ (sym k.kind.ensures ∙ c.if2.true))
+    let k : tie.After-kind-k = search in
+    ap not s.requires ∙ an_application _ _ _ (sym k.kind-k.ensures ∙ c.if-k-eq3.true))
     (λ c.
-    let k : tie.After-kind = search in
-    another _ _ _ (λ e. c.before.if1.false (k.kind.ensures ∙ e)) (λ e. c.if2.false (k.kind.ensures ∙ e))))
+    let k : tie.After-kind-k = search in
+    another _ _ _ (λ e. c.before.if-k-eq1.false (k.kind-k.ensures ∙ e)) (λ e. c.if-k-eq3.false (k.kind-k.ensures ∙ e))))

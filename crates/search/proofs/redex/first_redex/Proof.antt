@@ -9,20 +9,20 @@ use Rattle.search.proofs.ForwardScan.{Scanned, forward_enter, forward_starts, fo
 use Rattle.search.proofs.redex.first_redex.Statement.{statement}
 use Rattle.search.proofs.redex.first_redex.Tie as tie
 
-abbrev invariant-loop : tie.invariant-loop
+abbrev invariant-loop : tie.invariant-loop-k
 invariant-loop phase calls rest k₀ k = Scanned phase calls rest k
 
-abbrev decreases-loop : tie.decreases-loop
+abbrev decreases-loop : tie.decreases-loop-k
 decreases-loop phase calls rest k₀ k = length rest - k
 
 abbrev Entry : Type 0
 Entry = tie.Start invariant-loop decreases-loop
 
 abbrev Head : Type 0
-Head = tie.At-loop invariant-loop decreases-loop
+Head = tie.At-loop-k invariant-loop decreases-loop
 
 abbrev Tried : Type 0
-Tried = tie.After-fit invariant-loop decreases-loop
+Tried = tie.After-fit-found invariant-loop decreases-loop
 
 abbrev entry : Head → Entry
 entry c = c.before.before.before
@@ -44,15 +44,15 @@ first_redex_spec =
     (λ c κs.
     let l : Head = search in
     let s = entry l in
-    (forward_starts _ _ _ _ (search) s.pre.0, omega (arith, from_length s.args.rest.now l.loop.k, s.pre.1)))
+    (forward_starts _ _ _ _ (search) s.requires.0, omega (arith, from_length s.args.rest.now l.loop-k.k, s.requires.1)))
     (λ c. search rules)
     (λ c.
     let f : Tried = search in
-    forward_found _ _ _ _ (search) (head f).loop.inv f.fit.ensures _ _ c.before.found.given.1)
+    forward_found _ _ _ _ (search) (head f).loop-k.invariant f.fit-found.ensures _ _ c.before.found-1.given.1)
     (λ c. search rules)
     (λ c. search rules)
     (λ c. search rules)
     (λ c.
     let f : Tried = search in
-    forward_next _ _ _ _ (search) (head f).loop.inv f.fit.ensures c.enum_told.given.1)
-    (λ c. forward_end _ _ _ _ c.before.loop.invariant c.loop-test.false))
+    forward_next _ _ _ _ (search) (head f).loop-k.invariant f.fit-found.ensures c.enum_told-1.given.1)
+    (λ c. forward_end _ _ _ _ c.before.loop-k.invariant c.loop-k-test.false))

@@ -25,18 +25,18 @@ use Rattle.search.proofs.unused.+scan_part.{statement}
 use Rattle.search.proofs.unused.+scan_part.Tie.{close}
 use Rattle.search.proofs.unused.+scan_part.Proof.Measures.{μ_scan_part, scan_part_at, claims}
 
-abbrev invariant-loop : lts.invariant-loop
+abbrev invariant-loop : lts.invariant-loop-owed
 invariant-loop calls acting t used₀ depth base owed₀ later₀ fresh₀ under₀ at₀ first₀ used owed later fresh under at first =
     Scanning calls t base depth used₀ used owed later under at fresh first
 
-abbrev decreases-loop : lts.decreases-loop
+abbrev decreases-loop : lts.decreases-loop-owed
 decreases-loop calls acting t used₀ depth base owed₀ later₀ fresh₀ under₀ at₀ first₀ used owed later fresh under at first =
     16 * (length t - at) + later
 
 -- the type of a place of the code
 abbrev Place : Type 1
 Place =
-    lts.Claims → In 3 lts.ps → ((κs : Lfts 3) (a : Dens κs lts.ps) → Plain 3 lts.ps lts.r κs) → lts.invariant-loop → lts.decreases-loop → Type 0
+    lts.Claims → In 3 lts.ps → ((κs : Lfts 3) (a : Dens κs lts.ps) → Plain 3 lts.ps lts.r κs) → lts.invariant-loop-owed → lts.decreases-loop-owed → Type 0
 
 -- the terms ahead have words, and all words have places
 record Reach (at ahead len base : ℕ) : Type 0 where
@@ -53,22 +53,22 @@ module _ (m : ℕ) where
   Entry = place lts.Start
 
   abbrev Head : Type 0
-  Head = place lts.At-loop
+  Head = place lts.At-loop-owed
 
   abbrev RowDone : Type 0
-  RowDone = place lts.Then1
+  RowDone = place lts.Then-owed-eq0
 
   abbrev Ahead : Type 0
-  Ahead = place lts.Else1
+  Ahead = place lts.Else-owed-eq0
 
   abbrev Kinded : Type 0
-  Kinded = place lts.After-kind
+  Kinded = place lts.After-kind-k
 
   abbrev Counted : Type 0
-  Counted = place lts.After-outer-count
+  Counted = place lts.After-outer_count-outer
 
   abbrev Called : Type 0
-  Called = place lts.After-scan-part
+  Called = place lts.After-scan_part-part
 
   abbrev entry : Head → Entry
   entry c = c.before.before.before.before
@@ -94,72 +94,72 @@ module _ (m : ℕ) where
   -- at the head of the loop
   reach : (c : Head)
       → (let s = (entry c).args in
-      let l = c.loop in
+      let l = c.loop-owed in
       Reach l.at (l.owed + l.later) (length s.t.now) s.base)
   reach c = record {
-    inside = march_inside _ _ c.loop.invariant.going;
+    inside = march_inside _ _ c.loop-owed.invariant.going;
     short = (entry c).requires.1.1.0;
     placed = (entry c).requires.1.1.1;
   }
 
-  deep : (c : Head) → c.loop.under ≤ length c.loop.used
-  deep c = omega (arith, c.loop.invariant.near, reach c, (entry c).requires.1.0.1.deep, c.loop.invariant.len)
+  deep : (c : Head) → c.loop-owed.under ≤ length c.loop-owed.used
+  deep c = omega (arith, c.loop-owed.invariant.near, reach c, (entry c).requires.1.0.1.deep, c.loop-owed.invariant.len)
 
   -- where the first row is empty, and there is a second
-  second : (c : RowDone) → 1 ≤ (done_head c).loop.later
-  second c = omega (arith, c.if1.true, c.before.loop-test.true)
+  second : (c : RowDone) → 1 ≤ (done_head c).loop-owed.later
+  second c = omega (arith, c.if-owed-eq0.true, c.before.loop-owed-test.true)
 
-  marked : (c : RowDone) → (done_head c).loop.under < length (done_head c).loop.used
-  marked c = scan_deep _ _ _ _ _ (done_head c).loop.invariant (entry (done_head c)).pre.1.0.1 (second c)
+  marked : (c : RowDone) → (done_head c).loop-owed.under < length (done_head c).loop-owed.used
+  marked c = scan_deep _ _ _ _ _ (done_head c).loop-owed.invariant (entry (done_head c)).requires.1.0.1 (second c)
 
-  shallow : (c : RowDone) → (done_head c).loop.under < 65536
-  shallow c = omega (arith, marked c, (done_head c).loop.invariant.len, (entry (done_head c)).pre.1.0.1.small)
+  shallow : (c : RowDone) → (done_head c).loop-owed.under < 65536
+  shallow c = omega (arith, marked c, (done_head c).loop-owed.invariant.len, (entry (done_head c)).requires.1.0.1.small)
 
   -- where a term of the first row is ahead
-  some : (c : Ahead) → 1 ≤ (head c).loop.owed
-  some c = omega (arith, c.if1.false)
+  some : (c : Ahead) → 1 ≤ (head c).loop-owed.owed
+  some c = omega (arith, c.if-owed-eq0.false)
 
   abbrev tail : Ahead → List ℕ
-  tail c = from (entry (head c)).args.t.now (head c).loop.at
+  tail c = from (entry (head c)).args.t.now (head c).loop-owed.at
 
   starts : (c : Ahead) → Starts (entry (head c)).args.calls.now (tail c)
-  starts c = scan_starts _ _ _ _ _ (head c).loop.invariant (some c)
+  starts c = scan_starts _ _ _ _ _ (head c).loop-owed.invariant (some c)
 
-  room : (c : Ahead) → MarkSpace (head c).loop.used (head c).loop.under (length (tail c))
-  room c = scan_room _ _ _ _ _ (head c).loop.invariant (some c) (entry (head c)).pre.1.0.1
+  room : (c : Ahead) → MarkSpace (head c).loop-owed.used (head c).loop-owed.under (length (tail c))
+  room c = scan_room _ _ _ _ _ (head c).loop-owed.invariant (some c) (entry (head c)).requires.1.0.1
 
-  rest : (c : Ahead) → length (tail c) + (head c).loop.at ≡ length (entry (head c)).args.t.now
-  rest c = omega (arith, from_length (entry (head c)).args.t.now (head c).loop.at, reach (head c))
+  rest : (c : Ahead) → length (tail c) + (head c).loop-owed.at ≡ length (entry (head c)).args.t.now
+  rest c = omega (arith, from_length (entry (head c)).args.t.now (head c).loop-owed.at, reach (head c))
 
   -- where its parts are counted
   parts : (c : Counted)
-      → (let l = (turn c).loop in
+      → (let l = (turn c).loop-owed in
       let s = (entry (turn c)).args in
-      NodeParts s.calls.now (get_or s.t.now l.at 0) (kinded c).kind.result c.before.part_count.result
-      c.outer-count.result)
+      NodeParts s.calls.now (get_or s.t.now l.at 0) (kinded c).kind-k.result c.before.part_count-n.result
+      c.outer_count-outer.result)
   parts c = record {
-    kind_is = (kinded c).kind.ensures;
-    compound = c.before.before.if2.false;
-    parts_are = c.before.part_count.ensures.0;
-    outers_are = c.outer-count.ensures;
+    kind_is = (kinded c).kind-k.ensures;
+    compound = c.before.before.if-k-eq0.false;
+    parts_are = c.before.part_count-n.ensures.0;
+    outers_are = c.outer_count-outer.ensures;
   }
 
-  few : (c : Counted) → c.before.part_count.result ≤ 15
-  few c = c.before.part_count.ensures.1
+  few : (c : Counted) → c.before.part_count-n.result ≤ 15
+  few c = c.before.part_count-n.ensures.1
 
   -- where it is left to a call
-  fewer : (c : place lts.Else4)
+  fewer : (c : place lts.Else-owed-later-eq1)
       → (let a = ahead (kinded c.before.before) in
       length (tail a) < length (entry (head a)).args.t.now)
-  fewer c = omega (arith, rest (search), (turn c.before.before).loop.inv.further c.if4.false)
+  fewer c = omega (arith, rest (search), (turn c.before.before).loop-owed.invariant.further c.if-owed-later-eq1.false)
 
   moved : (c : Called)
       → (let l = turn (counted c) in
-      let e = c.scan_part.result.end in
-      (1 ≤ e) × (l.loop.at + e ≤ length (entry l).args.t.now))
+      let e = c.scan_part-part.result.end in
+      (1 ≤ e) × (l.loop-owed.at + e ≤ length (entry l).args.t.now))
   moved c =
-      let a = c.scan_part.ensures in
-      (part_moves (turn (counted c)).loop.inv (some (search)) a, omega (arith, a.within, rest (search)))
+      let a = c.scan_part-part.ensures in
+      (part_moves (turn (counted c)).loop-owed.invariant (some (search)) a, omega (arith, a.within, rest (search)))
 
   scan_part_meets : {M : Type 1} → lts.Closed (claims m) (scan_part_at m) scan-part-reads.Post M
   scan_part_meets =
@@ -171,20 +171,20 @@ module _ (m : ℕ) where
       decreases-loop
       (λ c.
       let s : Entry = search in
-      scan_begin _ _ _ _ _ s.pre.1.0.0 s.pre.1.0.1)
+      scan_begin _ _ _ _ _ s.requires.1.0.0 s.requires.1.0.1)
       (λ c. omega (arith, reach (search)))
       (λ c. omega (arith, shallow (search)))
       (λ c. marked (search))
       (λ c. omega (arith, shallow (search)))
       (λ c. omega (arith, second (search)))
-      (λ c. scan_open _ _ _ _ _ (done_head c).loop.invariant c.if1.true (second c) (marked c))
+      (λ c. scan_open _ _ _ _ _ (done_head c).loop-owed.invariant c.if-owed-eq0.true (second c) (marked c))
       (λ c. omega (arith, reach (search)))
       (λ c. omega (arith, reach (search), some (search)))
       (λ c κs. search rules)
       (λ c κs. search rules)
       (λ c κs.
       let l : Head = search in
-      scan_raisable _ _ _ _ _ l.loop.inv (some (search)) (entry l).pre.1.0.1 _ (omega arith))
+      scan_raisable _ _ _ _ _ l.loop-owed.invariant (some (search)) (entry l).requires.1.0.1 _ (omega arith))
       (λ c. omega (arith, reach (search)))
       (λ c. omega (arith, some (search)))
       (λ c. omega (arith, reach (search), some (search)))
@@ -193,15 +193,15 @@ module _ (m : ℕ) where
       let k : Kinded = search in
       let v : place lts.After-number = search in
       let a : place lts.After-mark = search in
-      scan_variable l.loop.inv (some (search)) _ k.kind.ensures _ _ (search) v.number.ensures a.mark.ensures
-      a.mark.kept.0)
+      scan_variable l.loop-owed.invariant (some (search)) _ k.kind-k.ensures _ _ (search) v.number.ensures a.mark.ensures
+      a.mark.auto.used)
       (λ c κs. search rules)
       (λ c κs. search rules)
       (λ c. omega (arith, reach (search)))
       (λ c. omega (arith, some (search)))
       (λ c. omega (arith, reach (search), few (search)))
       (λ c. omega (arith, reach (search), some (search)))
-      (λ c. scan_flat (turn c.before).loop.inv (some (search)) (parts (search)) c.if3.true)
+      (λ c. scan_flat (turn c.before).loop-owed.invariant (some (search)) (parts (search)) c.if-outer-n.true)
       (λ c. omega (arith, reach (search)))
       (λ c. omega (arith, reach (search)))
       (λ c. omega (arith, reach (search)))
@@ -210,16 +210,16 @@ module _ (m : ℕ) where
       (λ c. omega (arith, reach (search)))
       (λ c κs.
       let l : Head = search in
-      (starts (search), omega (arith, rest (search), reach (search)), omega (arith, reach (search)), (entry l).pre.1.0.2))
+      (starts (search), omega (arith, rest (search), reach (search)), omega (arith, reach (search)), (entry l).requires.1.0.2))
       (λ c. omega (arith, reach (search)))
       (λ c.
       let l : Head = search in
-      outer_few l.loop.inv (some (search)) (parts (search)))
+      outer_few l.loop-owed.invariant (some (search)) (parts (search)))
       (λ c. omega (arith, reach (search), some (search), few (search)))
       (λ c.
       let l : Head = search in
-      let b : place lts.Then4 = search in
-      scan_enter l.loop.inv (some (search)) (parts (search)) _ b.before.if3.left b.if4.taken c.open-mark.ensures)
+      let b : place lts.Then-owed-later-eq1 = search in
+      scan_enter l.loop-owed.invariant (some (search)) (parts (search)) _ b.before.if-outer-n.false b.if-owed-later-eq1.true c.open_mark-fresh.ensures)
       (λ c. omega (arith, reach (search)))
       (λ c. omega (arith, reach (search)))
       (λ c. omega (arith, reach (search)))
@@ -228,7 +228,7 @@ module _ (m : ℕ) where
       (λ c κs. (
         omega (arith, fewer (search)),
         (
-          (starts (search), room (search), let l : Head = search in (entry l).pre.1.0.2),
+          (starts (search), room (search), let l : Head = search in (entry l).requires.1.0.2),
           (omega (arith, rest (search), reach (search)), omega (arith, rest (search), reach (search))),
         ),
       ))
@@ -238,12 +238,12 @@ module _ (m : ℕ) where
       (λ c. omega (arith, moved (search)))
       (λ c.
       let a : Called = search in
-      scan_part (turn (counted a)).loop.inv (some (search)) _ _ _ a.scan_part.ensures (search) a.scan_part.kept.1.1.1.0)
-      (λ c κs. (c.before.before.loop.invariant.known, deep (search)))
-      (λ c. let l : Head = search in l.loop.inv.len)
+      scan_part (turn (counted a)).loop-owed.invariant (some (search)) _ _ _ a.scan_part-part.ensures (search) a.scan_part-part.auto.used)
+      (λ c κs. (c.before.loop-owed.invariant.known, deep (search)))
+      (λ c. let l : Head = search in l.loop-owed.invariant.len)
       (λ c.
-      let l : place lts.After-loop = search in
-      scan_end _ _ _ _ _ l.before.loop.inv _ (omega (arith, l.loop-test.left)) refl c.least-mark.ensures)
+      let l : place lts.After-loop-owed = search in
+      scan_end _ _ _ _ _ l.before.loop-owed.invariant _ (omega (arith, l.loop-owed-test.false)) refl c.least_mark.ensures)
 
-pub +scan-part-spec : {M : Type 1} → statement M
-+scan-part-spec = close μ_scan_part λ m. scan_part_meets m
+pub +scan_part_spec : {M : Type 1} → statement M
++scan_part_spec = close μ_scan_part λ m. scan_part_meets m

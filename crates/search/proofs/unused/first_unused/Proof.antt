@@ -24,15 +24,15 @@ first_unused_spec =
     (λ c.
     let at-has-let = c.before in
     let pre = at-has-let.before.before.before.before.requires in
-    finds_none (no_let _ (sym at-has-let.has-let.ensures ∙ not-true _ c.if1.true)) pre.0.2)
+    finds_none (no_let _ (sym at-has-let.has_let.ensures ∙ c.if-not-has_let.true)) pre.0.2)
     (λ c κs. search rules)
     (λ c. search rules)
     (λ c.
     let at-scan-part = c.before.before.before in
     let pre = at-scan-part.before.before.before.before.before.before.before.requires in
-    finds_redex at-scan-part.scan_part.ensures pre.0.2 c.if2.true)
+    finds_redex at-scan-part.scan_part-scan.ensures pre.0.2 c.if-first-lt-NO_PLACE.true)
     (λ c. search rules)
     (λ c.
     let at-scan-part = c.before.before.before in
     let pre = at-scan-part.before.before.before.before.before.before.before.requires in
-    finds_nothing at-scan-part.scan_part.ensures pre.0.2 c.if2.false))
+    finds_nothing at-scan-part.scan_part-scan.ensures pre.0.2 c.if-first-lt-NO_PLACE.false))

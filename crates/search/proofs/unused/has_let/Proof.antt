@@ -9,10 +9,10 @@ use borrow.Author.Rules.{rules}
 use Rattle.search.proofs.unused.has_let.Statement.{statement}
 use Rattle.search.proofs.unused.has_let.Tie as tie
 
-abbrev invariant-loop : tie.invariant-loop
+abbrev invariant-loop : tie.invariant-loop-i
 invariant-loop t i₀ i = NoneBefore is_let t i
 
-abbrev decreases-loop : tie.decreases-loop
+abbrev decreases-loop : tie.decreases-loop-i
 decreases-loop t i₀ i = length t - i
 
 pub has_let_spec : {M : Type 1} → statement M
@@ -28,13 +28,13 @@ has_let_spec =
     (λ c.
     let at_kind = c.before in
     let at-loop-test = at_kind.before.before in
-    word_passes is_let at-loop-test.before.loop.invariant at-loop-test.loop-test.true
-    (eq-eqb _ 4 (sym at_kind.kind.ensures ∙ c.if1.true)))
+    word_passes is_let at-loop-test.before.loop-i.invariant at-loop-test.loop-i-test.true
+    (eq-eqb _ 4 (sym at_kind.kind.ensures ∙ c.if-kind-eq4.true)))
     (λ c. search rules)
     (λ c. search rules)
     (λ c.
     let at_kind = c.before in
     let at-loop-test = at_kind.before.before in
-    word_fails is_let at-loop-test.before.loop.invariant at-loop-test.loop-test.true
-    (ne_eqb _ 4 λ z. c.if1.false (at_kind.kind.ensures ∙ z)))
-    (λ c. none_passes is_let c.before.loop.invariant c.loop-test.false))
+    word_fails is_let at-loop-test.before.loop-i.invariant at-loop-test.loop-i-test.true
+    (ne_eqb _ 4 λ z. c.if-kind-eq4.false (at_kind.kind.ensures ∙ z)))
+    (λ c. none_passes is_let c.before.loop-i.invariant c.loop-i-test.false))

@@ -15,10 +15,10 @@ record Sofar (used : List ℕ) (start end first least d : ℕ) : Type 0 where
   inside : d ≤ end
   so_far : LeastMark used start d first least
 
-abbrev invariant-loop : tie.invariant-loop
+abbrev invariant-loop : tie.invariant-loop-d
 invariant-loop used start end first least₀ d₀ least d = Sofar used start end first least d
 
-abbrev decreases-loop : tie.decreases-loop
+abbrev decreases-loop : tie.decreases-loop-d
 decreases-loop used start end first least₀ d₀ least d = end - d
 
 module _ {used : List ℕ} {start end first : ℕ} where
@@ -63,9 +63,9 @@ least_mark_spec =
     decreases-loop
     (λ c. begin c.before.requires.0)
     (λ c. search rules)
-    (λ c. omega (arith, c.before.loop-test.true, c.before.before.before.before.requires.1))
+    (λ c. omega (arith, c.before.loop-d-test.true, c.before.before.before.before.requires.1))
     (λ c κs. search rules)
     (λ c. search rules)
-    (λ c. omega (arith, c.before.before.loop-test.true))
-    (λ c. next c.before.before.before.loop.invariant c.before.before.loop-test.true c.lesser.ensures)
-    (λ c. ended c.before.loop.invariant c.loop-test.false))
+    (λ c. omega (arith, c.before.before.loop-d-test.true))
+    (λ c. next c.before.before.before.loop-d.invariant c.before.before.loop-d-test.true c.lesser-next.ensures)
+    (λ c. ended c.before.loop-d.invariant c.loop-d-test.false))

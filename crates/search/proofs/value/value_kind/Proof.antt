@@ -9,5 +9,5 @@ use Rattle.search.proofs.value.value_kind.Tie as tie
 pub value_kind_spec : {M : Type 1} → statement M
 unfolding value_kind
 value_kind_spec = tie.close
-    (tie.spec (λ c. ap value_kind (sym c.if1.true)) (λ c κs. search rules)
-    (λ c. c.shape_of.ensures.ty ∙ simp (ne_eqb _ 0 c.before.if1.false)))
+    (tie.spec (λ c. ap value_kind (sym c.if-k-eq0.true)) (λ c κs. search rules)
+    (λ c. c.shape_of-s.ensures.ty ∙ simp (ne_eqb _ 0 c.before.if-k-eq0.false)))

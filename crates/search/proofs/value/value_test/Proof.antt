@@ -56,10 +56,10 @@ module _ {counts : List ℕ} (table : Tabled value_parts counts) {k : ℕ} (l : 
       let high : leb 5 (value_parts k) ≡ true = le-leb 5 (value_parts k) (omega (arith, table.at_kind k l, h)) in
       not-true _ (kinds_imply (λ j. leb 5 (value_parts j)) (λ j. not (value_kind j)) refl k l high)
 
-abbrev invariant-loop : tie.invariant-loop
+abbrev invariant-loop : tie.invariant-loop-owed
 invariant-loop calls t counts owed₀ at₀ owed at = Tabled value_parts counts × Marching calls t ValuesSoFar 1 at owed
 
-abbrev decreases-loop : tie.decreases-loop
+abbrev decreases-loop : tie.decreases-loop-owed
 decreases-loop calls t counts owed₀ at₀ owed at = length t - at
 
 -- the places, from the top of the code to its end, and the way back from each to the one above it
@@ -67,16 +67,16 @@ abbrev Entry : Type 0
 Entry = tie.Start invariant-loop decreases-loop
 
 abbrev Head : Type 0
-Head = tie.At-loop invariant-loop decreases-loop
+Head = tie.At-loop-owed invariant-loop decreases-loop
 
 abbrev Turn : Type 0
-Turn = tie.In-loop invariant-loop decreases-loop
+Turn = tie.In-loop-owed invariant-loop decreases-loop
 
 abbrev Kinded : Type 0
 Kinded = tie.After-kind invariant-loop decreases-loop
 
 abbrev Function : Type 0
-Function = tie.After-part-size invariant-loop decreases-loop
+Function = tie.After-part_size-at invariant-loop decreases-loop
 
 abbrev start : Head → Entry
 start c = c.before.before.before.before
@@ -91,60 +91,60 @@ abbrev kinded : Function → Kinded
 kinded c = c.before.before.before.before
 
 -- at the head of the loop
-inside : (c : Head) → c.loop.at + c.loop.owed ≤ length (start c).args.t.now
-inside c = march_inside _ _ c.loop.invariant.1
+inside : (c : Head) → c.loop-owed.at + c.loop-owed.owed ≤ length (start c).args.t.now
+inside c = march_inside _ _ c.loop-owed.invariant.1
 
 short : (c : Head) → length (start c).args.t.now ≤ 8192
 short c = (start c).requires.1
 
 -- in a turn: a term is ahead
-some : (c : Turn) → 1 ≤ (head c).loop.owed
-some c = c.loop-test.true
+some : (c : Turn) → 1 ≤ (head c).loop-owed.owed
+some c = c.loop-owed-test.true
 
-rest_short : (c : Turn) → length (from (start (head c)).args.t.now (head c).loop.at) ≤ 8192
-rest_short c = omega (arith, from_length (start (head c)).args.t.now (head c).loop.at, short (head c))
+rest_short : (c : Turn) → length (from (start (head c)).args.t.now (head c).loop-owed.at) ≤ 8192
+rest_short c = omega (arith, from_length (start (head c)).args.t.now (head c).loop-owed.at, short (head c))
 
 -- where its kind is known
-in_table : tie.Need-array-read-n invariant-loop decreases-loop
-in_table c = omega (arith, c.kind.ensures, c.before.shared-slice-known3.given (head (turn c)).loop.at)
+in_table : tie.Need-bounds-counts-kind invariant-loop decreases-loop
+in_table c = omega (arith, c.kind.ensures, c.before.shared_slice_known-in-loop-owed-1.given (head (turn c)).loop-owed.at)
 
 -- where a function is measured
-moved : (c : Function) → 1 ≤ c.part-size.result
+moved : (c : Function) → 1 ≤ c.part_size-at.result
 moved c =
     let k = kinded c in
-    function_words (head (turn k)).loop.inv.1 (some (turn k)) k.kind.ensures _ c.part-size.ensures
+    function_words (head (turn k)).loop-owed.invariant.1 (some (turn k)) k.kind.ensures _ c.part_size-at.ensures
 
-reached : (c : Function) → (head (turn (kinded c))).loop.at + c.part-size.result ≤ length (start (head (turn (kinded c)))).args.t.now
+reached : (c : Function) → (head (turn (kinded c))).loop-owed.at + c.part_size-at.result ≤ length (start (head (turn (kinded c)))).args.t.now
 reached c =
     let l = head (turn (kinded c)) in
-    omega (arith, c.part-size.ensures.within, from_length (start l).args.t.now l.loop.at, inside l)
+    omega (arith, c.part_size-at.ensures.within, from_length (start l).args.t.now l.loop-owed.at, inside l)
 
-begins : tie.Need-loop-init invariant-loop decreases-loop
-begins c = (c.value_parts_lem.ensures, test_begin c.before.before.before.requires.0)
+begins : tie.Need-loop-owed-init invariant-loop decreases-loop
+begins c = (c.value_parts-counts.ensures, test_begin c.before.before.before.requires.0)
 
 -- past a value's node
-again : tie.Need-loop-preserved invariant-loop decreases-loop
+again : tie.Need-loop-owed-preserved-then-n-lt-FUNCTION invariant-loop decreases-loop
 again c =
     let k = c.before in
-    let inv = (head (turn k)).loop.inv in
-    let o = opened inv.0 (in_table k) (omega (arith, c.if1.true)) in
+    let inv = (head (turn k)).loop-owed.invariant in
+    let o = opened inv.0 (in_table k) (omega (arith, c.if-n-lt-FUNCTION.true)) in
     let many = (of_kind _ _ _ _ k.kind.ensures o.no_call o.parts_are).0 in
     (inv.0, test_open inv.1 (some (turn k)) k.kind.ensures _ o.of_value o.no_function many)
 
 -- past a function
-again_2 : tie.Need-loop-preserved-2 invariant-loop decreases-loop
+again_2 : tie.Need-loop-owed-preserved invariant-loop decreases-loop
 again_2 c =
     let k = kinded c in
-    let inv = (head (turn k)).loop.inv in
-    let is = function inv.0 (in_table k) c.before.before.if2.true in
-    (inv.0, test_function inv.1 (some (turn k)) k.kind.ensures _ is c.part-size.ensures)
+    let inv = (head (turn k)).loop-owed.invariant in
+    let is = function inv.0 (in_table k) c.before.before.if-n-eq-FUNCTION.true in
+    (inv.0, test_function inv.1 (some (turn k)) k.kind.ensures _ is c.part_size-at.ensures)
 
 -- at a computation's node
-returns : tie.Need-returns invariant-loop decreases-loop
+returns : tie.Need-returns-else-n-eq-FUNCTION invariant-loop decreases-loop
 returns c =
     let k = c.before.before in
-    let inv = (head (turn k)).loop.inv in
-    let none = no_value inv.0 (in_table k) (omega (arith, c.before.if1.false, c.if2.false)) in
+    let inv = (head (turn k)).loop-owed.invariant in
+    let none = no_value inv.0 (in_table k) (omega (arith, c.before.if-n-lt-FUNCTION.false, c.if-n-eq-FUNCTION.false)) in
     test_computation inv.1 (some (turn k)) k.kind.ensures _ none refl
 
 pub value_test_spec : {M : Type 1} → statement M
@@ -159,9 +159,9 @@ value_test_spec =
     (λ c. omega (arith, inside (search), some (search)))
     (λ c κs. search rules)
     in_table
-    (λ c. omega (arith, bounded (head (turn c)).loop.inv.0 (in_table c)))
+    (λ c. omega (arith, bounded (head (turn c)).loop-owed.invariant.0 (in_table c)))
     (λ c. some (search))
-    (λ c. omega (arith, inside (search), short (search), c.if1.true))
+    (λ c. omega (arith, inside (search), short (search), c.if-n-lt-FUNCTION.true))
     (λ c. omega (arith, inside (search), short (search)))
     (λ c. omega (arith, inside (search), some (search)))
     again
@@ -171,10 +171,10 @@ value_test_spec =
     (λ c. omega (arith, inside (search)))
     (λ c κs.
     let l : Head = search in
-    (march_first _ _ l.loop.inv.1 (some (search)), rest_short (search)))
+    (march_first _ _ l.loop-owed.invariant.1 (some (search)), rest_short (search)))
     (λ c. omega (arith, reached (search), short (search)))
     (λ c. some (search))
     (λ c. omega (arith, moved (search), reached (search)))
     again_2
     returns
-    (λ c. test_end c.before.loop.invariant.1 _ (omega (arith, c.loop-test.false)) refl refl))
+    (λ c. test_end c.before.loop-owed.invariant.1 _ (omega (arith, c.loop-owed-test.false)) refl refl))
