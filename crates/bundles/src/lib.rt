@@ -1,4 +1,5 @@
 // Bundles and listings: the bytes that the program reads, and those that it writes.
+#![tactic(auto)]
 
 pub mod read; // read.rt: the public call `read_bundle`
 mod numerals; // numerals.rt: decimal and hexadecimal numbers as text

@@ -8,10 +8,10 @@ use Rattle.bundles.proofs.ListedFields.{Sizing, size_none, size_more, size_all_l
 use Rattle.bundles.proofs.listing.counts_size.Statement.{statement}
 use Rattle.bundles.proofs.listing.counts_size.Tie as tie
 
-abbrev invariant-loop : tie.invariant-loop
+abbrev invariant-loop : tie.invariant-loop-i
 invariant-loop counts size₀ i₀ size i = (length counts ≡ 10) × Sizing counts size i
 
-abbrev decreases-loop : tie.decreases-loop
+abbrev decreases-loop : tie.decreases-loop-i
 decreases-loop counts size₀ i₀ size i = 10 - i
 
 pub counts_size_spec : {M : Type 1} → statement M
@@ -30,6 +30,6 @@ counts_size_spec =
     (λ c. search rules)
     (λ c. search rules)
     (λ c.
-    let loop = c.before.before.before.loop in
-    (loop.invariant.0, size_more _ _ loop.invariant.1 (omega arith) c.before.wide.ensures c.digit-count.ensures))
-    (λ c. let t = size_all_lem c.before.loop.invariant.1 (omega arith) (omega arith) in (t.0, omega arith)))
+    let loop = c.before.before.before.loop-i in
+    (loop.invariant.0, size_more _ _ loop.invariant.1 (omega arith) c.before.wide.ensures c.digit_count.ensures))
+    (λ c. let t = size_all_lem c.before.loop-i.invariant.1 (omega arith) (omega arith) in (t.0, omega arith)))

@@ -18,9 +18,9 @@ line_size_spec =
     (λ c κs. search rules)
     (λ c. search rules)
     (λ c.
-    let digit-count = c.before.before.digit-count in
-    let digit-count2 = c.before.digit-count2 in (
-      accepted_size _ _ _ _ _ _ (search rules) digit-count.ensures.0 digit-count2.ensures.0 c.counts-size.ensures.0,
+    let digit-count = c.before.before.digit_count in
+    let digit-count2 = c.before.digit_count-2 in (
+      accepted_size _ _ _ _ _ _ (search rules) digit-count.ensures.0 digit-count2.ensures.0 c.counts_size.ensures.0,
       omega
-          (arith, digit-count.ensures.1, digit-count2.ensures.1, c.counts-size.ensures.1),
+          (arith, digit-count.ensures.1, digit-count2.ensures.1, c.counts_size.ensures.1),
     )))

@@ -15,49 +15,49 @@ use borrow.Author.Rules.{rules}
 use Rattle.bundles.proofs.listing.list_accepted.Statement.{statement}
 use Rattle.bundles.proofs.listing.list_accepted.Tie as tie
 
-abbrev entry : tie.After-line-size → tie.Start
+abbrev entry : tie.After-line_size-size → tie.Start
 entry c = c.before.before.before
 
 -- where both tests are passed
-abbrev sized : tie.Else2 → tie.After-line-size
+abbrev sized : tie.Else-text-size-2 → tie.After-line_size-size
 sized c = c.before.before
 
 -- the listing, and how many bytes it takes
-abbrev bytes : tie.After-line-size → List ℕ
+abbrev bytes : tie.After-line_size-size → List ℕ
 bytes c =
     let s = (entry c).args in
     accepted_line s.ty s.length s.counts ++ lines (take s.length s.words.now)
 
-abbrev size : tie.After-line-size → ℕ
-size c = c.line_size.result + 17 * (entry c).args.length
+abbrev size : tie.After-line_size-size → ℕ
+size c = c.line_size-size.result + 17 * (entry c).args.length
 
-measured : (c : tie.After-line-size) → size c ≡ length (bytes c)
+measured : (c : tie.After-line_size-size) → size c ≡ length (bytes c)
 measured c =
     let s = (entry c).args in
-    listing_size s.counts s.words.now s.ty s.length _ (entry c).requires c.line_size.ensures.0
+    listing_size s.counts s.words.now s.ty s.length _ (entry c).requires c.line_size-size.ensures.0
 
-room : (c : tie.Else2) → TextRoom (entry (sized c)).args.text.now (size (sized c))
-room c = record { fits = omega (arith, c.before.if1.false, c.if2.false); small = omega (arith, (entry (sized c)).well-formed) }
+room : (c : tie.Else-text-size-2) → TextRoom (entry (sized c)).args.text.now (size (sized c))
+room c = record { fits = omega (arith, c.before.if-text-size.false, c.if-text-size-2.false); small = omega (arith, (entry (sized c)).well_formed) }
 
 pub list_accepted_spec : {M : Type 1} → statement M
 list_accepted_spec =
     tie.close
     (tie.spec
     (λ c κs. search rules)
-    (λ c. no_room _ (bytes c.before) (omega (arith, measured (search), c.if1.true)))
+    (λ c. no_room _ (bytes c.before) (omega (arith, measured (search), c.if-text-size.true)))
     (λ c. search rules)
-    (λ c. no_room _ (bytes c.before.before) (omega (arith, measured (search), c.before.if1.false, c.if2.true)))
-    (λ c κs. omega (arith, (sized (search)).line_size.ensures.0, room (search)))
+    (λ c. no_room _ (bytes c.before.before) (omega (arith, measured (search), c.before.if-text-size.false, c.if-text-size-2.true)))
+    (λ c κs. omega (arith, (sized (search)).line_size-size.ensures.0, room (search)))
     (λ c κs.
-    let p : tie.After-put-line = search in
-    ((entry (search)).requires, omega (arith, room (search), p.put-line.kept)))
+    let p : tie.After-put_line = search in
+    ((entry (search)).requires, omega (arith, room (search), p.put_line.auto)))
     (λ c. omega (arith, room (search)))
     (λ c. omega (arith, room (search)))
     (λ c. search rules)
     (λ c.
-    let p : tie.After-put-lines = search in
-    let p0 : tie.After-put-line = search in
-    let l : tie.After-line-size = search in
+    let p : tie.After-put_lines = search in
+    let p0 : tie.After-put_line = search in
+    let l : tie.After-line_size-size = search in
     let s = (entry l).args in
-    words_put s.counts s.words.now s.ty s.length _ (entry l).pre l.line_size.ensures.0 s.text.now _ _
-    (omega (arith, measured l, room (search))) p0.put-line.ensures p.put-lines.ensures))
+    words_put s.counts s.words.now s.ty s.length _ (entry l).requires l.line_size-size.ensures.0 s.text.now _ _
+    (omega (arith, measured l, room (search))) p0.put_line.ensures p.put_lines.ensures))

@@ -14,27 +14,27 @@ use Rattle.bundles.proofs.FieldsPut.{FieldsPut, fields_none, fields_end, next_ro
 use Rattle.bundles.proofs.listing.put_counts.Statement.{statement}
 use Rattle.bundles.proofs.listing.put_counts.Tie as tie
 
-abbrev invariant-loop : tie.invariant-loop
+abbrev invariant-loop : tie.invariant-loop-i
 invariant-loop text₀ at counts size₀ i₀ text size i = (length counts ≡ 10) × (i ≤ 9) × FieldsPut counts text₀ text at size i
 
-abbrev decreases-loop : tie.decreases-loop
+abbrev decreases-loop : tie.decreases-loop-i
 decreases-loop text₀ at counts size₀ i₀ text size i = 9 - i
 
 -- the loop's head; where a number is read, in the loop and behind it; and where its field is written
 abbrev Head : Type 0
-Head = tie.At-loop invariant-loop decreases-loop
+Head = tie.At-loop-i invariant-loop decreases-loop
 
 abbrev Next : Type 0
 Next = tie.After-wide invariant-loop decreases-loop
 
 abbrev NextPut : Type 0
-NextPut = tie.After-put-field invariant-loop decreases-loop
+NextPut = tie.After-put_field-size invariant-loop decreases-loop
 
 abbrev Last : Type 0
-Last = tie.After-wide2 invariant-loop decreases-loop
+Last = tie.After-wide-2 invariant-loop decreases-loop
 
 abbrev LastPut : Type 0
-LastPut = tie.After-put-field2 invariant-loop decreases-loop
+LastPut = tie.After-put_field invariant-loop decreases-loop
 
 abbrev entry : Head → tie.Start invariant-loop decreases-loop
 entry c = c.before.before
@@ -52,31 +52,31 @@ abbrev last : LastPut → Last
 last c = c.before.before
 
 abbrev counts : Head → List ℕ
-counts h = (entry h).args.t1
+counts h = (entry h).args.counts
 
 room : (c : Next)
-    → TextRoom (head c).loop.text ((entry (head c)).args.at + (head c).loop.size + (length (decimal c.wide.result) + 1))
+    → TextRoom (head c).loop-i.text ((entry (head c)).args.at + (head c).loop-i.size + (length (decimal c.wide.result) + 1))
 room c =
     let h = head c in
     record {
-      fits = next_room h.loop.inv.2 _ c.wide.ensures (omega arith);
-      small = omega (arith, h.loop.inv.2.len, (entry h).good);
+      fits = next_room h.loop-i.invariant.2 _ c.wide.ensures (omega arith);
+      small = omega (arith, h.loop-i.invariant.2.len, (entry h).well_formed);
     }
 
 goes_on : (c : NextPut) → (let h = head (next c) in
-    FieldsPut (counts h) (entry h).args.text.now c.put-field.new.1.1.0 (entry h).args.at
-    (h.loop.size + c.put-field.result) (h.loop.i + 1))
-goes_on c = next_put (head (next c)).loop.inv.2 _ (next c).wide.ensures _ _ (omega arith) c.put-field.ensures
+    FieldsPut (counts h) (entry h).args.text.now c.put_field-size.new.text (entry h).args.at
+    (h.loop-i.size + c.put_field-size.result) (h.loop-i.i + 1))
+goes_on c = next_put (head (next c)).loop-i.invariant.2 _ (next c).wide.ensures _ _ (omega arith) c.put_field-size.ensures
 
 nine : (c : Last) → (let h = left c in
-    FieldsPut (counts h) (entry h).args.text.now h.loop.text (entry h).args.at h.loop.size 9)
-nine c = fields_end 9 (left c).loop.invariant.2 (left c).loop.invariant.1 c.before.loop-test.false
+    FieldsPut (counts h) (entry h).args.text.now h.loop-i.text (entry h).args.at h.loop-i.size 9)
+nine c = fields_end 9 (left c).loop-i.invariant.2 (left c).loop-i.invariant.1 c.before.loop-i-test.false
 
 room_last : (c : Last)
-    → TextRoom (left c).loop.text ((entry (left c)).args.at + (left c).loop.size + (length (decimal c.wide2.result) + 1))
+    → TextRoom (left c).loop-i.text ((entry (left c)).args.at + (left c).loop-i.size + (length (decimal c.wide-2.result) + 1))
 room_last c = record {
-  fits = last_room (nine c) _ c.wide2.ensures (omega arith);
-  small = omega (arith, (nine c).len, (entry (left c)).good);
+  fits = last_room (nine c) _ c.wide-2.ensures (omega arith);
+  small = omega (arith, (nine c).len, (entry (left c)).well_formed);
 }
 
 pub put_counts_spec : {M : Type 1} → statement M
@@ -93,20 +93,20 @@ put_counts_spec =
     (λ c κs. (room (search)).fits)
     (λ c.
     let p : NextPut = search in
-    omega (arith, room (search), field_size _ _ p.put-field.ensures))
+    omega (arith, room (search), field_size _ _ p.put_field-size.ensures))
     (λ c. search rules)
     (λ c. search rules)
     (λ c.
     let h : Head = search in
-    (h.loop.inv.0, omega arith, goes_on (search)))
+    (h.loop-i.invariant.0, omega arith, goes_on (search)))
     (λ c. search rules)
     (λ c κs. search rules)
     (λ c. omega (arith, room_last (search)))
     (λ c κs. (room_last (search)).fits)
     (λ c.
     let p : LastPut = search in
-    omega (arith, room_last (search), field_size _ _ p.put-field2.ensures))
+    omega (arith, room_last (search), field_size _ _ p.put_field.ensures))
     (λ c. search rules)
     (λ c.
     let p : LastPut = search in
-    last_put (nine (last p)) _ (last p).wide2.ensures _ _ (omega arith) p.put-field2.ensures))
+    last_put (nine (last p)) _ (last p).wide-2.ensures _ _ (omega arith) p.put_field.ensures))

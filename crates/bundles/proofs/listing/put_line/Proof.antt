@@ -15,13 +15,13 @@ use Rattle.bundles.proofs.listing.put_line.Statement.{statement}
 use Rattle.bundles.proofs.listing.put_line.Tie as tie
 
 -- the way back from each call to the one before it
-abbrev entry : tie.After-put-start → tie.Start
-entry c = c.before.before.before.before
+abbrev entry : tie.After-put_start → tie.Start
+entry c = c.before.before.before.before.before
 
-abbrev started : tie.After-put-field → tie.After-put-start
+abbrev started : tie.After-put_field-second → tie.After-put_start
 started c = c.before.before.before.before
 
-abbrev first : tie.After-put-field2 → tie.After-put-field
+abbrev first : tie.After-put_field → tie.After-put_field-second
 first c = c.before.before.before.before
 
 -- how many bytes the parts take
@@ -41,28 +41,27 @@ some c = search rules
 room_0 : (c : tie.Start) → TextRoom c.args.text.now (3 + size_1 c + size_2 c + size_3 c)
 room_0 c = record {
   fits = omega (arith, length_accepted c.args.counts (some c) c.args.ty c.args.length, c.requires);
-  small = omega (arith, c.well-formed);
+  small = omega (arith, c.well_formed);
 }
 
-room_1 : (c : tie.After-put-start)
-    → (let s = entry c in TextRoom c.put-start.new.1.0 (3 + size_1 s + size_2 s + size_3 s))
-room_1 c = omega (arith, room_0 (search), c.put-start.auto)
+room_1 : (c : tie.After-put_start)
+    → (let s = entry c in TextRoom c.put_start.new.text (3 + size_1 s + size_2 s + size_3 s))
+room_1 c = omega (arith, room_0 (search), c.put_start.auto)
 
-room_2 : (c : tie.After-put-field)
-    → (let s = entry (started c) in TextRoom c.put-field.new.1.1.0 (3 + c.put-field.result + size_2 s + size_3 s))
-room_2 c = omega (arith, room_1 (search), c.put-field.auto, field_size _ _ c.put-field.ensures)
+room_2 : (c : tie.After-put_field-second)
+    → (let s = entry (started c) in TextRoom c.put_field-second.new.text (3 + c.put_field-second.result + size_2 s + size_3 s))
+room_2 c = omega (arith, room_1 (search), c.put_field-second.auto, field_size _ _ c.put_field-second.ensures)
 
-room_3 : (c : tie.After-put-field2)
+room_3 : (c : tie.After-put_field)
     → (let s = entry (started (first c)) in
-    TextRoom c.put-field2.new.1.1.0 (3 + (first c).put-field.result + c.put-field2.result + size_3 s))
-room_3 c = omega (arith, room_2 (search), c.put-field2.auto, field_size _ _ c.put-field2.ensures)
+    TextRoom c.put_field.new.text (3 + (first c).put_field-second.result + c.put_field.result + size_3 s))
+room_3 c = omega (arith, room_2 (search), c.put_field.auto, field_size _ _ c.put_field.ensures)
 
 pub put_line_spec : {M : Type 1} → statement M
 unfolding ascii
 put_line_spec =
     tie.close
     (tie.spec
-    (λ c. search rules)
     (λ c κs. (refl, omega (arith, room_0 (search))))
     (λ c κs. omega (arith, room_1 (search)))
     (λ c. omega (arith, room_2 (search)))
@@ -71,10 +70,10 @@ put_line_spec =
     (λ c κs. omega (arith, room_3 (search)))
     (λ c. search rules)
     (λ c.
-    let p : tie.After-put-counts = search in
-    let p2 : tie.After-put-field2 = search in
+    let p : tie.After-put_counts = search in
+    let p2 : tie.After-put_field = search in
     let p1 = first p2 in
     let p0 = started p1 in
     let s = (entry p0).args in
-    accepted_put s.text.now s.counts _ _ _ _ _ _ _ _ _ _ (some (search)) refl p0.put-start.ensures p1.put-field.ensures
-    p2.put-field2.ensures p.put-counts.ensures))
+    accepted_put s.text.now s.counts _ _ _ _ _ _ _ _ _ _ (some (search)) refl p0.put_start.ensures p1.put_field-second.ensures
+    p2.put_field.ensures p.put_counts.ensures))

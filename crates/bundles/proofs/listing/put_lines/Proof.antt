@@ -5,10 +5,10 @@ use Rattle.bundles.proofs.Lines.{LinesPut, lines_none, lines_more, lines_all}
 use Rattle.bundles.proofs.listing.put_lines.Statement.{statement}
 use Rattle.bundles.proofs.listing.put_lines.Tie as tie
 
-abbrev invariant-loop : tie.invariant-loop
+abbrev invariant-loop : tie.invariant-loop-i
 invariant-loop words n text₀ at i₀ text i = LinesPut words text₀ text at i n
 
-abbrev decreases-loop : tie.decreases-loop
+abbrev decreases-loop : tie.decreases-loop-i
 decreases-loop words n text₀ at i₀ text i = n - i
 
 pub put_lines_spec : {M : Type 1} → statement M
@@ -28,11 +28,11 @@ put_lines_spec =
     (λ c. search rules)
     (λ c. search rules)
     (λ c.
-    let loop = c.before.before.before.before.before.before.loop in
-    let loop-test = c.before.before.before.before.before.loop-test in
+    let loop = c.before.before.before.before.before.before.loop-i in
+    let loop-test = c.before.before.before.before.before.loop-i-test in
     let put_word = c.before.before.put_word in
     lines_more _ loop.invariant loop-test.true put_word.ensures)
     (λ c. search rules)
     (λ c.
-    let loop = c.before.loop in
-    lines_all loop.invariant c.loop-test.false))
+    let loop = c.before.loop-i in
+    lines_all loop.invariant c.loop-i-test.false))

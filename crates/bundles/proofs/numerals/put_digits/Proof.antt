@@ -16,22 +16,22 @@ use Rattle.bundles.proofs.numerals.put_digits.Tie as tie
 abbrev DigitTable : List ℕ → Type 0
 DigitTable table = (d : ℕ) → d < 16 → get_or table d 0 ≡ digit d
 
-abbrev invariant-loop : tie.invariant-loop
+abbrev invariant-loop : tie.invariant-loop-i
 invariant-loop n base count text₀ at digits left₀ i₀ text left i = DigitTable digits × DigitsPut base n count text₀ text at i left
 
-abbrev decreases-loop : tie.decreases-loop
+abbrev decreases-loop : tie.decreases-loop-i
 decreases-loop n base count text₀ at digits left₀ i₀ text left i = i
 
-in_table : tie.Need-array-read-text invariant-loop decreases-loop
+in_table : tie.Need-bounds-digits-d invariant-loop decreases-loop
 in_table c =
     let pre = c.before.before.before.before.requires in
-    omega (arith, mod-lt c.before.loop.left pre.0, pre.1)
+    omega (arith, mod-lt c.before.loop-i.left pre.0, pre.1)
 
 -- the digit is before the end of those to write, so inside the text
-in_text : tie.Need-slice-write-text invariant-loop decreases-loop
+in_text : tie.Need-bounds-text-at invariant-loop decreases-loop
 in_text c =
-    let put = c.before.loop.invariant.1 in
-    omega (arith, c.before.before.before.before.requires.2, put.len, put.reach, c.loop-test.true)
+    let put = c.before.loop-i.invariant.1 in
+    omega (arith, c.before.before.before.before.requires.2, put.len, put.reach, c.loop-i-test.true)
 
 pub put_digits_spec : {M : Type 1} → statement M
 put_digits_spec =
@@ -48,7 +48,7 @@ put_digits_spec =
     (λ c. search rules)
     (λ c. search rules)
     (λ c.
-    let inv = c.before.loop.invariant in
-    (inv.0, digits_more _ inv.1 c.loop-test.true (inv.0 _ (in_table c))))
+    let inv = c.before.loop-i.invariant in
+    (inv.0, digits_more _ inv.1 c.loop-i-test.true (inv.0 _ (in_table c))))
     (λ c. search rules)
-    (λ c. digits_all c.before.loop.invariant.1 c.loop-test.false))
+    (λ c. digits_all c.before.loop-i.invariant.1 c.loop-i-test.false))

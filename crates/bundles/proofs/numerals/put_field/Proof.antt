@@ -15,6 +15,6 @@ put_field_spec =
     (λ c. search rules)
     (λ c. search rules)
     (λ c.
-    let digit-count = c.before.before.before.before.digit-count in
-    let put-digits = c.before.before.put-digits in
-    field_put _ _ _ _ _ _ digit-count.ensures.0 put-digits.ensures))
+    let digit_count = c.before.before.before.before.digit_count-count in
+    let put_digits = c.before.before.put_digits in
+    field_put _ _ _ _ _ _ digit_count.ensures.0 put_digits.ensures))

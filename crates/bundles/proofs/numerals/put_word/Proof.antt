@@ -7,5 +7,5 @@ use Rattle.bundles.proofs.numerals.put_word.Tie as tie
 pub put_word_spec : {M : Type 1} → statement M
 put_word_spec =
     tie.close (tie.spec (λ c κs. search rules) (λ c. search rules) (λ c. search rules) (λ c. search rules) (λ c.
-    let put-digits = c.before.before.put-digits in
-    word_put _ _ _ _ put-digits.ensures))
+    let put_digits = c.before.before.put_digits in
+    word_put _ _ _ _ put_digits.ensures))

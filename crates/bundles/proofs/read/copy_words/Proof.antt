@@ -5,10 +5,10 @@ use Rattle.bundles.proofs.Bytes.{WordsCopied, copy_none, copy_word, copy_all}
 use Rattle.bundles.proofs.read.copy_words.Statement.{statement}
 use Rattle.bundles.proofs.read.copy_words.Tie as tie
 
-abbrev invariant-loop : tie.invariant-loop
+abbrev invariant-loop : tie.invariant-loop-i
 invariant-loop bytes words₀ n i₀ words i = WordsCopied bytes words₀ words i n
 
-abbrev decreases-loop : tie.decreases-loop
+abbrev decreases-loop : tie.decreases-loop-i
 decreases-loop bytes words₀ n i₀ words i = n - i
 
 pub copy_words_spec : {M : Type 1} → statement M
@@ -27,9 +27,9 @@ copy_words_spec =
     (λ c. search rules)
     (λ c.
     let pre = c.before.before.before.before.before.requires in
-    let loop = c.before.before.loop in
-    copy_word _ _ _ _ _ _ pre.1 loop.invariant c.before.loop-test.true c.word_at.ensures)
+    let loop = c.before.before.loop-i in
+    copy_word _ _ _ _ _ _ pre.1 loop.invariant c.before.loop-i-test.true c.word_at.ensures)
     (λ c. search rules)
     (λ c.
-    let loop = c.before.loop in
-    copy_all _ _ _ _ _ loop.invariant c.loop-test.false))
+    let loop = c.before.loop-i in
+    copy_all _ _ _ _ _ loop.invariant c.loop-i-test.false))

@@ -29,6 +29,6 @@ word_at_spec =
     let s = first.before.before in
     omega (
       arith,
-      word_of_pairs s.args.bytes.now s.args.at s.requires _ _ _ _ first.pair-at.ensures.0 second.pair-at2.ensures.0
-          third.pair-at3.ensures.0 c.pair-at4.ensures.0,
+      word_of_pairs s.args.bytes.now s.args.at s.requires _ _ _ _ first.pair_at-a.ensures.0 second.pair_at-b.ensures.0
+          third.pair_at-c.ensures.0 c.pair_at-d.ensures.0,
     )))
