@@ -81,14 +81,14 @@ fn a_row_has_what_the_line_says() {
         "types = 0 ∷ 1073741824 ∷ [];",
         "calls = [];",
         "budget = 7; output = 8; scratch₁ = 9; scratch₂ = 10;",
-        "refusal = 0; type = 1; length′ = 2;",
+        "refusal = 0; type = 1; length' = 2;",
         "counts = 1 ∷ 2 ∷ [];",
-        "normalForm = 11 ∷ 12 ∷ [];",
+        "normal_form = 11 ∷ 12 ∷ [];",
         "unchanged = 6;",
-        "checkRefusal = 0; checkType = 1; normalRefusal = 0; yes = true;",
-        "inputsRefusal = 0; inputsCount = 1;",
-        "inputsMarks = 9223372036854775808 ∷ 0 ∷ 0 ∷ 0 ∷ [];",
-        "nodeTypes′ = some (1 ∷ []);",
+        "check_refusal = 0; check_type = 1; normal_refusal = 0; yes = true;",
+        "inputs_refusal = 0; inputs_count = 1;",
+        "inputs_marks = 9223372036854775808 ∷ 0 ∷ 0 ∷ 0 ∷ [];",
+        "node_types' = some (1 ∷ []);",
         "insertions = 1;",
     ] {
         assert!(row.contains(field), "{field}");
@@ -98,8 +98,8 @@ fn a_row_has_what_the_line_says() {
     let row = inputs::row("0;;0;0;3;2;4 5 6 7");
     for field in [
         "inputs = 0 ∷ [];",
-        "inputsRefusal = 3; inputsCount = 2;",
-        "inputsMarks = 4 ∷ 5 ∷ 6 ∷ 7 ∷ [];",
+        "inputs_refusal = 3; inputs_count = 2;",
+        "inputs_marks = 4 ∷ 5 ∷ 6 ∷ 7 ∷ [];",
     ] {
         assert!(row.contains(field), "{field}");
     }
@@ -108,9 +108,9 @@ fn a_row_has_what_the_line_says() {
         "budget = 7;",
         "ceilings = 1 ∷ 2 ∷ [];",
         "output = 8; scratch₁ = 9; scratch₂ = 10;",
-        "refusal = 13; type = 0; length′ = 0;",
+        "refusal = 13; type = 0; length' = 0;",
         "counts = 1 ∷ 0 ∷ [];",
-        "normalForm = [];",
+        "normal_form = [];",
         "unchanged = 8;",
     ] {
         assert!(row.contains(field), "{field}");

@@ -6,19 +6,18 @@ use super::tables::Table;
 /// What the definitions make of a row, and what the line says.
 const MEANING: &str = "\
 -- A line of `bundles`: the bytes of a bundle, and the bytes that the program writes for it.
-use Prim.Native.Nat.{ℕ}
-use mathlib.Core.List.{List}
-use Rattle·outcomes.specs.Respond.{response}
+use Rattle.std.specs.Prelude.{ℕ, List}
+use Rattle.outcomes.specs.Respond.{response}
 
 pub record Row : Type 0 where
   pub bundle : List ℕ
   pub written : List ℕ
 
 unfoldable pub computed : Row → List ℕ
-computed x = response (x .bundle)
+computed x = response x.bundle
 
 unfoldable pub expected : Row → List ℕ
-expected x = x .written
+expected x = x.written
 ";
 
 /// The table of some lines.

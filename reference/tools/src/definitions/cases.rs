@@ -9,25 +9,22 @@ use oracle::typing::node_types;
 /// What the definitions make of a row, and what the line says.
 const MEANING: &str = "\
 -- A line of `cases`: tables and term, what normalize is lent, and the answers of normalize, check, is_normal and free_inputs.
-use Prim.Native.Nat.{ℕ, zero, suc}
-use mathlib.Core.Bool.{Bool, false}
-use mathlib.Core.List.{List, _++_}
-use mathlib.Core.Option.{Option, none}
-use lib.ListN.{replicate}
-use Rattle·syntax.specs.Tables.{Tables, over}
-use Rattle·syntax.specs.Pending.{pending}
-use Rattle·typing.specs.NodeTypes.{nodeTypes}
-use Rattle·typing.specs.Refusals.{Verdict, refused, accepted, TypedTerm, elaborate, otherLimit}
-use Rattle·reduction.specs.MayDrop.{mayDrop}
-use Rattle·reduction.specs.Grammar.{inGrammar}
-use Rattle·reduction.specs.Reduction.{noCeilings}
-use Rattle·outcomes.specs.declared.Checked.{Checked}
-use Rattle·outcomes.specs.declared.Tested.{Tested}
-use Rattle·outcomes.specs.declared.FreeInputs.{FreeInputs}
-use Rattle·outcomes.specs.Normalize.{Outcome, normalizeOutcome}
-use Rattle·outcomes.specs.Check.{checkOutcome}
-use Rattle·outcomes.specs.IsNormal.{isNormalOutcome}
-use Rattle·outcomes.specs.FreeInputs.{freeInputsOutcome}
+use Rattle.std.specs.Prelude.{ℕ, zero, suc, Bool, false, List, ◌++◌, replicate}
+use Rattle.std.proofs.Math.Option.{Option, none}
+use Rattle.syntax.specs.Tables.{Tables, over}
+use Rattle.syntax.specs.Pending.{pending}
+use Rattle.typing.specs.NodeTypes.{node_types}
+use Rattle.typing.specs.Refusals.{Verdict, refused, accepted, TypedTerm, elaborate, other_limit}
+use Rattle.reduction.specs.MayDrop.{may_drop}
+use Rattle.reduction.specs.Grammar.{in_grammar}
+use Rattle.reduction.specs.Reduction.{no_ceilings}
+use Rattle.outcomes.specs.declared.Checked.{Checked}
+use Rattle.outcomes.specs.declared.Tested.{Tested}
+use Rattle.outcomes.specs.declared.FreeInputs.{FreeInputs}
+use Rattle.outcomes.specs.Normalize.{Outcome, normalize_outcome}
+use Rattle.outcomes.specs.Check.{check_outcome}
+use Rattle.outcomes.specs.IsNormal.{is_normal_outcome}
+use Rattle.outcomes.specs.FreeInputs.{free_inputs_outcome}
 
 pub record Row : Type 0 where
   pub types : List ℕ
@@ -42,20 +39,20 @@ pub record Row : Type 0 where
   -- normalize's answer, the normal form's words (none where refused), and how many words of the output are left as they were
   pub refusal : ℕ
   pub type : ℕ
-  pub length′ : ℕ
+  pub length' : ℕ
   pub counts : List ℕ
-  pub normalForm : List ℕ
+  pub normal_form : List ℕ
   pub unchanged : ℕ
   -- the answers of check, is_normal and free_inputs
-  pub checkRefusal : ℕ
-  pub checkType : ℕ
-  pub normalRefusal : ℕ
+  pub check_refusal : ℕ
+  pub check_type : ℕ
+  pub normal_refusal : ℕ
   pub yes : Bool
-  pub inputsRefusal : ℕ
-  pub inputsCount : ℕ
-  pub inputsMarks : List ℕ
+  pub inputs_refusal : ℕ
+  pub inputs_count : ℕ
+  pub inputs_marks : List ℕ
   -- the types of all nodes of a term that passes the checks, and the steps of phase 1 of one that is normalized (else 0)
-  pub nodeTypes′ : Option (List ℕ)
+  pub node_types' : Option (List ℕ)
   pub insertions : ℕ
 
 -- what is compared
@@ -63,73 +60,73 @@ pub record Result : Type 0 where
   pub outcome : Outcome
   pub checked : Checked
   pub tested : Tested
-  pub freeInputs : FreeInputs
+  pub free_inputs : FreeInputs
   pub grammar : Bool
-  pub nodeTypes′ : Option (List ℕ)
+  pub node_types' : Option (List ℕ)
   pub insertions : ℕ
 
 -- buffers hold 9s at entry
 abbrev pub nines : ℕ → List ℕ
 nines n = replicate n 9
 
-abbrev pub tablesOf : Row → Tables
-tablesOf x = over (x .types) (x .calls) (x .inputs)
+abbrev pub tables_of : Row → Tables
+tables_of x = over x.types x.calls x.inputs
 
 -- of a term that passes the checks: whether it is in the grammar, the types of its nodes, and its pending operands
-abbrev pub grammarOf : List ℕ → Verdict TypedTerm → Bool
-grammarOf calls (refused n) = false
-grammarOf calls (accepted x) = inGrammar (mayDrop calls) (x .term)
+abbrev pub grammar_of : List ℕ → Verdict TypedTerm → Bool
+grammar_of calls (refused n) = false
+grammar_of calls (accepted x) = in_grammar (may_drop calls) x.term
 
-abbrev pub nodeTypesOf : Tables → Verdict TypedTerm → Option (List ℕ)
-nodeTypesOf tables (refused n) = none
-nodeTypesOf tables (accepted x) = nodeTypes tables (x .term) (tables .inputs)
+abbrev pub node_types_of : Tables → Verdict TypedTerm → Option (List ℕ)
+node_types_of tables (refused n) = none
+node_types_of tables (accepted x) = node_types tables x.term tables.inputs
 
-abbrev pub pendingOf : Verdict TypedTerm → ℕ
-pendingOf (refused n) = 0
-pendingOf (accepted x) = pending (x .term)
+abbrev pub pending_of : Verdict TypedTerm → ℕ
+pending_of (refused n) = 0
+pending_of (accepted x) = pending x.term
 
 -- a number that counts only where nothing is refused
 abbrev pub unless : ℕ → ℕ → ℕ
 unless zero n = n
 unless (suc refusal) n = 0
 
-unfoldable pub outcomeOf : Row → Outcome
-outcomeOf x = normalizeOutcome (noCeilings (x .budget)) (tablesOf x) (x .term) (record {
-  output = nines (x .output);
-  scratch₁ = nines (x .scratch₁);
-  scratch₂ = nines (x .scratch₂);
+unfoldable pub outcome_of : Row → Outcome
+outcome_of x = normalize_outcome (no_ceilings x.budget) (tables_of x) x.term (record {
+  output = nines x.output;
+  scratch₁ = nines x.scratch₁;
+  scratch₂ = nines x.scratch₂;
 })
 
 unfoldable pub elaborated : Row → Verdict TypedTerm
-elaborated x = elaborate otherLimit (tablesOf x) (x .term)
+elaborated x = elaborate other_limit (tables_of x) x.term
 
 unfoldable pub computed : Row → Result
 computed x = record {
-  outcome = outcomeOf x;
-  checked = checkOutcome (tablesOf x) (x .term);
-  tested = isNormalOutcome (tablesOf x) (x .term);
-  freeInputs = freeInputsOutcome (tablesOf x) (x .term);
-  grammar = grammarOf (x .calls) (elaborated x);
-  nodeTypes′ = nodeTypesOf (tablesOf x) (elaborated x);
-  insertions = unless (outcomeOf x .answer .refusal) (pendingOf (elaborated x));
+  outcome = outcome_of x;
+  checked = check_outcome (tables_of x) x.term;
+  tested = is_normal_outcome (tables_of x) x.term;
+  free_inputs = free_inputs_outcome (tables_of x) x.term;
+  grammar = grammar_of x.calls (elaborated x);
+  node_types' = node_types_of (tables_of x) (elaborated x);
+  insertions = unless ((outcome_of x).answer.refusal) (pending_of (elaborated x));
 }
 
 unfoldable pub expected : Row → Result
 expected x = record {
   outcome = record {
-    answer = record { refusal = x .refusal; ty = x .type; length = x .length′; counts = x .counts };
+    answer = record { refusal = x.refusal; ty = x.type; length = x.length'; counts = x.counts };
     buffers = record {
-      output = x .normalForm ++ nines (x .unchanged);
-      scratch₁ = replicate (x .scratch₁) 0;
-      scratch₂ = replicate (x .scratch₂) 0;
+      output = x.normal_form ++ nines x.unchanged;
+      scratch₁ = replicate x.scratch₁ 0;
+      scratch₂ = replicate x.scratch₂ 0;
     };
   };
-  checked = record { refusal = x .checkRefusal; ty = x .checkType };
-  tested = record { refusal = x .normalRefusal; normal = x .yes };
-  freeInputs = record { refusal = x .inputsRefusal; marks = x .inputsMarks; count = x .inputsCount };
-  grammar = x .yes;
-  nodeTypes′ = x .nodeTypes′;
-  insertions = x .insertions;
+  checked = record { refusal = x.check_refusal; ty = x.check_type };
+  tested = record { refusal = x.normal_refusal; normal = x.yes };
+  free_inputs = record { refusal = x.inputs_refusal; marks = x.inputs_marks; count = x.inputs_count };
+  grammar = x.yes;
+  node_types' = x.node_types';
+  insertions = x.insertions;
 }
 ";
 
@@ -139,7 +136,7 @@ pub fn table(lines: &[String]) -> Table {
         name: "Cases",
         subcommand: "cases",
         meaning: MEANING,
-        own: &["outcomeOf", "elaborated"],
+        own: &["outcome_of", "elaborated"],
         rows: lines.iter().map(|line| row(line)).collect(),
     }
 }
@@ -175,14 +172,14 @@ pub fn row(line: &str) -> String {
       inputs = {inputs};
       term = {term};
       budget = {budget}; output = {output}; scratch₁ = {first_scratch}; scratch₂ = {second_scratch};
-      refusal = {refusal}; type = {type_number}; length′ = {length};
+      refusal = {refusal}; type = {type_number}; length' = {length};
       counts = {counts};
-      normalForm = {normal_form};
+      normal_form = {normal_form};
       unchanged = {unchanged};
-      checkRefusal = {check_refusal}; checkType = {check_type}; normalRefusal = {normal_refusal}; yes = {yes};
-      inputsRefusal = {inputs_refusal}; inputsCount = {inputs_count};
-      inputsMarks = {inputs_marks};
-      nodeTypes′ = {node_types};
+      check_refusal = {check_refusal}; check_type = {check_type}; normal_refusal = {normal_refusal}; yes = {yes};
+      inputs_refusal = {inputs_refusal}; inputs_count = {inputs_count};
+      inputs_marks = {inputs_marks};
+      node_types' = {node_types};
       insertions = {insertions};
     }}"
     )

@@ -7,12 +7,10 @@ use super::tables::Table;
 /// What the definitions make of a row, and what the line says.
 const MEANING: &str = "\
 -- A line of `ceilings`: tables and term, what normalize is lent, and its answer.
-use Prim.Native.Nat.{ℕ}
-use mathlib.Core.List.{List, _++_}
-use lib.ListN.{replicate}
-use Rattle·syntax.specs.Tables.{over}
-use Rattle·reduction.specs.declared.Settings.{Settings}
-use Rattle·outcomes.specs.Normalize.{Buffers, Outcome, normalizeOutcome}
+use Rattle.std.specs.Prelude.{ℕ, List, ◌++◌, replicate}
+use Rattle.syntax.specs.Tables.{over}
+use Rattle.reduction.specs.declared.Settings.{Settings}
+use Rattle.outcomes.specs.Normalize.{Buffers, Outcome, normalize_outcome}
 
 pub record Row : Type 0 where
   pub types : List ℕ
@@ -28,9 +26,9 @@ pub record Row : Type 0 where
   -- the answer, the normal form's words (none where refused), and how many words of the output are left as they were
   pub refusal : ℕ
   pub type : ℕ
-  pub length′ : ℕ
+  pub length' : ℕ
   pub counts : List ℕ
-  pub normalForm : List ℕ
+  pub normal_form : List ℕ
   pub unchanged : ℕ
 
 -- buffers hold 9s at entry
@@ -38,21 +36,21 @@ abbrev pub nines : ℕ → List ℕ
 nines n = replicate n 9
 
 unfoldable pub computed : Row → Outcome
-computed x = normalizeOutcome settings (over (x .types) (x .calls) (x .inputs)) (x .term) buffers
+computed x = normalize_outcome settings (over x.types x.calls x.inputs) x.term buffers
   where
     settings : Settings
-    settings = record { budget = x .budget; ceilings = x .ceilings }
+    settings = record { budget = x.budget; ceilings = x.ceilings }
 
     buffers : Buffers
-    buffers = record { output = nines (x .output); scratch₁ = nines (x .scratch₁); scratch₂ = nines (x .scratch₂) }
+    buffers = record { output = nines x.output; scratch₁ = nines x.scratch₁; scratch₂ = nines x.scratch₂ }
 
 unfoldable pub expected : Row → Outcome
 expected x = record {
-  answer = record { refusal = x .refusal; ty = x .type; length = x .length′; counts = x .counts };
+  answer = record { refusal = x.refusal; ty = x.type; length = x.length'; counts = x.counts };
   buffers = record {
-    output = x .normalForm ++ nines (x .unchanged);
-    scratch₁ = replicate (x .scratch₁) 0;
-    scratch₂ = replicate (x .scratch₂) 0;
+    output = x.normal_form ++ nines x.unchanged;
+    scratch₁ = replicate x.scratch₁ 0;
+    scratch₂ = replicate x.scratch₂ 0;
   };
 }
 ";
@@ -89,9 +87,9 @@ pub fn row(line: &str) -> String {
       budget = {budget};
       ceilings = {ceilings};
       output = {output}; scratch₁ = {first_scratch}; scratch₂ = {second_scratch};
-      refusal = {refusal}; type = {type_number}; length′ = {length};
+      refusal = {refusal}; type = {type_number}; length' = {length};
       counts = {counts};
-      normalForm = {normal_form};
+      normal_form = {normal_form};
       unchanged = {unchanged};
     }}"
     )

@@ -1,4 +1,4 @@
-//! The check of the throw-away repository: `rt check` in it.
+//! The check of the throw-away repository: `rt check` of the further crate, which builds the copied ones first.
 
 use std::io;
 use std::path::Path;
@@ -13,7 +13,7 @@ pub fn run_check(folder: &Path) -> io::Result<(String, bool)> {
     let start = Instant::now();
     let output = Command::new("rt")
         .arg("check")
-        .current_dir(folder)
+        .current_dir(folder.join("crates/crosscheck"))
         .output()
         .map_err(|error| io::Error::new(error.kind(), format!("rt check: {error}")))?;
     let seconds = start.elapsed().as_secs();

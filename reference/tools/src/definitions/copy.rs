@@ -17,11 +17,17 @@ pub fn make_empty_folder_outside(folder: &Path, other: &Path) -> io::Result<()> 
     Ok(())
 }
 
-/// Copies a folder with all that is in it.
+/// What a check writes into a crate's folder.
+const WRITTEN_BY_A_CHECK: &str = "out";
+
+/// Copies a folder with all that is in it, but for what a check has written.
 pub fn copy_folder(from: &Path, to: &Path) -> io::Result<()> {
     fs::create_dir_all(to)?;
     for entry in fs::read_dir(from)? {
         let entry = entry?;
+        if entry.file_name() == WRITTEN_BY_A_CHECK {
+            continue;
+        }
         let target = to.join(entry.file_name());
         if entry.file_type()?.is_dir() {
             copy_folder(&entry.path(), &target)?;

@@ -19,7 +19,7 @@ pub fn write_crosscheck(
     }
     fs::write(
         folder.join("src/lib.rt"),
-        "// The definitions compute what the second implementation answers.\n",
+        "// The definitions compute what the second implementation answers.\n\n#![tactic(auto)]\n",
     )?;
     let (mut specs, mut proofs) = (String::new(), String::new());
     for table in tables {

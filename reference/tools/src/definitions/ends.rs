@@ -6,15 +6,11 @@ use super::tables::Table;
 /// What the definitions make of a row, and what the line says.
 const MEANING: &str = "\
 -- A line of `ends`: call words and words, and where the part at the front ends.
-use Prim.Native.Nat.{ℕ, zero, suc}
-use mathlib.Core.Bool.{Bool, false}
-use mathlib.Core.List.{List, [], _∷_}
-use mathlib.Core.Option.{Option, some, none}
-use lib.Dec.{eqb}
-use lib.ListN.{length, take}
-use Rattle·syntax.specs.Maybe.{isSome}
-use Rattle·syntax.specs.Decoding.{decode}
-use Rattle·syntax.specs.Parts.{partEnd}
+use Rattle.std.specs.Prelude.{ℕ, zero, suc, Bool, false, List, [], ◌∷◌, length, take, eqb}
+use Rattle.std.proofs.Math.Option.{Option, some, none}
+use Rattle.syntax.specs.Maybe.{is_some}
+use Rattle.syntax.specs.Decoding.{decode}
+use Rattle.syntax.specs.Parts.{part_end}
 
 pub record Row : Type 0 where
   pub calls : List ℕ
@@ -26,22 +22,22 @@ pub record Answers : Type 0 where
   pub end : Option ℕ
   pub fronts : List Bool
 
-unfoldable pub downFrom : (ℕ → Bool) → ℕ → List Bool
-downFrom test zero = test zero ∷ []
-downFrom test (suc n) = test (suc n) ∷ downFrom test n
+unfoldable pub down_from : (ℕ → Bool) → ℕ → List Bool
+down_from test zero = test zero ∷ []
+down_from test (suc n) = test (suc n) ∷ down_from test n
 
-unfoldable pub isEnd : Option ℕ → ℕ → Bool
-isEnd none n = false
-isEnd (some m) n = eqb m n
+unfoldable pub is_end : Option ℕ → ℕ → Bool
+is_end none n = false
+is_end (some m) n = eqb m n
 
 unfoldable pub computed : Row → Answers
 computed x = record {
-  end = partEnd (x .calls) (x .words);
-  fronts = downFrom (λ n. isSome (decode (x .calls) (take n (x .words)))) (length (x .words));
+  end = part_end x.calls x.words;
+  fronts = down_from (λ n. is_some (decode x.calls (take n x.words))) (length x.words);
 }
 
 unfoldable pub expected : Row → Answers
-expected x = record { end = x .end; fronts = downFrom (isEnd (x .end)) (length (x .words)) }
+expected x = record { end = x.end; fronts = down_from (is_end x.end) (length x.words) }
 ";
 
 /// The table of some lines.
@@ -50,7 +46,7 @@ pub fn table(lines: &[String]) -> Table {
         name: "Ends",
         subcommand: "ends",
         meaning: MEANING,
-        own: &["downFrom", "isEnd"],
+        own: &["down_from", "is_end"],
         rows: lines.iter().map(|line| row(line)).collect(),
     }
 }

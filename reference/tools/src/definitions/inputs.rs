@@ -6,26 +6,25 @@ use super::tables::Table;
 /// What the definitions make of a row, and what the line says.
 const MEANING: &str = "\
 -- A line of `inputs`: tables and term, and the answer of free_inputs.
-use Prim.Native.Nat.{ℕ}
-use mathlib.Core.List.{List}
-use Rattle·syntax.specs.Tables.{over}
-use Rattle·outcomes.specs.declared.FreeInputs.{FreeInputs}
-use Rattle·outcomes.specs.FreeInputs.{freeInputsOutcome}
+use Rattle.std.specs.Prelude.{ℕ, List}
+use Rattle.syntax.specs.Tables.{over}
+use Rattle.outcomes.specs.declared.FreeInputs.{FreeInputs}
+use Rattle.outcomes.specs.FreeInputs.{free_inputs_outcome}
 
 pub record Row : Type 0 where
   pub types : List ℕ
   pub calls : List ℕ
   pub inputs : List ℕ
   pub term : List ℕ
-  pub inputsRefusal : ℕ
-  pub inputsCount : ℕ
-  pub inputsMarks : List ℕ
+  pub inputs_refusal : ℕ
+  pub inputs_count : ℕ
+  pub inputs_marks : List ℕ
 
 unfoldable pub computed : Row → FreeInputs
-computed x = freeInputsOutcome (over (x .types) (x .calls) (x .inputs)) (x .term)
+computed x = free_inputs_outcome (over x.types x.calls x.inputs) x.term
 
 unfoldable pub expected : Row → FreeInputs
-expected x = record { refusal = x .inputsRefusal; marks = x .inputsMarks; count = x .inputsCount }
+expected x = record { refusal = x.inputs_refusal; marks = x.inputs_marks; count = x.inputs_count }
 ";
 
 /// The table of some lines.
@@ -53,8 +52,8 @@ pub fn row(line: &str) -> String {
       calls = {calls};
       inputs = {inputs};
       term = {term};
-      inputsRefusal = {refusal}; inputsCount = {count};
-      inputsMarks = {marks};
+      inputs_refusal = {refusal}; inputs_count = {count};
+      inputs_marks = {marks};
     }}"
     )
 }

@@ -28,7 +28,7 @@ pub fn opened_definitions(crates: &Path, names: &[&str]) -> io::Result<Opened> {
             };
             if !found.is_empty() {
                 let list = found.join(", ");
-                opened.uses += &format!("use Rattle·{name}.specs.{module}.{{{list}}}\n");
+                opened.uses += &format!("use Rattle.{name}.specs.{module}.{{{list}}}\n");
                 opened.names.extend(found);
             }
         }

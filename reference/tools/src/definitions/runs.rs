@@ -8,16 +8,14 @@ use std::str::SplitWhitespace;
 /// What the definitions make of a row, and what the line says.
 const MEANING: &str = "\
 -- A line of `runs`: tables and term, the values of the inputs, the answer and the trace of the run, and the acting calls in it.
-use Prim.Native.Nat.{ℕ, zero, suc, _+_, _*_, _%_}
-use mathlib.Core.List.{List, []}
-use mathlib.Core.Option.{Option, some, none}
-use lib.ListN.{length}
-use Rattle·syntax.specs.Tables.{Tables, over, product, sum, unitType, components, Signature, signature}
-use Rattle·syntax.specs.Term.{Term}
-use Rattle·syntax.specs.Decoding.{decode}
-use Rattle·semantics.specs.Value.{Value, Values, num, closure, tuple, left, right, trivial, empty, also, Trace}
-use Rattle·semantics.specs.Run.{RunOutcome, ended, stuck, spent, run}
-use Rattle·semantics.specs.Claim.{actingCalls}
+use Rattle.std.specs.Prelude.{ℕ, zero, suc, ◌+◌, ◌*◌, ◌%◌, List, [], length}
+use Rattle.std.proofs.Math.Option.{Option, some, none}
+use Rattle.syntax.specs.Tables.{Tables, over, product, sum, unit_type, components, Signature, signature}
+use Rattle.syntax.specs.Term.{Term}
+use Rattle.syntax.specs.Decoding.{decode}
+use Rattle.semantics.specs.Value.{Value, Values, num, closure, tuple, left, right, trivial, empty, also, Trace}
+use Rattle.semantics.specs.Run.{RunOutcome, ended, stuck, spent, run}
+use Rattle.semantics.specs.Claim.{acting_calls}
 
 pub record Row : Type 0 where
   pub types : List ℕ
@@ -58,10 +56,10 @@ side (suc n) v w = right w
 unfoldable pub spread : Tables → ℕ → ℕ → ℕ → Value
 spread tables zero n A = num n
 spread tables (suc levels) n A = elim (components tables product A) [
-  | some p ↦ tuple (spread tables levels n (p .0)) (spread tables levels n (p .1))
+  | some p ↦ tuple (spread tables levels n p.0) (spread tables levels n p.1)
   | none ↦ elim (components tables sum A) [
-    | some p ↦ side (n % 2) (spread tables levels n (p .0)) (spread tables levels n (p .1))
-    | none ↦ elim (components tables unitType A) [
+    | some p ↦ side (n % 2) (spread tables levels n p.0) (spread tables levels n p.1)
+    | none ↦ elim (components tables unit_type A) [
       | some p ↦ trivial
       | none ↦ num n
     ]
@@ -69,30 +67,30 @@ spread tables (suc levels) n A = elim (components tables product A) [
 ]
 
 -- the fixed answering function; a type's parts are earlier, so no type has more levels than there are types
-unfoldable pub answerOf : Tables → ℕ → Values → Value
-answerOf tables k vs = elim (signature tables k) [
+unfoldable pub answer_of : Tables → ℕ → Values → Value
+answer_of tables k vs = elim (signature tables k) [
   | none ↦ num 0
-  | some s ↦ spread tables (length (tables .types)) ((7 * k + 3 * weights vs + 1) % 5) (s .result)
+  | some s ↦ spread tables (length tables.types) ((7 * k + 3 * weights vs + 1) % 5) s.result
 ]
 
 -- a run of a term that is there, with fuel for a thousand nodes one inside another
 unfoldable pub ran : Tables → Values → Option Term → RunOutcome Value
 ran tables ρ none = stuck
-ran tables ρ (some t) = run (answerOf tables) 1000 ρ t
+ran tables ρ (some t) = run (answer_of tables) 1000 ρ t
 
-unfoldable pub actingOf : List ℕ → RunOutcome Value → Trace
-actingOf calls (ended v trace) = actingCalls calls trace
-actingOf calls stuck = []
-actingOf calls spent = []
+unfoldable pub acting_of : List ℕ → RunOutcome Value → Trace
+acting_of calls (ended v trace) = acting_calls calls trace
+acting_of calls stuck = []
+acting_of calls spent = []
 
 unfoldable pub told : List ℕ → RunOutcome Value → Ran
-told calls o = record { outcome = o; acting = actingOf calls o }
+told calls o = record { outcome = o; acting = acting_of calls o }
 
 unfoldable pub computed : Row → Ran
-computed x = told (x .calls) (ran (over (x .types) (x .calls) (x .inputs)) (x .values) (decode (x .calls) (x .term)))
+computed x = told x.calls (ran (over x.types x.calls x.inputs) x.values (decode x.calls x.term))
 
 unfoldable pub expected : Row → Ran
-expected x = record { outcome = ended (x .answer) (x .trace); acting = x .acting }
+expected x = record { outcome = ended x.answer x.trace; acting = x.acting }
 ";
 
 /// The table of some lines.
@@ -102,7 +100,7 @@ pub fn table(lines: &[String]) -> Table {
         subcommand: "runs",
         meaning: MEANING,
         own: &[
-            "weight", "weights", "spread", "answerOf", "ran", "actingOf", "told",
+            "weight", "weights", "spread", "answer_of", "ran", "acting_of", "told",
         ],
         rows: lines.iter().map(|line| row(line)).collect(),
     }

@@ -47,13 +47,10 @@ fn module_text(table: &Table, opened: &Opened, seed: u64, first: usize, rows: &[
     let rows = rows.join("\n    ∷ ");
     format!(
         "-- Lines {first} to {last} of `{subcommand} {seed} {all}`.
-use Prim.Native.Nat.{{ℕ}}
-use mathlib.Core.Path.{{_≡_, refl}}
-use mathlib.Core.Bool.{{Bool, true, false}}
-use mathlib.Core.List.{{List, [], _∷_, map}}
-use mathlib.Core.Option.{{some, none}}
-use Rattle·semantics.specs.Value.{{num, tuple, left, right, trivial, empty, also}}
-{uses}use Rattle·crosscheck·specs.specs.{name}.{{Row, computed, expected{own}}}
+use Rattle.std.specs.Prelude.{{ℕ, ◌≡◌, refl, Bool, true, false, List, [], ◌∷◌, map}}
+use Rattle.std.proofs.Math.Option.{{some, none}}
+use Rattle.semantics.specs.Value.{{num, tuple, left, right, trivial, empty, also}}
+{uses}use Rattle.crosscheck.specs.{name}.{{Row, computed, expected{own}}}
 
 unfoldable pub rows : List Row
 rows =
