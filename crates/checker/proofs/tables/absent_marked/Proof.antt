@@ -12,6 +12,6 @@ absent_marked_spec =
     (λ c. search rules)
     (λ c.
     let s = c.before.before.before.before in
-    unmarked_absent s.args.w s.requires c.before.before.residue.ensures c.if1.true)
+    unmarked_absent s.args.w s.requires c.before.before.residue.ensures c.if-marks-residue-eq0.true)
     (λ c κs. search rules)
     (λ c. search rules))
