@@ -59,4 +59,4 @@ move_case_spec =
     (λ c.
     let r : Right = search in
     let l = left r in
-    case_writes (entry l).args.dst.now l.let_over-left.ensures r.let-over2.ensures))
+    case_writes (entry l).args.dst.now l.let_over-left.ensures r.let_over.ensures))
