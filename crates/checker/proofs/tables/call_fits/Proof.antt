@@ -121,7 +121,7 @@ second_test c = tested (known (first (at_second c))) 1 _ _ c.before.argument-2.e
 left_0 : (c : Known) → Left (types c) (word c) (test c 0 ∷ test c 1 ∷ test c 2 ∷ [])
 left_0 c =
     let r : tie.After-result = search in
-    fields_left (types c) (word c) _ (counted c).arguments-n.ensures.0 (omega (arith, r.before.if-n-gt3.false)) _ r.result.ensures
+    fields_left (types c) (word c) _ (counted c).arguments-n.ensures.0 (omega arith) _ r.result.ensures
     c.if-types-result.false
 
 left_1 : (c : tie.Else-not-field_fits) → let k = known (first c) in Left (types k) (word k) (test k 1 ∷ test k 2 ∷ [])
@@ -135,12 +135,12 @@ call_fits_spec =
     tie.close
     (tie.spec
     (λ c κs. search rules)
-    (λ c. let k : tie.After-arguments-n = search in many _ k.before.args.w _ k.arguments-n.ensures.0 (omega (arith, c.if-n-gt3.true)))
+    (λ c. let k : tie.After-arguments-n = search in many _ k.before.args.w _ k.arguments-n.ensures.0 (omega arith))
     (λ c κs. search rules)
     (λ c.
     let k : tie.After-arguments-n = search in
     let r : tie.After-result = search in
-    unknown _ k.before.args.w _ k.arguments-n.ensures.0 (omega (arith, r.before.if-n-gt3.false)) _ r.result.ensures
+    unknown _ k.before.args.w _ k.arguments-n.ensures.0 (omega arith) _ r.result.ensures
     c.if-types-result.true)
     (λ c κs. search rules)
     (λ c κs. search rules)

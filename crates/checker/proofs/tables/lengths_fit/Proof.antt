@@ -3,6 +3,7 @@ use mathlib.Core.Path.{◌≡◌}
 use mathlib.Core.Bool.{false}
 use mathlib.Core.List.{List}
 use Prim.Native.Nat.{ℕ, ◌≤◌, ◌<◌}
+use native.Mathlib.Omega.{arith}
 use lib.Dec.{leb}
 use lib.ListN.{length}
 use borrow.Author.Tests.{le-leb, lt-leb}
@@ -50,6 +51,6 @@ lengths_fit_spec =
     (tie.spec
     (λ c. many_types _ _ _ c.if-types-gt1024.true)
     (λ c. many_calls _ _ _ c.before.if-types-gt1024.false c.if-calls-gt1024.true)
-    (λ c. many_inputs _ _ _ c.before.before.if-types-gt1024.false c.before.if-calls-gt1024.false c.if-inputs-gt256.true)
-    (λ c. many_words _ _ _ c.before.before.before.if-types-gt1024.false c.before.before.if-calls-gt1024.false c.before.if-inputs-gt256.false c.if-limit-term.true)
-    (λ c. some_words _ _ _ c.before.before.before.if-types-gt1024.false c.before.before.if-calls-gt1024.false c.before.if-inputs-gt256.false c.if-limit-term.false))
+    (λ c. many_inputs _ _ _ c.before.before.if-types-gt1024.false c.before.if-calls-gt1024.false (omega arith))
+    (λ c. many_words _ _ _ c.before.before.before.if-types-gt1024.false c.before.before.if-calls-gt1024.false (omega arith) c.if-limit-term.true)
+    (λ c. some_words _ _ _ c.before.before.before.if-types-gt1024.false c.before.before.if-calls-gt1024.false (omega arith) c.if-limit-term.false))

@@ -60,28 +60,26 @@ type_fits_spec =
     (λ c κs. search rules)
     (λ c κs. search rules)
     (λ c. let f : Right = search in base _ (word f) _ _ f.before.kind-k.ensures f.ty-right.ensures c.if-k-eq0.true)
-    (λ c. let f : Right = search in unknown _ (word f) _ _ f.before.kind-k.ensures f.ty-right.ensures (omega (arith, c.if-k-gt4.true)))
+    (λ c. let f : Right = search in unknown _ (word f) _ _ f.before.kind-k.ensures f.ty-right.ensures (omega arith))
     (λ c κs. search rules)
     (λ c.
     let f : Right = search in
     let n : Left = search in
     unit _ (word f) _ _ f.before.kind-k.ensures f.ty-right.ensures _ n.number-left.ensures c.before.if-k-eq4.true
-    (omega (arith, c.if-left-eq0.true)))
+    (omega arith))
     (λ c.
     let f : Right = search in
     let n : Left = search in
-    unit_set _ (word f) _ _ f.before.kind-k.ensures f.ty-right.ensures _ n.number-left.ensures c.before.if-k-eq4.true c.if-left-eq0.false)
+    unit_set _ (word f) _ _ f.before.kind-k.ensures f.ty-right.ensures _ n.number-left.ensures c.before.if-k-eq4.true (λ z. omega arith))
     (λ c.
     let f : Right = search in
     let n : Left = search in
     let z : tie.Else-k-eq0 = search in
-    let h : tie.Else-k-gt4 = search in
     parts _ (word f) _ _ f.before.kind-k.ensures f.ty-right.ensures _ n.number-left.ensures z.if-k-eq0.false c.before.if-k-eq4.false
-    (omega (arith, h.if-k-gt4.false)) c.if-left-i.true)
+    (omega arith) c.if-left-i.true)
     (λ c.
     let f : Right = search in
     let n : Left = search in
     let z : tie.Else-k-eq0 = search in
-    let h : tie.Else-k-gt4 = search in
     late _ (word f) _ _ f.before.kind-k.ensures f.ty-right.ensures _ n.number-left.ensures z.if-k-eq0.false c.before.if-k-eq4.false
-    (omega (arith, h.if-k-gt4.false)) c.if-left-i.false))
+    (omega arith) c.if-left-i.false))

@@ -69,9 +69,8 @@ word c = (entry c).args.w
 typing : (c : Tested) → let k = kinded c in Typed (tables k) (word k) k.kind-k.result k.kind-k.ensures c.field_fits-fits.result
 typing c =
     let k = kinded c in
-    let e : tie.Else-k-gt11 = search in
     let s : tie.After-shape_of-s = search in
-    typed (tables k) (word k) _ k.kind-k.ensures _ _ _ (omega (arith, e.if-k-gt11.false)) s.shape_of-s.ensures.ty c.before.ty.ensures
+    typed (tables k) (word k) _ k.kind-k.ensures _ _ _ (omega arith) s.shape_of-s.ensures.ty c.before.ty.ensures
     c.field_fits-fits.ensures
 
 pub word_fits_spec : {M : Type 1} → statement M
@@ -79,22 +78,20 @@ word_fits_spec =
     tie.close
     (tie.spec
     (λ c κs. search rules)
-    (λ c. let k : Kinded = search in past (tables k) (word k) _ k.kind-k.ensures (omega (arith, c.if-k-gt11.true)))
+    (λ c. let k : Kinded = search in past (tables k) (word k) _ k.kind-k.ensures (omega arith))
     (λ c κs. search rules)
     (λ c κs. search rules)
     (λ c κs. search rules)
-    (λ c. variable _ _ _ _ (typing (search)) c.if-k-eq0.true)
+    (λ c. variable _ _ _ _ (typing (search)) (omega arith))
     (λ c κs. search rules)
     (λ c κs. search rules)
     (λ c.
-    let e : tie.Else-k-eq0 = search in
     let s : tie.After-shape_of-s = search in
     let n : tie.After-number = search in
-    fits _ _ _ _ (typing (search)) e.if-k-eq0.false _ _ _ s.shape_of-s.ensures.number n.number.ensures
+    fits _ _ _ _ (typing (search)) (λ z. omega arith) _ _ _ s.shape_of-s.ensures.number n.number.ensures
     c.before.field_fits.ensures c.if-field_fits.true)
     (λ c.
-    let e : tie.Else-k-eq0 = search in
     let s : tie.After-shape_of-s = search in
     let n : tie.After-number = search in
-    fails _ _ _ _ (typing (search)) e.if-k-eq0.false _ _ _ s.shape_of-s.ensures.number n.number.ensures
+    fails _ _ _ _ (typing (search)) (λ z. omega arith) _ _ _ s.shape_of-s.ensures.number n.number.ensures
     c.before.field_fits.ensures c.if-field_fits.false))
