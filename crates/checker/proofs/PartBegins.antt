@@ -23,7 +23,7 @@ use Rattle.checker.specs.Nodes.{binder_type, node_type, leaf_type, Enters}
 use Rattle.checker.specs.Answers.{scope}
 use Rattle.syntax.proofs.ByKind.{by_kind}
 use Rattle.checker.proofs.Lookups.{scope_set}
-use Rattle.checker.proofs.PartTypes.{inside, infer_parts}
+use Rattle.checker.proofs.PartTypes.{infer_parts}
 use Rattle.checker.proofs.InferNode.{infer_node, infer_leaf, infer_many}
 use Rattle.checker.proofs.OpenNodes.{behind, with_part, climb, climb_none}
 use Rattle.checker.proofs.KeptNodes.{AllKept, kept_node, kept_binder, kept_depth}

@@ -19,7 +19,6 @@ use Rattle.typing.specs.Infer.{infer}
 use Rattle.checker.specs.Nodes.{binder_type, Enters}
 use Rattle.checker.specs.Answers.{scope}
 use Rattle.checker.proofs.Lookups.{extend, scope_push}
-use Rattle.checker.proofs.PartTypes.{inside}
 use Rattle.checker.proofs.OpenNodes.{Open, behind, climb}
 use Rattle.checker.proofs.KeptNodes.{one_binder, AllKept}
 

@@ -1,4 +1,5 @@
 // The type check: refusals 1 to 9 in their order, and the type of a term that passes. Each place where it refuses is one function.
+#![tactic(auto)]
 
 pub mod tables; // tables.rt: refusals 1 to 5, on the tables
 pub mod term_words; // term_words.rt: refusals 6 and 7, on the term words

@@ -1,4 +1,5 @@
 // The search for redexes, on words.
+#![tactic(auto)]
 
 pub mod value; // value.rt: whether a part is a value, and where it ends
 pub mod fits; // fits.rt: whether a rule of phase 1 or 2 fits the node at the front

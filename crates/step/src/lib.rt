@@ -1,4 +1,5 @@
 // One step of the reduction, in place: the term stands around a gap, which goes from redex to redex.
+#![tactic(auto)]
 
 pub mod gap; // gap.rt: a term around a gap, and the gap moved
 pub mod rewrite; // rewrite.rt: the redex behind the gap rewritten in place

@@ -6,4 +6,4 @@ use Rattle.checker.proofs.check.check.Tie as tie
 
 pub check_spec : {M : Type 1} → statement M
 unfolding check_outcome
-check_spec = tie.close (tie.spec (λ c κs. search rules) (λ c. c.check-within.ensures))
+check_spec = tie.close (tie.spec (λ c κs. search rules) (λ c. c.check_within.ensures))

@@ -1,5 +1,6 @@
 -- Each place is asked where those before it passed: what is left of the checks goes from place to place, and the first place that fails
 -- decides. The lengths, known from place 1, and the term, known from 6 and 7, are what 8 and 9 ask for.
+use Rattle.std.proofs.lemmas.Bool.{not_from_true, not_from_false}
 use Prim.Native.Nat.{ℕ}
 use native.Mathlib.Omega.{arith}
 use mathlib.Core.Path.{◌≡◌, sym, ◌∙◌, ap}
@@ -32,7 +33,7 @@ abbrev from_tables : Tables → List ℕ → Verdict TypedTerm
 from_tables tables words = tables_place tables >>= λ _. from_words tables words
 
 abbrev Entry : Type 0
-Entry = tie.After-lengths-fit
+Entry = tie.After-lengths_fit
 
 abbrev limit : Entry → ℕ
 limit c = c.before.before.before.before.before.args.limit
@@ -47,53 +48,53 @@ abbrev whole : Entry → Verdict TypedTerm
 whole c = elaborate (limit c) (tables c) (words c)
 
 -- the ways back, from place to place
-abbrev entry : tie.Else1 → Entry
+abbrev entry : tie.Else-not-lengths_fit → Entry
 entry c = c.before
 
-abbrev tabled : tie.Else2 → tie.Else1
+abbrev tabled : tie.Else-refusal-ne0 → tie.Else-not-lengths_fit
 tabled c = c.before.before
 
-abbrev worded : tie.Else3 → tie.Else2
+abbrev worded : tie.Else-not-words_fit → tie.Else-refusal-ne0
 worded c = c.before.before
 
-abbrev termed : tie.Else4 → tie.Else3
+abbrev termed : tie.Else-not-is_whole → tie.Else-not-words_fit
 termed c = c.before.before
 
 -- place 1 passed
-left_2 : (c : tie.Else1) → let s = entry c in Left (whole s) (from_tables (tables s) (words s))
+left_2 : (c : tie.Else-not-lengths_fit) → let s = entry c in Left (whole s) (from_tables (tables s) (words s))
 unfolding elaborate
 left_2 c =
     let s = entry c in
-    passes 1 (lengths_fit (limit s) (tables s) (words s)) (λ _. from_tables (tables s) (words s)) all_left s.lengths_fit_lem.ensures
-    c.if1.false
+    passes 1 (lengths_fit (limit s) (tables s) (words s)) (λ _. from_tables (tables s) (words s)) all_left s.lengths_fit.ensures
+    (not_from_true _ c.if-not-lengths_fit.false)
 
-lengths : (c : tie.Else1) → let s = entry c in Lengths (limit s) (tables s) (words s)
-lengths c = lengths_of_lem _ _ _ (told (entry c).lengths_fit_lem.ensures c.if1.false)
+lengths : (c : tie.Else-not-lengths_fit) → let s = entry c in Lengths (limit s) (tables s) (words s)
+lengths c = lengths_of_lem _ _ _ (told (entry c).lengths_fit.ensures (not_from_true _ c.if-not-lengths_fit.false))
 
 -- the places 2 to 5 passed
-left_6 : (c : tie.Else2) → let s = entry (tabled c) in Left (whole s) (from_words (tables s) (words s))
+left_6 : (c : tie.Else-refusal-ne0) → let s = entry (tabled c) in Left (whole s) (from_words (tables s) (words s))
 left_6 c =
     let s = entry (tabled c) in
-    number_passes (from_words (tables s) (words s)) (tables_place (tables s)) (left_2 (tabled c)) c.before.table-refusal.ensures
-    (tables_formed (tables s)) c.if2.false
+    number_passes (from_words (tables s) (words s)) (tables_place (tables s)) (left_2 (tabled c)) c.before.table_refusal-refusal.ensures
+    (tables_formed (tables s)) c.if-refusal-ne0.false
 
 -- place 6 passed
-left_7 : (c : tie.Else3) → let s = entry (tabled (worded c)) in Left (whole s) (from_term (tables s) (words s))
+left_7 : (c : tie.Else-not-words_fit) → let s = entry (tabled (worded c)) in Left (whole s) (from_term (tables s) (words s))
 unfolding well_formed_words
 left_7 c =
     let s = entry (tabled (worded c)) in
     passes 6 (well_formed_words (tables s) (words s)) (λ _. from_term (tables s) (words s)) (left_6 (worded c))
-    c.before.words-fit.ensures c.if3.false
+    c.before.words_fit.ensures (not_from_true _ c.if-not-words_fit.false)
 
-formed : (c : tie.Else3) → let s = entry (tabled (worded c)) in T (well_formed_words (tables s) (words s))
+formed : (c : tie.Else-not-words_fit) → let s = entry (tabled (worded c)) in T (well_formed_words (tables s) (words s))
 unfolding well_formed_words
-formed c = told c.before.words-fit.ensures c.if3.false
+formed c = told c.before.words_fit.ensures (not_from_true _ c.if-not-words_fit.false)
 
 -- place 7 passed
-term : (c : tie.Else4) → let s = entry (tabled (worded (termed c))) in Decoded (tables s) (words s)
-term c = whole_decoded _ _ (formed (termed c)) (told_true c.before.is_whole.ensures c.if4.false)
+term : (c : tie.Else-not-is_whole) → let s = entry (tabled (worded (termed c))) in Decoded (tables s) (words s)
+term c = whole_decoded _ _ (formed (termed c)) (told_true c.before.is_whole.ensures (not_from_true _ c.if-not-is_whole.false))
 
-left_8 : (c : tie.Else4) → let s = entry (tabled (worded (termed c))) in Left (whole s) (typed_term (tables s) (term c).term)
+left_8 : (c : tie.Else-not-is_whole) → let s = entry (tabled (worded (termed c))) in Left (whole s) (typed_term (tables s) (term c).term)
 left_8 c =
     let s = entry (tabled (worded (termed c))) in
     provides 7 (decode (tables s).calls (words s)) (typed_term (tables s)) (left_7 (termed c)) (term c).term (term c).is
@@ -111,30 +112,30 @@ check_within_spec =
     (λ c.
     let s : Entry = search in
     refuses
-    (fails 1 (lengths_fit (limit s) (tables s) (words s)) (λ _. from_tables (tables s) (words s)) all_left s.lengths_fit_lem.ensures
-    c.if1.true))
+    (fails 1 (lengths_fit (limit s) (tables s) (words s)) (λ _. from_tables (tables s) (words s)) all_left s.lengths_fit.ensures
+    (not_from_false _ c.if-not-lengths_fit.true)))
     (λ c κs. search rules)
     (λ c.
-    let e : tie.Else1 = search in
+    let e : tie.Else-not-lengths_fit = search in
     let s = entry e in
     refuses
-    (number_fails (from_words (tables s) (words s)) (tables_place (tables s)) (left_2 e) c.before.table-refusal.ensures
-    c.if2.true))
+    (number_fails (from_words (tables s) (words s)) (tables_place (tables s)) (left_2 e) c.before.table_refusal-refusal.ensures
+    c.if-refusal-ne0.true))
     (λ c κs. search rules)
     (λ c.
-    let e : tie.Else2 = search in
+    let e : tie.Else-refusal-ne0 = search in
     let s = entry (tabled e) in
-    refuses (fails 6 _ (λ _. from_term (tables s) (words s)) (left_6 e) c.before.words-fit.ensures c.if3.true))
+    refuses (fails 6 _ (λ _. from_term (tables s) (words s)) (left_6 e) c.before.words_fit.ensures (not_from_false _ c.if-not-words_fit.true)))
     (λ c κs.
     let s : tie.Start = search in
-    omega (arith, (lengths (search)).words', s.pre))
+    omega (arith, (lengths (search)).words', s.requires))
     (λ c.
-    let e : tie.Else3 = search in
+    let e : tie.Else-not-words_fit = search in
     let s = entry (tabled (worded e)) in
     refuses (provides_none 7 (decode (tables s).calls (words s)) (typed_term (tables s)) (left_7 e)
-    (not_whole (tables s) (words s) (formed e) (told_false c.before.is_whole.ensures c.if4.true))))
+    (not_whole (tables s) (words s) (formed e) (told_false c.before.is_whole.ensures (not_from_false _ c.if-not-is_whole.true)))))
     (λ c κs.
     let s : tie.Start = search in
     let l = lengths (search) in
-    (starts (term (search)), (l.inputs, omega (arith, l.words', s.pre))))
-    (λ c. let e : tie.Else4 = search in c.type-inv.ensures (term e).term [] (term e).holds ∙ ap checked_of (sym (left_8 e).same)))
+    (starts (term (search)), (l.inputs, omega (arith, l.words', s.requires))))
+    (λ c. let e : tie.Else-not-is_whole = search in c.typed.ensures (term e).term [] (term e).holds ∙ ap checked_of (sym (left_8 e).same)))

@@ -20,5 +20,5 @@ typed_spec =
     (λ c κs.
     let s : tie.Start = search in
     let n = length-replicate {A = ℕ} 8194 0 in
-    (s.pre.0, (s.pre.1, (omega (arith, s.pre.1.1, n), omega (arith, s.pre.1.1, n)))))
+    (s.requires.0, (s.requires.1, (omega (arith, s.requires.1.1, n), omega (arith, s.requires.1.1, n)))))
     (λ c. search rules))

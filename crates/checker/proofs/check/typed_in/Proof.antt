@@ -1,4 +1,5 @@
 -- The term that the words begin with is in scope if `scoped` says so, and then has the type that `infer` finds: places 8 and 9.
+use Rattle.std.proofs.lemmas.Bool.{not_from_true, not_from_false}
 use Prim.Native.Nat.{ℕ}
 use native.Mathlib.Omega.{arith}
 use mathlib.Core.List.{List}
@@ -20,17 +21,17 @@ typed_in_spec =
     (tie.spec
     (λ c κs.
     let s : tie.Start = search in
-    (omega (arith, s.pre.1.0), (s.pre.0, s.pre.1.1.0)))
+    (omega (arith, s.requires.1.0), (s.requires.0, s.requires.1.1.0)))
     (λ c. search rules)
     (λ c.
     let s : tie.Start = search in
     let a : tie.After-scoped = search in
-    out_of_scope (tables s) (words s) _ a.scoped.ensures c.if1.true)
+    out_of_scope (tables s) (words s) _ a.scoped.ensures (not_from_false _ c.if-not-scoped.true))
     (λ c κs.
     let s : tie.Start = search in
     let a : tie.After-scoped = search in
-    let kept = a.scoped.kept.1.1.1.0 in
-    (omega (arith, s.pre.1.0), ((omega (arith, s.pre.1.1.0, kept), s.pre.1.1.1), s.pre.0)))
+    let kept = a.scoped.auto.pending in
+    (omega (arith, s.requires.1.0), ((omega (arith, s.requires.1.1.0, kept), s.requires.1.1.1), s.requires.0)))
     (λ c. search rules)
     (λ c. search rules)
     (λ c. search rules)
@@ -38,14 +39,14 @@ typed_in_spec =
     (λ c.
     let s : tie.Start = search in
     let a : tie.After-scoped = search in
-    let e : tie.Else1 = search in
-    let i : tie.After-infer = search in
-    has_type (tables s) (words s) _ a.scoped.ensures e.if1.left _ i.infer.ensures _ c.before.r.given.1)
+    let e : tie.Else-not-scoped = search in
+    let i : tie.After-infer-r = search in
+    has_type (tables s) (words s) _ a.scoped.ensures (not_from_true _ e.if-not-scoped.false) _ i.infer-r.ensures _ c.in-Typed.is)
     (λ c. search rules)
     (λ c. search rules)
     (λ c.
     let s : tie.Start = search in
     let a : tie.After-scoped = search in
-    let e : tie.Else1 = search in
-    let i : tie.After-infer = search in
-    has_no_type (tables s) (words s) _ a.scoped.ensures e.if1.left _ i.infer.ensures c.enum_told.given.1))
+    let e : tie.Else-not-scoped = search in
+    let i : tie.After-infer-r = search in
+    has_no_type (tables s) (words s) _ a.scoped.ensures (not_from_true _ e.if-not-scoped.false) _ i.infer-r.ensures c.in-Untyped.is))

@@ -30,18 +30,18 @@ begin_spec =
     (λ c κs. search rules)
     (λ c. search rules)
     (λ c.
-    let l = c.before.before.before in
+    let l = c.before in
     let t = l.before in
-    has _ _ _ _ (omega (arith, t.if1.true, t.before.part_count.ensures.0)) _ l.leaf.ensures _ c.before.r.given.1)
+    has _ _ _ _ (omega (arith, t.if-n-eq0.true, t.before.part_count-n.ensures.0)) _ l.leaf-r.ensures _ c.in-Typed.is)
     (λ c. search rules)
     (λ c.
-    let l = c.before.before in
+    let l = c.before in
     let t = l.before in
-    fails _ _ _ _ (omega (arith, t.if1.true, t.before.part_count.ensures.0)) _ l.leaf.ensures c.enum_told.given.1)
+    fails _ _ _ _ (omega (arith, t.if-n-eq0.true, t.before.part_count-n.ensures.0)) _ l.leaf-r.ensures c.in-Untyped.is)
     (λ c.
     let o = c.before.before in
-    sym (many_is _ _ (omega (arith, c.if2.true, o.part_count.ensures.0))))
+    sym (many_is _ _ (omega (arith, c.if-n-gt3.true, o.part_count-n.ensures.0))))
     (λ c.
     let t = c.before in
-    let n = t.before.part_count.ensures.0 in
-    sym (node_is _ _ (omega (arith, t.if1.false, n)) (omega (arith, c.if2.false, n)))))
+    let n = t.before.part_count-n.ensures.0 in
+    sym (node_is _ _ (omega (arith, t.if-n-eq0.false, n)) (omega (arith, c.if-n-gt3.false, n)))))

@@ -38,7 +38,7 @@ leaf_spec =
     (λ c κs. search rules)
     (λ c.
     let k : tie.After-kind = search in
-    of_variable _ _ _ _ k.kind.ensures _ (omega (arith, c.before.before.if1.true)) _ c.before.number.ensures
+    of_variable _ _ _ _ k.kind.ensures _ (omega (arith, c.before.before.if-kind-eq0.true)) _ c.before.number.ensures
     c.variable.ensures)
     (λ c κs. search rules)
-    (λ c. let k : tie.After-kind = search in of_node _ _ _ _ k.kind.ensures _ c.before.if1.false c.node-type.ensures))
+    (λ c. let k : tie.After-kind = search in of_node _ _ _ _ k.kind.ensures _ c.before.if-kind-eq0.false c.node_type.ensures))

@@ -33,12 +33,12 @@ variable_spec =
     (λ c. search rules)
     (λ c. search rules)
     (λ c. search rules)
-    (λ c. let a = c.before.before.args in bound a.inputs.now a.stack.now a.depth a.n c.before.if1.true)
+    (λ c. let a = c.before.before.args in bound a.inputs.now a.stack.now a.depth a.n c.before.if-i-depth.true)
     (λ c. search rules)
     (λ c. search rules)
     (λ c.
     let a = c.before.before.before.args in
-    free a.inputs.now a.stack.now a.depth a.n c.before.before.if1.false c.before.if2.true)
+    free a.inputs.now a.stack.now a.depth a.n c.before.before.if-i-depth.false c.before.if-at-inputs.true)
     (λ c.
     let a = c.before.before.args in
-    unknown a.inputs.now a.stack.now a.depth a.n c.before.if1.false c.if2.false))
+    unknown a.inputs.now a.stack.now a.depth a.n c.before.if-i-depth.false c.if-at-inputs.false))

@@ -57,53 +57,53 @@ module _ (w a b c : ℕ) where
 
 -- the places: the count is known, and the first and then the second argument agree
 abbrev Counted : Type 0
-Counted = tie.After-arguments
+Counted = tie.After-arguments-n
 
 abbrev First : Type 0
-First = tie.Else2
+First = tie.Else-a-argument
 
 abbrev counted : First → Counted
 counted c = c.before.before.before
 
 abbrev Second : Type 0
-Second = tie.Else4
+Second = tie.Else-b-argument
 
 abbrev first : Second → First
 first c = c.before.before.before
 
-agrees : (c : Counted) (r : Bool) → (let a = c.before.args in r ≡ agree a.w a.a a.b a.c c.arguments.result)
+agrees : (c : Counted) (r : Bool) → (let a = c.before.args in r ≡ agree a.w a.a a.b a.c c.arguments-n.result)
     → (let a = c.before.args in r ≡ agree a.w a.a a.b a.c (arity_of a.w))
-agrees c r h = let a = c.before.args in h ∙ ap (agree a.w a.a a.b a.c) c.arguments.ensures.0
+agrees c r h = let a = c.before.args in h ∙ ap (agree a.w a.a a.b a.c) c.arguments-n.ensures.0
 
 first_agrees : (c : First) → let a = (counted c).before.args in a.a ≡ argument_of a.w 0
-first_agrees c = c.if2.false ∙ c.before.argument.ensures
+first_agrees c = c.if-a-argument.false ∙ c.before.argument.ensures
 
 second_agrees : (c : Second) → let a = (counted (first c)).before.args in a.b ≡ argument_of a.w 1
-second_agrees c = c.if4.false ∙ c.before.argument2.ensures
+second_agrees c = c.if-b-argument.false ∙ c.before.argument-2.ensures
 
 pub arguments_agree_spec : {M : Type 1} → statement M
 arguments_agree_spec =
     tie.close
     (tie.spec
     (λ c κs. search rules)
-    (λ c. agrees (search) _ (none _ _ _ _ _ c.if1.true))
+    (λ c. agrees (search) _ (none _ _ _ _ _ c.if-n-eq0.true))
     (λ c κs. search rules)
     (λ c.
-    let n : tie.Else1 = search in
-    agrees (search) _ (first_not _ _ _ _ _ n.if1.left (λ p. c.if2.true (p ∙ sym c.before.argument.ensures))))
-    (λ c. agrees (search) _ (one _ _ _ _ (first_agrees (search)) _ c.if3.true))
+    let n : tie.Else-n-eq0 = search in
+    agrees (search) _ (first_not _ _ _ _ _ n.if-n-eq0.false (λ p. c.if-a-argument.true (p ∙ sym c.before.argument.ensures))))
+    (λ c. agrees (search) _ (one _ _ _ _ (first_agrees (search)) _ c.if-n-eq1.true))
     (λ c κs. search rules)
     (λ c.
-    let n : tie.Else1 = search in
-    let m : tie.Else3 = search in
+    let n : tie.Else-n-eq0 = search in
+    let m : tie.Else-n-eq1 = search in
     agrees (search) _
-    (second_not _ _ _ _ (first_agrees (search)) _ n.if1.left m.if3.left
-    (λ p. c.if4.true (p ∙ sym c.before.argument2.ensures))))
-    (λ c. agrees (search) _ (two _ _ _ _ (first_agrees (search)) (second_agrees (search)) _ c.if5.true))
+    (second_not _ _ _ _ (first_agrees (search)) _ n.if-n-eq0.false m.if-n-eq1.false
+    (λ p. c.if-b-argument.true (p ∙ sym c.before.argument-2.ensures))))
+    (λ c. agrees (search) _ (two _ _ _ _ (first_agrees (search)) (second_agrees (search)) _ c.if-n-eq2.true))
     (λ c κs. search rules)
     (λ c.
-    let n : tie.Else1 = search in
-    let m : tie.Else3 = search in
+    let n : tie.Else-n-eq0 = search in
+    let m : tie.Else-n-eq1 = search in
     let k : Counted = search in
-    agrees k _ (ap (eqb k.before.args.c) c.argument3.ensures
-    ∙ three _ _ _ _ (first_agrees (search)) (second_agrees (search)) _ n.if1.left m.if3.left c.before.if5.false)))
+    agrees k _ (ap (eqb k.before.args.c) c.argument-3.ensures
+    ∙ three _ _ _ _ (first_agrees (search)) (second_agrees (search)) _ n.if-n-eq0.false m.if-n-eq1.false c.before.if-n-eq2.false)))

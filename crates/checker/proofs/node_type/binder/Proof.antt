@@ -33,7 +33,7 @@ module _ (types : List ℕ) (w j F k : ℕ) (e : k ≡ kind_of w) where
       right l s = s ∙ ap right_of q ∙ simp (ne_eqb (kind_of w) 2 (λ y. n (e ∙ y)), ne_eqb (kind_of w) 4 (λ y. m (e ∙ y)), lt-leb j 1 l)
 
 abbrev Kinded : Type 0
-Kinded = tie.After-kind
+Kinded = tie.After-kind-k
 
 abbrev word : Kinded → ℕ
 word c = c.before.before.args.w
@@ -48,22 +48,22 @@ binder_spec =
     (λ c κs. search rules)
     (λ c.
     let k : Kinded = search in
-    let t : tie.Then1 = search in
+    let t : tie.Then-k-eq2 = search in
     let y : tie.After-ty = search in
-    argument _ (word k) _ _ _ k.kind.ensures _ _ _ t.if1.taken y.ty.ensures c.before.entry.ensures c.number.ensures)
-    (λ c. let k : Kinded = search in bound _ (word k) _ _ _ k.kind.ensures c.before.if1.false c.if2.true)
+    argument _ (word k) _ _ _ k.kind-k.ensures _ _ _ t.if-k-eq2.true y.ty.ensures c.before.entry.ensures c.number.ensures)
+    (λ c. let k : Kinded = search in bound _ (word k) _ _ _ k.kind-k.ensures c.before.if-k-eq2.false c.if-k-eq4.true)
     (λ c κs. search rules)
     (λ c κs. search rules)
     (λ c.
     let k : Kinded = search in
-    let n : tie.Else2 = search in
-    let e : tie.After-entry2 = search in
-    left _ (word k) _ _ _ k.kind.ensures n.before.if1.left n.if2.left _ _ e.entry2.ensures c.before.if3.true
-    c.number2.ensures)
+    let n : tie.Else-k-eq4 = search in
+    let e : tie.After-entry-e = search in
+    left _ (word k) _ _ _ k.kind-k.ensures n.before.if-k-eq2.false n.if-k-eq4.false _ _ e.entry-e.ensures c.before.if-j-le1.true
+    c.number-then-j-le1.ensures)
     (λ c κs. search rules)
     (λ c.
     let k : Kinded = search in
-    let n : tie.Else2 = search in
-    let e : tie.After-entry2 = search in
-    right _ (word k) _ _ _ k.kind.ensures n.before.if1.left n.if2.left _ _ e.entry2.ensures c.before.if3.false
-    c.ty2.ensures))
+    let n : tie.Else-k-eq4 = search in
+    let e : tie.After-entry-e = search in
+    right _ (word k) _ _ _ k.kind-k.ensures n.before.if-k-eq2.false n.if-k-eq4.false _ _ e.entry-e.ensures c.before.if-j-le1.false
+    c.ty-2.ensures))

@@ -50,8 +50,8 @@ call_type_spec =
     (λ c.
     let d = c.before.before.before.before in
     let a = d.before.before.args in
-    known a.calls.now a.n (a.a ∷ a.b ∷ a.c ∷ []) _ _ _ d.if1.true c.before.before.arguments-agree.ensures
+    known a.calls.now a.n (a.a ∷ a.b ∷ a.c ∷ []) _ _ _ d.if-i-calls.true c.before.before.arguments_agree-ok.ensures
     c.before.result.ensures c.given.ensures)
     (λ c.
     let a = c.before.before.args in
-    unknown a.calls.now a.n (a.a ∷ a.b ∷ a.c ∷ []) c.if1.false))
+    unknown a.calls.now a.n (a.a ∷ a.b ∷ a.c ∷ []) c.if-i-calls.false))

@@ -13,4 +13,4 @@ past xs n h = sym (get_or-eq_default xs 0 h)
 pub entry_spec : {M : Type 1} → statement M
 entry_spec =
     tie.close
-    (tie.spec (λ c. search rules) (λ c. search rules) (λ c. search rules) (λ c. past c.before.args.table.now _ c.if1.false))
+    (tie.spec (λ c. search rules) (λ c. search rules) (λ c. search rules) (λ c. past c.before.args.table.now _ c.if-i-table.false))

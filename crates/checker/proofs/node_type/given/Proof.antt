@@ -10,5 +10,5 @@ pub given_spec : {M : Type 1} → statement M
 given_spec =
     tie.close
     (tie.spec
-    (λ c. ap (λ (b : Bool). inferred_of (given b c.before.args.a)) (sym c.if1.true))
-    (λ c. ap (λ (b : Bool). inferred_of (given b c.before.args.a)) (sym c.if1.false)))
+    (λ c. ap (λ (b : Bool). inferred_of (given b c.before.args.a)) (sym c.if-ok.true))
+    (λ c. ap (λ (b : Bool). inferred_of (given b c.before.args.a)) (sym c.if-ok.false)))

@@ -54,20 +54,20 @@ judge_spec =
     (λ c κs. search rules)
     (λ c.
     let s = c.before.before.before in
-    at s 5 _ c.before.before.match.keys3 (pair_yes s _ c.before.if1.true c.given3.ensures))
+    at s 5 _ c.before.before.in-5.is (pair_yes s _ c.before.if-a-x.true c.given-then-a-x.ensures))
     (λ c κs. search rules)
     (λ c κs. search rules)
     (λ c κs. search rules)
-    (λ c. at c.before.before 2 _ c.before.match.keys1 c.given.ensures)
-    (λ c. at c.before.before 3 _ c.before.match.keys2 c.given2.ensures)
-    (λ c. at c.before.before 5 _ c.before.match.keys3 (pair_no c.before.before c.if1.false))
-    (λ c. at c.before 6 _ c.match.keys4 refl)
-    (λ c. at c.before 7 _ c.match.keys5 refl)
-    (λ c. at c.before.before 8 _ c.before.match.keys6 c.given4.ensures)
-    (λ c. at c.before.before 9 _ c.before.match.keys7 c.given5.ensures)
-    (λ c. at c.before 11 _ c.match.keys8 refl)
+    (λ c. at c.before.before 2 _ c.before.in-2.is c.given.ensures)
+    (λ c. at c.before.before 3 _ c.before.in-3.is c.given-in-3.ensures)
+    (λ c. at c.before.before 5 _ c.before.in-5.is (pair_no c.before.before c.if-a-x.false))
+    (λ c. at c.before 6 _ c.in-6.is refl)
+    (λ c. at c.before 7 _ c.in-7.is refl)
+    (λ c. at c.before.before 8 _ c.before.in-8.is c.given-in-8.ensures)
+    (λ c. at c.before.before 9 _ c.before.in-9.is c.given-in-9.ensures)
+    (λ c. at c.before 11 _ c.in-11.is refl)
     (λ c.
-    let n = c.before.match.rest in
+    let n = c.before.in_default.in_default-own.rest in
     let m = n.0.0.0.0 in
     other c.before.before _ _ m.0.0.0.1 m.0.0.1 m.0.1 m.1 n.0.0.0.1 n.0.0.1 n.0.1 n.1
-    c.given6.ensures))
+    c.given-in_default.ensures))

@@ -77,7 +77,7 @@ module _ (types calls : List ℕ) (w : ℕ) (F : List ℕ) (k : ℕ) (e : k ≡ 
 
 -- the places: the kind is known, and then what the node is about
 abbrev Kinded : Type 0
-Kinded = tie.After-kind
+Kinded = tie.After-kind-k
 
 abbrev entry : Kinded → tie.Start
 entry c = c.before.before.before
@@ -85,7 +85,7 @@ entry c = c.before.before.before
 abbrev Subject : Type 0
 Subject = tie.After-form
 
-abbrev typed : Subject → tie.After-ty
+abbrev typed : Subject → tie.After-ty-own
 typed c = c.before.before.before
 
 abbrev kinded : Subject → Kinded
@@ -96,18 +96,18 @@ abbrev parts : tie.Start → List ℕ
 parts s = s.args.a ∷ s.args.b ∷ s.args.c ∷ []
 
 about : (c : Subject) → let s = entry (kinded c) in
-    About s.args.types.now s.args.calls.now s.args.w (parts s) (kinded c).kind.result (kinded c).kind.ensures
-    (typed c).ty.result c.before.pick.result c.form.result
+    About s.args.types.now s.args.calls.now s.args.w (parts s) (kinded c).kind-k.result (kinded c).kind-k.ensures
+    (typed c).ty-own.result c.before.pick-subject.result c.form.result
 about c =
-    let e : tie.Else2 = search in
-    let s : tie.After-shape-of = search in
+    let e : tie.Else-k-eq4 = search in
+    let s : tie.After-shape_of-s = search in
     record {
-      no_call = e.before.if1.left;
-      no_let = e.if2.left;
-      type = (typed c).ty.ensures;
+      no_call = e.before.if-k-eq1.false;
+      no_let = e.if-k-eq4.false;
+      type = (typed c).ty-own.ensures;
       form = c.form.ensures;
-      subject = c.before.pick.ensures
-          ∙ ap (λ (v : Bool). cond v (typed c).ty.result (entry (kinded c)).args.a) s.shape_of.ensures.ty;
+      subject = c.before.pick-subject.ensures
+          ∙ ap (λ (v : Bool). cond v (typed c).ty-own.result (entry (kinded c)).args.a) s.shape_of-s.ensures.ty;
     }
 
 pub node_type_spec : {M : Type 1} → statement M
@@ -119,12 +119,12 @@ node_type_spec =
     (λ c κs. search rules)
     (λ c.
     let k : Kinded = search in
-    of_call (entry k).args.types.now _ (entry k).args.w _ _ k.kind.ensures _ _ c.before.before.if1.true
-    c.before.number.ensures c.call-type.ensures)
+    of_call (entry k).args.types.now _ (entry k).args.w _ _ k.kind-k.ensures _ _ c.before.before.if-k-eq1.true
+    c.before.number.ensures c.call_type.ensures)
     (λ c.
     let k : Kinded = search in
     let s = entry k in
-    of_let s.args.types.now s.args.calls.now s.args.w (parts s) _ k.kind.ensures c.before.if1.false c.if2.true)
+    of_let s.args.types.now s.args.calls.now s.args.w (parts s) _ k.kind-k.ensures c.before.if-k-eq1.false c.if-k-eq4.true)
     (λ c κs. search rules)
     (λ c κs. search rules)
     (λ c κs. search rules)
@@ -134,8 +134,8 @@ node_type_spec =
     (λ c κs. search rules)
     (λ c. search rules)
     (λ c.
-    let q : tie.After-parts-of-type = search in
-    found _ _ _ _ _ _ (about (search)) _ q.parts-of-type.ensures _ _ _ c.before.before.p.given.1 c.judge.ensures)
+    let q : tie.After-parts_of_type-p = search in
+    found _ _ _ _ _ _ (about (search)) _ q.parts_of_type-p.ensures _ _ _ c.before.in-Of.is c.judge.ensures)
     (λ c.
-    let q : tie.After-parts-of-type = search in
-    missing _ _ _ _ _ _ (about (search)) _ q.parts-of-type.ensures c.enum_told.given.1))
+    let q : tie.After-parts_of_type-p = search in
+    missing _ _ _ _ _ _ (about (search)) _ q.parts_of_type-p.ensures c.in-Missing.is))

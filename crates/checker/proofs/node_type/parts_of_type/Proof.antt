@@ -53,11 +53,11 @@ parts_of_type_spec =
     (λ c.
     let s : tie.Start = search in
     let k : tie.After-kind = search in
-    let d : tie.Then1 = search in
-    of_kind s.args.types.now s.args.wanted s.args.a d.if1.taken _ k.kind.ensures _ _
-    (omega (arith, c.before.before.if2.true)) c.before.number.ensures c.ty.ensures)
+    let d : tie.Then-i-types = search in
+    of_kind s.args.types.now s.args.wanted s.args.a d.if-i-types.true _ k.kind.ensures _ _
+    (omega (arith, c.before.before.if-kind-wanted.true)) c.before.number.ensures c.ty.ensures)
     (λ c.
     let s : tie.Start = search in
-    let d : tie.Then1 = search in
-    other s.args.types.now s.args.wanted s.args.a d.if1.taken _ c.before.kind.ensures c.if2.false)
-    (λ c. let s : tie.Start = search in past s.args.types.now s.args.wanted s.args.a c.if1.false))
+    let d : tie.Then-i-types = search in
+    other s.args.types.now s.args.wanted s.args.a d.if-i-types.true _ c.before.kind.ensures c.if-kind-wanted.false)
+    (λ c. let s : tie.Start = search in past s.args.types.now s.args.wanted s.args.a c.if-i-types.false))

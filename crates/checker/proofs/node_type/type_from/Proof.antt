@@ -34,6 +34,6 @@ type_from_spec =
     (λ c. search rules)
     (λ c κs. search rules)
     (λ c.
-    let second = c.before.before.before.before.pick in
-    let third = c.before.before.pick2 in
-    told _ _ _ _ _ _ _ _ second.ensures third.ensures c.node-type.ensures))
+    let second = c.before.before.before.before.pick-second in
+    let third = c.before.before.pick-third in
+    told _ _ _ _ _ _ _ _ second.ensures third.ensures c.node_type.ensures))

@@ -21,6 +21,6 @@ module _ (w d k : ℕ) (e : k ≡ kind_of w) where
 pub in_scope_spec : {M : Type 1} → statement M
 in_scope_spec = tie.close (tie.spec (λ c κs. search rules) (λ c κs. search rules) (λ c.
     let k = c.before.before in
-    variable k.before.args.w k.before.args.depth _ k.kind.ensures _ c.before.if1.true c.number.ensures) (λ c.
+    variable k.before.args.w k.before.args.depth _ k.kind.ensures _ c.before.if-kind-eq0.true c.number.ensures) (λ c.
     let k = c.before in
-    other k.before.args.w k.before.args.depth _ k.kind.ensures c.if1.false))
+    other k.before.args.w k.before.args.depth _ k.kind.ensures c.if-kind-eq0.false))

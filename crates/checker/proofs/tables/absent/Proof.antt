@@ -10,10 +10,10 @@ use Rattle.checker.proofs.Every.{Each, each_start, passing_next, passing_not, pa
 use Rattle.checker.proofs.tables.absent.Statement.{statement}
 use Rattle.checker.proofs.tables.absent.Tie as tie
 
-abbrev invariant-loop : tie.invariant-loop
+abbrev invariant-loop : tie.invariant-loop-i
 invariant-loop words w i₀ i = Each (λ x. not (eqb w x)) words i
 
-abbrev decreases-loop : tie.decreases-loop
+abbrev decreases-loop : tie.decreases-loop-i
 decreases-loop words w i₀ i = length words - i
 
 pub absent_spec : {M : Type 1} → statement M
@@ -25,8 +25,8 @@ absent_spec =
     (λ c. each_start)
     (λ c. search rules)
     (λ c. search rules)
-    (λ c. let t = c.before.before in passing_not t.before.loop.invariant t.loop-test.true (ap not (eq-eqb _ _ c.if1.true)))
+    (λ c. let t = c.before.before in passing_not t.before.loop-i.invariant t.loop-i-test.true (ap not (eq-eqb _ _ c.if-w-words.true)))
     (λ c. search rules)
     (λ c. search rules)
-    (λ c. let t = c.before.before in passing_next t.before.loop.invariant t.loop-test.true (ap not (ne_eqb _ _ c.if1.false)))
-    (λ c. passing_end c.before.loop.invariant c.loop-test.false))
+    (λ c. let t = c.before.before in passing_next t.before.loop-i.invariant t.loop-i-test.true (ap not (ne_eqb _ _ c.if-w-words.false)))
+    (λ c. passing_end c.before.loop-i.invariant c.loop-i-test.false))

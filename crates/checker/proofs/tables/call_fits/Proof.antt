@@ -1,6 +1,7 @@
 -- More than 3 arguments or an unknown result type decide at once. Then the number of arguments says of each argument field whether it is
 -- used, and the fields are tested in order (`left_0`, `left_1`, `left_2`): three tests by field are the two tests of the definition, on the
 -- fields of the arguments and past them (`by_fields`).
+use Rattle.std.proofs.lemmas.Bool.{not_from_true, not_from_false}
 use mathlib.Core.Path.{◌≡◌, refl, sym, ◌∙◌, ap}
 use mathlib.Core.Bool.{Bool, true, false, ◌&&◌, not, and_assoc, and-true}
 use mathlib.Core.List.{List, [], ◌∷◌}
@@ -73,27 +74,27 @@ module _ (t w n : ℕ) (e : n ≡ arity_of w) where
 
 -- the places: the number of arguments and the result fit, and then one field after the other
 abbrev Known : Type 0
-Known = tie.Else2
+Known = tie.Else-types-result
 
-abbrev counted : Known → tie.After-arguments
+abbrev counted : Known → tie.After-arguments-n
 counted c = c.before.before.before
 
 abbrev First : Type 0
-First = tie.After-field-fits
+First = tie.After-field_fits
 
 abbrev known : First → Known
 known c = c.before.before
 
-abbrev first : tie.Else3 → First
+abbrev first : tie.Else-not-field_fits → First
 first c = c.before
 
 abbrev Second : Type 0
-Second = tie.After-field-fits2
+Second = tie.After-field_fits-2
 
-abbrev at_second : Second → tie.Else3
+abbrev at_second : Second → tie.Else-not-field_fits
 at_second c = c.before.before
 
-abbrev second : tie.Else4 → Second
+abbrev second : tie.Else-not-field_fits-2 → Second
 second c = c.before
 
 abbrev types : Known → ℕ
@@ -104,51 +105,51 @@ word c = (counted c).before.args.w
 
 -- the test of field i
 abbrev test : Known → ℕ → Bool
-test c i = field (types c) (counted c).arguments.result i (argument_of (word c) i)
+test c i = field (types c) (counted c).arguments-n.result i (argument_of (word c) i)
 
-tested : (c : Known) (i a : ℕ) (b : Bool) → a ≡ argument_of (word c) i → b ≡ field (types c) (counted c).arguments.result i a
+tested : (c : Known) (i a : ℕ) (b : Bool) → a ≡ argument_of (word c) i → b ≡ field (types c) (counted c).arguments-n.result i a
     → b ≡ test c i
-tested c i a b e h = h ∙ ap (field (types c) (counted c).arguments.result i) e
+tested c i a b e h = h ∙ ap (field (types c) (counted c).arguments-n.result i) e
 
-first_test : (c : First) → c.field-fits.result ≡ test (known c) 0
-first_test c = tested (known c) 0 _ _ c.before.argument.ensures c.field-fits.ensures
+first_test : (c : First) → c.field_fits.result ≡ test (known c) 0
+first_test c = tested (known c) 0 _ _ c.before.argument.ensures c.field_fits.ensures
 
-second_test : (c : Second) → c.field-fits2.result ≡ test (known (first (at_second c))) 1
-second_test c = tested (known (first (at_second c))) 1 _ _ c.before.argument2.ensures c.field-fits2.ensures
+second_test : (c : Second) → c.field_fits-2.result ≡ test (known (first (at_second c))) 1
+second_test c = tested (known (first (at_second c))) 1 _ _ c.before.argument-2.ensures c.field_fits-2.ensures
 
 -- what is left to test
 left_0 : (c : Known) → Left (types c) (word c) (test c 0 ∷ test c 1 ∷ test c 2 ∷ [])
 left_0 c =
     let r : tie.After-result = search in
-    fields_left (types c) (word c) _ (counted c).arguments.ensures.0 (omega (arith, r.before.if1.left)) _ r.result.ensures
-    c.if2.false
+    fields_left (types c) (word c) _ (counted c).arguments-n.ensures.0 (omega arith) _ r.result.ensures
+    c.if-types-result.false
 
-left_1 : (c : tie.Else3) → let k = known (first c) in Left (types k) (word k) (test k 1 ∷ test k 2 ∷ [])
-left_1 c = passes (left_0 (known (first c))) (first_test (first c)) c.if3.false
+left_1 : (c : tie.Else-not-field_fits) → let k = known (first c) in Left (types k) (word k) (test k 1 ∷ test k 2 ∷ [])
+left_1 c = passes (left_0 (known (first c))) (first_test (first c)) (not_from_true _ c.if-not-field_fits.false)
 
-left_2 : (c : tie.Else4) → let k = known (first (at_second (second c))) in Left (types k) (word k) (test k 2 ∷ [])
-left_2 c = passes (left_1 (at_second (second c))) (second_test (second c)) c.if4.false
+left_2 : (c : tie.Else-not-field_fits-2) → let k = known (first (at_second (second c))) in Left (types k) (word k) (test k 2 ∷ [])
+left_2 c = passes (left_1 (at_second (second c))) (second_test (second c)) (not_from_true _ c.if-not-field_fits-2.false)
 
 pub call_fits_spec : {M : Type 1} → statement M
 call_fits_spec =
     tie.close
     (tie.spec
     (λ c κs. search rules)
-    (λ c. let k : tie.After-arguments = search in many _ k.before.args.w _ k.arguments.ensures.0 (omega (arith, c.if1.true)))
+    (λ c. let k : tie.After-arguments-n = search in many _ k.before.args.w _ k.arguments-n.ensures.0 (omega arith))
     (λ c κs. search rules)
     (λ c.
-    let k : tie.After-arguments = search in
+    let k : tie.After-arguments-n = search in
     let r : tie.After-result = search in
-    unknown _ k.before.args.w _ k.arguments.ensures.0 (omega (arith, r.before.if1.left)) _ r.result.ensures
-    c.if2.true)
+    unknown _ k.before.args.w _ k.arguments-n.ensures.0 (omega arith) _ r.result.ensures
+    c.if-types-result.true)
     (λ c κs. search rules)
     (λ c κs. search rules)
-    (λ c. fails (left_0 (search)) (first_test (search)) c.if3.true)
+    (λ c. fails (left_0 (search)) (first_test (search)) (not_from_false _ c.if-not-field_fits.true))
     (λ c κs. search rules)
     (λ c κs. search rules)
-    (λ c. fails (left_1 (search)) (second_test (search)) c.if4.true)
+    (λ c. fails (left_1 (search)) (second_test (search)) (not_from_false _ c.if-not-field_fits-2.true))
     (λ c κs. search rules)
     (λ c κs. search rules)
     (λ c.
     let k : Known = search in
-    last (left_2 (search)) _ (tested k 2 _ _ c.before.argument3.ensures c.field-fits3.ensures)))
+    last (left_2 (search)) _ (tested k 2 _ _ c.before.argument-3.ensures c.field_fits-3.ensures)))

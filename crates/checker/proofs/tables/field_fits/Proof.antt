@@ -9,5 +9,5 @@ pub field_fits_spec : {M : Type 1} → statement M
 field_fits_spec =
     tie.close
     (tie.spec
-    (λ c. let a = c.before.args in ap (λ (b : Bool). field_fits b a.bound a.x) (sym c.if1.true))
-    (λ c. let a = c.before.args in ap (λ (b : Bool). field_fits b a.bound a.x) (sym c.if1.false)))
+    (λ c. let a = c.before.args in ap (λ (b : Bool). field_fits b a.bound a.x) (sym c.if-used.true))
+    (λ c. let a = c.before.args in ap (λ (b : Bool). field_fits b a.bound a.x) (sym c.if-used.false)))

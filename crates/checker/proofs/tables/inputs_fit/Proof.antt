@@ -9,10 +9,10 @@ use Rattle.checker.proofs.Every.{Each, each_start, passing_next, passing_not, pa
 use Rattle.checker.proofs.tables.inputs_fit.Statement.{statement}
 use Rattle.checker.proofs.tables.inputs_fit.Tie as tie
 
-abbrev invariant-loop : tie.invariant-loop
+abbrev invariant-loop : tie.invariant-loop-i
 invariant-loop types inputs i₀ i = Each (λ A. ltb A (length types)) inputs i
 
-abbrev decreases-loop : tie.decreases-loop
+abbrev decreases-loop : tie.decreases-loop-i
 decreases-loop types inputs i₀ i = length inputs - i
 
 pub inputs_fit_spec : {M : Type 1} → statement M
@@ -25,8 +25,8 @@ inputs_fit_spec =
     (λ c. each_start)
     (λ c. search rules)
     (λ c. search rules)
-    (λ c. let t = c.before.before in passing_not t.before.loop.invariant t.loop-test.true (le-ltb _ _ c.if1.true))
+    (λ c. let t = c.before.before in passing_not t.before.loop-i.invariant t.loop-i-test.true (le-ltb _ _ c.if-types-inputs.true))
     (λ c. search rules)
     (λ c. search rules)
-    (λ c. let t = c.before.before in passing_next t.before.loop.invariant t.loop-test.true (lt-ltb _ _ c.if1.false))
-    (λ c. passing_end c.before.loop.invariant c.loop-test.false))
+    (λ c. let t = c.before.before in passing_next t.before.loop-i.invariant t.loop-i-test.true (lt-ltb _ _ c.if-types-inputs.false))
+    (λ c. passing_end c.before.loop-i.invariant c.loop-i-test.false))

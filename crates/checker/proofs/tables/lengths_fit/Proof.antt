@@ -3,6 +3,7 @@ use mathlib.Core.Path.{◌≡◌}
 use mathlib.Core.Bool.{false}
 use mathlib.Core.List.{List}
 use Prim.Native.Nat.{ℕ, ◌≤◌, ◌<◌}
+use native.Mathlib.Omega.{arith}
 use lib.Dec.{leb}
 use lib.ListN.{length}
 use borrow.Author.Tests.{le-leb, lt-leb}
@@ -48,8 +49,8 @@ pub lengths_fit_spec : {M : Type 1} → statement M
 lengths_fit_spec =
     tie.close
     (tie.spec
-    (λ c. many_types _ _ _ c.if1.true)
-    (λ c. many_calls _ _ _ c.before.if1.false c.if2.true)
-    (λ c. many_inputs _ _ _ c.before.before.if1.false c.before.if2.false c.if3.true)
-    (λ c. many_words _ _ _ c.before.before.before.if1.false c.before.before.if2.false c.before.if3.false c.if4.true)
-    (λ c. some_words _ _ _ c.before.before.before.if1.false c.before.before.if2.false c.before.if3.false c.if4.false))
+    (λ c. many_types _ _ _ c.if-types-gt1024.true)
+    (λ c. many_calls _ _ _ c.before.if-types-gt1024.false c.if-calls-gt1024.true)
+    (λ c. many_inputs _ _ _ c.before.before.if-types-gt1024.false c.before.if-calls-gt1024.false (omega arith))
+    (λ c. many_words _ _ _ c.before.before.before.if-types-gt1024.false c.before.before.if-calls-gt1024.false (omega arith) c.if-limit-term.true)
+    (λ c. some_words _ _ _ c.before.before.before.if-types-gt1024.false c.before.before.if-calls-gt1024.false (omega arith) c.if-limit-term.false))

@@ -45,10 +45,10 @@ module _ (i w k r : ℕ) (ke : k ≡ kind_of w) (re : r ≡ right_of w) where
 
 -- the places: both fields are known, the right one first
 abbrev Right : Type 0
-Right = tie.After-ty
+Right = tie.After-ty-right
 
 abbrev Left : Type 0
-Left = tie.After-number
+Left = tie.After-number-left
 
 abbrev word : Right → ℕ
 word c = c.before.before.args.w
@@ -59,29 +59,27 @@ type_fits_spec =
     (tie.spec
     (λ c κs. search rules)
     (λ c κs. search rules)
-    (λ c. let f : Right = search in base _ (word f) _ _ f.before.kind.ensures f.ty.ensures c.if1.true)
-    (λ c. let f : Right = search in unknown _ (word f) _ _ f.before.kind.ensures f.ty.ensures (omega (arith, c.if2.true)))
+    (λ c. let f : Right = search in base _ (word f) _ _ f.before.kind-k.ensures f.ty-right.ensures c.if-k-eq0.true)
+    (λ c. let f : Right = search in unknown _ (word f) _ _ f.before.kind-k.ensures f.ty-right.ensures (omega arith))
     (λ c κs. search rules)
     (λ c.
     let f : Right = search in
     let n : Left = search in
-    unit _ (word f) _ _ f.before.kind.ensures f.ty.ensures _ n.number.ensures c.before.if3.true
-    (omega (arith, c.if4.true)))
+    unit _ (word f) _ _ f.before.kind-k.ensures f.ty-right.ensures _ n.number-left.ensures c.before.if-k-eq4.true
+    (omega arith))
     (λ c.
     let f : Right = search in
     let n : Left = search in
-    unit_set _ (word f) _ _ f.before.kind.ensures f.ty.ensures _ n.number.ensures c.before.if3.true c.if4.false)
+    unit_set _ (word f) _ _ f.before.kind-k.ensures f.ty-right.ensures _ n.number-left.ensures c.before.if-k-eq4.true (λ z. omega arith))
     (λ c.
     let f : Right = search in
     let n : Left = search in
-    let z : tie.Else1 = search in
-    let h : tie.Else2 = search in
-    parts _ (word f) _ _ f.before.kind.ensures f.ty.ensures _ n.number.ensures z.if1.left c.before.if3.false
-    (omega (arith, h.if2.left)) c.if5.true)
+    let z : tie.Else-k-eq0 = search in
+    parts _ (word f) _ _ f.before.kind-k.ensures f.ty-right.ensures _ n.number-left.ensures z.if-k-eq0.false c.before.if-k-eq4.false
+    (omega arith) c.if-left-i.true)
     (λ c.
     let f : Right = search in
     let n : Left = search in
-    let z : tie.Else1 = search in
-    let h : tie.Else2 = search in
-    late _ (word f) _ _ f.before.kind.ensures f.ty.ensures _ n.number.ensures z.if1.left c.before.if3.false
-    (omega (arith, h.if2.left)) c.if5.false))
+    let z : tie.Else-k-eq0 = search in
+    late _ (word f) _ _ f.before.kind-k.ensures f.ty-right.ensures _ n.number-left.ensures z.if-k-eq0.false c.before.if-k-eq4.false
+    (omega arith) c.if-left-i.false))

@@ -1,4 +1,5 @@
 -- Every type before i passes at its index.
+use Rattle.std.proofs.lemmas.Bool.{not_from_true, not_from_false}
 use Prim.Native.Nat.{◌-◌}
 use borrow.Author.Rules.{rules}
 use lib.ListN.{length}
@@ -6,10 +7,10 @@ use Rattle.checker.proofs.Every.{Ordered, ordered_start, passing_next, passing_n
 use Rattle.checker.proofs.tables.types_fit.Statement.{statement}
 use Rattle.checker.proofs.tables.types_fit.Tie as tie
 
-abbrev invariant-loop : tie.invariant-loop
+abbrev invariant-loop : tie.invariant-loop-i
 invariant-loop types i₀ i = Ordered types i
 
-abbrev decreases-loop : tie.decreases-loop
+abbrev decreases-loop : tie.decreases-loop-i
 decreases-loop types i₀ i = length types - i
 
 pub types_fit_spec : {M : Type 1} → statement M
@@ -24,10 +25,10 @@ types_fit_spec =
     (λ c κs. search rules)
     (λ c.
     let t = c.before.before.before in
-    passing_not t.before.loop.invariant t.loop-test.true (told_false c.before.type-fits.ensures c.if1.true))
+    passing_not t.before.loop-i.invariant t.loop-i-test.true (told_false c.before.type_fits.ensures (not_from_false _ c.if-not-type_fits.true)))
     (λ c. search rules)
     (λ c. search rules)
     (λ c.
     let t = c.before.before.before in
-    passing_next t.before.loop.invariant t.loop-test.true (told_true c.before.type-fits.ensures c.if1.false))
-    (λ c. passing_end c.before.loop.invariant c.loop-test.false))
+    passing_next t.before.loop-i.invariant t.loop-i-test.true (told_true c.before.type_fits.ensures (not_from_true _ c.if-not-type_fits.false)))
+    (λ c. passing_end c.before.loop-i.invariant c.loop-i-test.false))

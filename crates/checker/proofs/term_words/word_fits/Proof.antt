@@ -49,13 +49,13 @@ module _ (tables : Tables) (w k : ℕ) (e : k ≡ kind_of w) where
 
 -- the places: the kind is known, and then whether the type field fits
 abbrev Kinded : Type 0
-Kinded = tie.After-kind
+Kinded = tie.After-kind-k
 
 abbrev entry : Kinded → tie.Start
 entry c = c.before.before.before
 
 abbrev Tested : Type 0
-Tested = tie.After-field-fits
+Tested = tie.After-field_fits-fits
 
 abbrev kinded : Tested → Kinded
 kinded c = c.before.before.before.before
@@ -66,35 +66,32 @@ tables c = let a = (entry c).args in over a.types.now a.calls.now []
 abbrev word : Kinded → ℕ
 word c = (entry c).args.w
 
-typing : (c : Tested) → let k = kinded c in Typed (tables k) (word k) k.kind.result k.kind.ensures c.field-fits.result
+typing : (c : Tested) → let k = kinded c in Typed (tables k) (word k) k.kind-k.result k.kind-k.ensures c.field_fits-fits.result
 typing c =
     let k = kinded c in
-    let e : tie.Else1 = search in
-    let s : tie.After-shape-of = search in
-    typed (tables k) (word k) _ k.kind.ensures _ _ _ (omega (arith, e.if1.left)) s.shape_of.ensures.ty c.before.ty.ensures
-    c.field-fits.ensures
+    let s : tie.After-shape_of-s = search in
+    typed (tables k) (word k) _ k.kind-k.ensures _ _ _ (omega arith) s.shape_of-s.ensures.ty c.before.ty.ensures
+    c.field_fits-fits.ensures
 
 pub word_fits_spec : {M : Type 1} → statement M
 word_fits_spec =
     tie.close
     (tie.spec
     (λ c κs. search rules)
-    (λ c. let k : Kinded = search in past (tables k) (word k) _ k.kind.ensures (omega (arith, c.if1.true)))
+    (λ c. let k : Kinded = search in past (tables k) (word k) _ k.kind-k.ensures (omega arith))
     (λ c κs. search rules)
     (λ c κs. search rules)
     (λ c κs. search rules)
-    (λ c. variable _ _ _ _ (typing (search)) c.if2.true)
+    (λ c. variable _ _ _ _ (typing (search)) (omega arith))
     (λ c κs. search rules)
     (λ c κs. search rules)
     (λ c.
-    let e : tie.Else2 = search in
-    let s : tie.After-shape-of = search in
+    let s : tie.After-shape_of-s = search in
     let n : tie.After-number = search in
-    fits _ _ _ _ (typing (search)) e.if2.left _ _ _ s.shape_of.ensures.number n.number.ensures
-    c.before.field-fits2.ensures c.if3.true)
+    fits _ _ _ _ (typing (search)) (λ z. omega arith) _ _ _ s.shape_of-s.ensures.number n.number.ensures
+    c.before.field_fits.ensures c.if-field_fits.true)
     (λ c.
-    let e : tie.Else2 = search in
-    let s : tie.After-shape-of = search in
+    let s : tie.After-shape_of-s = search in
     let n : tie.After-number = search in
-    fails _ _ _ _ (typing (search)) e.if2.left _ _ _ s.shape_of.ensures.number n.number.ensures
-    c.before.field-fits2.ensures c.if3.false))
+    fails _ _ _ _ (typing (search)) (λ z. omega arith) _ _ _ s.shape_of-s.ensures.number n.number.ensures
+    c.before.field_fits.ensures c.if-field_fits.false))

@@ -1,4 +1,5 @@
 -- Every word before i passes.
+use Rattle.std.proofs.lemmas.Bool.{not_from_true, not_from_false}
 use Prim.Native.Nat.{◌-◌}
 use mathlib.Core.List.{[]}
 use borrow.Author.Rules.{rules}
@@ -9,10 +10,10 @@ use Rattle.checker.proofs.Every.{Each, each_start, passing_next, passing_not, pa
 use Rattle.checker.proofs.term_words.words_fit.Statement.{statement}
 use Rattle.checker.proofs.term_words.words_fit.Tie as tie
 
-abbrev invariant-loop : tie.invariant-loop
+abbrev invariant-loop : tie.invariant-loop-i
 invariant-loop types calls term i₀ i = Each (well_formed_word (over types calls [])) term i
 
-abbrev decreases-loop : tie.decreases-loop
+abbrev decreases-loop : tie.decreases-loop-i
 decreases-loop types calls term i₀ i = length term - i
 
 pub words_fit_spec : {M : Type 1} → statement M
@@ -28,10 +29,10 @@ words_fit_spec =
     (λ c κs. search rules)
     (λ c.
     let t = c.before.before.before in
-    passing_not t.before.loop.invariant t.loop-test.true (told_false c.before.word-fits.ensures c.if1.true))
+    passing_not t.before.loop-i.invariant t.loop-i-test.true (told_false c.before.word_fits.ensures (not_from_false _ c.if-not-word_fits.true)))
     (λ c. search rules)
     (λ c. search rules)
     (λ c.
     let t = c.before.before.before in
-    passing_next t.before.loop.invariant t.loop-test.true (told_true c.before.word-fits.ensures c.if1.false))
-    (λ c. passing_end c.before.loop.invariant c.loop-test.false))
+    passing_next t.before.loop-i.invariant t.loop-i-test.true (told_true c.before.word_fits.ensures (not_from_true _ c.if-not-word_fits.false)))
+    (λ c. passing_end c.before.loop-i.invariant c.loop-i-test.false))

@@ -10,19 +10,19 @@ insert_part_spec =
     tie.close
     (tie.spec
     (λ c. search rules)
-    (λ c. let s : tie.Start = search in part_space s.pre.0)
+    (λ c. let s : tie.Start = search in part_space s.requires.0)
     (λ c. search rules)
     (λ c.
     let s : tie.Start = search in
-    let taken = c.if1.true in
-    part_replaced taken (s.pre.0.sized taken))
+    let taken = c.if-here.true in
+    part_replaced taken (s.requires.0.sized taken))
     (λ c κs.
     let s : tie.Start = search in
-    let moves : tie.Else1 = search in
-    (part_room s.pre.0 moves.if1.left, omega (arith, s.pre.1, s.pre.2), omega arith, omega (arith, s.pre.2, s.pre.3)))
+    let moves : tie.Else-here = search in
+    (part_room s.requires.0 moves.if-here.false, omega (arith, s.requires.1, s.requires.2), omega arith, omega (arith, s.requires.2, s.requires.3)))
     (λ c. search rules)
     (λ c. search rules)
     (λ c.
-    let moves : tie.Else1 = search in
-    let renamed : tie.After-rename-into = search in
-    part_moved moves.if1.left renamed.rename-into.ensures))
+    let moves : tie.Else-here = search in
+    let renamed : tie.After-rename_into-n = search in
+    part_moved moves.if-here.false renamed.rename_into-n.ensures))

@@ -13,6 +13,6 @@ pub drop_let_spec : {M : Type 1} → statement M
 drop_let_spec =
     tie.close
     (tie.spec
-    (λ c κs. let s : tie.Start = search in ((two s).first, s.pre.1))
-    (λ c. let s : tie.Start = search in omega (arith, sized_inside (two s).first c.size-from.ensures, s.pre.1))
-    (λ c. let p : tie.After-size-from = search in drop_uncovers p.size-from.ensures))
+    (λ c κs. let s : tie.Start = search in ((two s).first, s.requires.1))
+    (λ c. let s : tie.Start = search in omega (arith, sized_inside (two s).first c.size_from.ensures, s.requires.1))
+    (λ c. let p : tie.After-size_from = search in drop_uncovers p.size_from.ensures))

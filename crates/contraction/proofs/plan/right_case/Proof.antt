@@ -8,38 +8,38 @@ use borrow.Author.Rules.{rules}
 use Rattle.contraction.proofs.plan.right_case.Statement.{statement}
 use Rattle.contraction.proofs.plan.right_case.Tie as tie
 
-abbrev entry : tie.After-two-sizes → tie.Start
+abbrev entry : tie.After-two_sizes-parts → tie.Start
 entry c = c.before.before.before.before
 
-abbrev sizes : tie.After-body-with → tie.After-two-sizes
+abbrev sizes : tie.After-body_with-body → tie.After-two_sizes-parts
 sizes c = c.before.before.before.before
 
 two : (c : tie.Start) → StartsTwo c.args.calls.now c.args.t.now 2
 two c = row_two (redex_row of_right c.requires.0) (omega arith)
 
-right : (c : tie.After-two-sizes)
+right : (c : tie.After-two_sizes-parts)
     → (let s = (entry c).args in
-    let r = c.two-sizes.result in
+    let r = c.two_sizes-parts.result in
     StartsAt s.calls.now s.t.now (2 + r.first + r.second))
-right c = row_third (redex_row of_right (entry c).requires.0) (omega arith) c.two-sizes.ensures
+right c = row_third (redex_row of_right (entry c).requires.0) (omega arith) c.two_sizes-parts.ensures
 
-right_small : (c : tie.After-two-sizes) → 2 + c.two-sizes.result.first + c.two-sizes.result.second ≤ 8192
+right_small : (c : tie.After-two_sizes-parts) → 2 + c.two_sizes-parts.result.first + c.two_sizes-parts.result.second ≤ 8192
 right_small c = omega (arith, (right c).inside, (entry c).requires.1)
 
-end_small : (c : tie.After-body-with)
-    → (let r = (sizes c).two-sizes.result in 2 + r.first + r.second + c.body-with.result.end ≤ 8192)
-end_small c = omega (arith, sized_inside (right (sizes c)) c.body-with.ensures.ends, (entry (sizes c)).requires.1)
+end_small : (c : tie.After-body_with-body)
+    → (let r = (sizes c).two_sizes-parts.result in 2 + r.first + r.second + c.body_with-body.result.end ≤ 8192)
+end_small c = omega (arith, sized_inside (right (sizes c)) c.body_with-body.ensures.ends, (entry (sizes c)).requires.1)
 
 pub right_case_spec : {M : Type 1} → statement M
 right_case_spec =
     tie.close
     (tie.spec
-    (λ c κs. let s : tie.Start = search in (two s, s.pre.1))
+    (λ c κs. let s : tie.Start = search in (two s, s.requires.1))
     (λ c. omega (arith, right_small (search)))
     (λ c. omega (arith, right_small (search)))
-    (λ c κs. let s : tie.Start = search in (right (search), s.pre.1, omega (arith, right_small (search)), s.pre.2))
+    (λ c κs. let s : tie.Start = search in (right (search), s.requires.1, omega (arith, right_small (search)), s.requires.2))
     (λ c. omega (arith, end_small (search)))
     (λ c. search rules)
     (λ c.
-    let b : tie.After-body-with = search in
-    right_measures (sizes b).two-sizes.ensures b.body-with.ensures.ends b.body-with.ensures.becomes))
+    let b : tie.After-body_with-body = search in
+    right_measures (sizes b).two_sizes-parts.ensures b.body_with-body.ensures.ends b.body_with-body.ensures.becomes))

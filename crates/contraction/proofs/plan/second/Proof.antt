@@ -10,14 +10,14 @@ use Rattle.contraction.proofs.plan.second.Tie as tie
 two : (c : tie.Start) → StartsTwo c.args.calls.now c.args.t.now 2
 two c = row_two (redex_row of_second c.requires.0) (omega arith)
 
-end_small : (c : tie.After-two-sizes) → 2 + c.two-sizes.result.first + c.two-sizes.result.second ≤ 8192
-end_small c = let s : tie.Start = search in omega (arith, c.two-sizes.ensures.inside, s.pre.1)
+end_small : (c : tie.After-two_sizes-halves) → 2 + c.two_sizes-halves.result.first + c.two_sizes-halves.result.second ≤ 8192
+end_small c = let s : tie.Start = search in omega (arith, c.two_sizes-halves.ensures.inside, s.requires.1)
 
 pub second_spec : {M : Type 1} → statement M
 second_spec =
     tie.close
     (tie.spec
-    (λ c κs. let s : tie.Start = search in (two s, s.pre.1))
+    (λ c κs. let s : tie.Start = search in (two s, s.requires.1))
     (λ c. omega (arith, end_small (search)))
     (λ c. omega (arith, end_small (search)))
-    (λ c. let z : tie.After-two-sizes = search in second_measures z.two-sizes.ensures))
+    (λ c. let z : tie.After-two_sizes-halves = search in second_measures z.two_sizes-halves.ensures))

@@ -11,12 +11,12 @@ body_with_spec =
     tie.close
     (tie.spec
     (λ c κs. search rules)
-    (λ c. word_body c.size-from.ensures c.before.if1.true)
+    (λ c. word_body c.size_from-end.ensures c.before.if-size-eq1.true)
     (λ c κs. search rules)
     (λ c κs.
     let s : tie.Start = search in
-    let u : tie.After-uses-from = search in
-    let counts = u.uses-from.ensures in
-    (counts.few, omega (arith, counts.within, from_length s.args.t.now s.args.at, s.pre.1), s.pre.2))
+    let u : tie.After-uses_from-body = search in
+    let counts = u.uses_from-body.ensures in
+    (counts.few, omega (arith, counts.within, from_length s.args.t.now s.args.at, s.requires.1), s.requires.2))
     (λ c. search rules)
-    (λ c. let u : tie.After-uses-from = search in counted_body u.uses-from.ensures c.substituted.ensures))
+    (λ c. let u : tie.After-uses_from-body = search in counted_body u.uses_from-body.ensures c.substituted.ensures))

@@ -21,19 +21,19 @@ Copied = tie.After-copy
 abbrev entry : Copied → tie.Start
 entry c = c.before.before.before.before.before.before
 
-abbrev copied : tie.After-insert-node → Copied
+abbrev copied : tie.After-insert_node → Copied
 copied c = c.before.before.before.before.before
 
 facts : (c : tie.Start)
     → InsertingLet c.args.calls.now c.args.t.now c.args.index c.args.start c.args.size (length c.args.dst.now)
 facts c = inserting_let c.requires.0
 
-copied_long : (c : Copied) → length c.copy.new.1.1.1.0 ≡ length (entry c).args.dst.now
-copied_long c = c.copy.auto.1.1.1.0 ∙ length-set (entry c).args.dst.now 0 _
+copied_long : (c : Copied) → length c.copy.new.dst ≡ length (entry c).args.dst.now
+copied_long c = c.copy.auto.dst ∙ length-set (entry c).args.dst.now 0 _
 
 moved_room : (c : Copied)
     → (let s = (entry c).args in
-    NodeRoom s.calls.now s.t.now s.index s.size (length c.copy.new.1.1.1.0) (1 + s.size))
+    NodeRoom s.calls.now s.t.now s.index s.size (length c.copy.new.dst) (1 + s.size))
 moved_room c = node_room (facts (entry c)).node (copied_long c)
 
 pub insert_let_spec : {M : Type 1} → statement M
@@ -44,11 +44,11 @@ insert_let_spec =
     (λ c κs.
     let s : tie.Start = search in
     ((facts s).inside, omega (arith, (facts s).room, length-set s.args.dst.now 0 4611686018427387904)))
-    (λ c. let s : tie.Start = search in omega (arith, (facts s).room, s.good))
-    (λ c κs. let s : tie.Start = search in (moved_room (search), s.pre.1, s.pre.2))
-    (λ c. let w : tie.After-insert-node = search in w.insert-node.kept.1.1.1.1.0 ∙ copied_long (copied w))
+    (λ c. let s : tie.Start = search in omega (arith, (facts s).room, s.well_formed))
+    (λ c κs. let s : tie.Start = search in (moved_room (search), s.requires.1, s.requires.2))
+    (λ c. let w : tie.After-insert_node = search in w.insert_node.auto.dst ∙ copied_long (copied w))
     (λ c. search rules)
     (λ c.
-    let w : tie.After-insert-node = search in
-    insert_writes (entry (copied w)).args.dst.now (copied w).copy.kept.1.1.1.0 (copied w).copy.ensures
-    w.insert-node.ensures))
+    let w : tie.After-insert_node = search in
+    insert_writes (entry (copied w)).args.dst.now (copied w).copy.auto.dst (copied w).copy.ensures
+    w.insert_node.ensures))

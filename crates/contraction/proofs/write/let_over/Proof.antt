@@ -20,7 +20,7 @@ abbrev Copied : Type 0
 Copied = tie.After-copy
 
 abbrev Renamed : Type 0
-Renamed = tie.After-rename-into
+Renamed = tie.After-rename_into-moved
 
 abbrev entry : Copied → tie.Start
 entry c = c.before.before.before.before.before.before
@@ -36,7 +36,7 @@ bound_fits : (c : tie.Start) → c.args.at + 1 + (c.args.end - c.args.start) < l
 bound_fits c = bound_room c.requires.0
 
 small : (c : tie.Start) → length c.args.dst.now < 2 ^ 64
-small c = omega (arith, c.well-formed)
+small c = omega (arith, c.well_formed)
 
 body_in : (c : tie.Start) → c.args.body < length c.args.t.now
 body_in c = body_inside c.requires.0
@@ -45,21 +45,21 @@ body_short : (c : tie.Start) → length (from c.args.t.now c.args.body) ≤ 8192
 body_short c = omega (arith, from_length c.args.t.now c.args.body, c.requires.1)
 
 -- the bound part is copied
-copied_long : (c : Copied) → length c.copy.new.1.1.1.0 ≡ length (entry c).args.dst.now
-copied_long c = c.copy.auto.1.1.1.0 ∙ length-set (entry c).args.dst.now _ _
+copied_long : (c : Copied) → length c.copy.new.dst ≡ length (entry c).args.dst.now
+copied_long c = c.copy.auto.dst ∙ length-set (entry c).args.dst.now _ _
 
 room : (c : Copied)
     → (let s = (entry c).args in
-    Room s.calls.now (from s.t.now s.body) (length c.copy.new.1.1.1.0) (s.at + 1 + (s.end - s.start)))
+    Room s.calls.now (from s.t.now s.body) (length c.copy.new.dst) (s.at + 1 + (s.end - s.start)))
 room c = body_room (entry c).requires.0 (copied_long c)
 
 -- the body is renamed
-renamed_long : (c : Renamed) → length c.rename-into.new.1.1.0 ≡ length (entry (copied c)).args.dst.now
-renamed_long c = c.rename-into.auto.1.1.0 ∙ copied_long (copied c)
+renamed_long : (c : Renamed) → length c.rename_into-moved.new.dst ≡ length (entry (copied c)).args.dst.now
+renamed_long c = c.rename_into-moved.auto.dst ∙ copied_long (copied c)
 
 let_small : (c : Renamed)
-    → (let s = (entry (copied c)).args in s.at + 1 + (s.end - s.start) + c.rename-into.result < 2 ^ 64)
-let_small c = let s = entry (copied c) in omega (arith, let_fits s.pre.0 c.rename-into.ensures, small s)
+    → (let s = (entry (copied c)).args in s.at + 1 + (s.end - s.start) + c.rename_into-moved.result < 2 ^ 64)
+let_small c = let s = entry (copied c) in omega (arith, let_fits s.requires.0 c.rename_into-moved.ensures, small s)
 
 pub let_over_spec : {M : Type 1} → statement M
 let_over_spec =
@@ -71,8 +71,8 @@ let_over_spec =
     (λ c. omega (arith, bound_fits (search), small (search)))
     (λ c κs.
     let s : tie.Start = search in
-    (bound_inside s.pre.0, omega (arith, bound_fits s, length-set s.args.dst.now s.args.at 4611686018427387904)))
-    (λ c. let s : tie.Start = search in omega (arith, body_in s, s.pre.1))
+    (bound_inside s.requires.0, omega (arith, bound_fits s, length-set s.args.dst.now s.args.at 4611686018427387904)))
+    (λ c. let s : tie.Start = search in omega (arith, body_in s, s.requires.1))
     (λ c. omega (arith, body_in (search)))
     (λ c. omega (arith, body_in (search)))
     (λ c. search rules)
@@ -80,11 +80,11 @@ let_over_spec =
     (λ c. omega (arith, bound_fits (search), small (search)))
     (λ c κs.
     let s : tie.Start = search in
-    (room (search), omega (arith, body_short s), omega arith, omega (arith, body_short s, s.pre.2)))
+    (room (search), omega (arith, body_short s), omega arith, omega (arith, body_short s, s.requires.2)))
     (λ c. omega (arith, bound_fits (search), small (search)))
     (λ c. omega (arith, let_small (search)))
     (λ c. renamed_long (search))
     (λ c. search rules)
     (λ c.
     let r : Renamed = search in
-    let_written (entry (copied r)).args.dst.now (copied r).copy.kept.1.1.1.0 (copied r).copy.ensures r.rename-into.ensures))
+    let_written (entry (copied r)).args.dst.now (copied r).copy.auto.dst (copied r).copy.ensures r.rename_into-moved.ensures))

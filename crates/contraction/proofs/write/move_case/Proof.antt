@@ -15,10 +15,10 @@ use Rattle.contraction.proofs.write.move_case.Tie as tie
 
 -- where the left branch is written, and where the right one is
 abbrev Left : Type 0
-Left = tie.After-let-over
+Left = tie.After-let_over-left
 
 abbrev Right : Type 0
-Right = tie.After-let-over2
+Right = tie.After-let_over
 
 abbrev entry : Left → tie.Start
 entry c = c.before.before.before.before.before.before.before.before
@@ -29,14 +29,14 @@ left c = c.before.before.before.before.before.before.before
 facts : (c : tie.Start) → MovingCase c.args.calls.now c.args.t.now c.args.right c.args.third (length c.args.dst.now)
 facts c = moving_case c.requires.0
 
-left_long : (c : Left) → length c.let-over.new.1.1.1.1.1.0 ≡ length (entry c).args.dst.now
-left_long c = c.let-over.auto.1.1.1.1.1.0 ∙ simp length-set
+left_long : (c : Left) → length c.let_over-left.new.dst ≡ length (entry c).args.dst.now
+left_long c = c.let_over-left.auto.dst ∙ simp length-set
 
 right_room : (c : Left)
     → (let s = (entry c).args in
-    LetRoom s.calls.now s.t.now s.right s.third s.third (length c.let-over.new.1.1.1.1.1.0)
-    (2 + c.let-over.result))
-right_room c = let_room ((facts (entry c)).other _ _ _ c.let-over.ensures) (left_long c)
+    LetRoom s.calls.now s.t.now s.right s.third s.third (length c.let_over-left.new.dst)
+    (2 + c.let_over-left.result))
+right_room c = let_room ((facts (entry c)).other _ _ _ c.let_over-left.ensures) (left_long c)
 
 pub move_case_spec : {M : Type 1} → statement M
 move_case_spec =
@@ -45,18 +45,18 @@ move_case_spec =
     (λ c. omega (arith, (facts (search)).room))
     (λ c. (facts (search)).subject)
     (λ c. let s : tie.Start = search in omega (arith, (facts s).room, length-set s.args.dst.now 0 11529215046068469760))
-    (λ c κs. let s : tie.Start = search in (let_room (facts s).left (simp length-set), s.pre.1, s.pre.2))
+    (λ c κs. let s : tie.Start = search in (let_room (facts s).left (simp length-set), s.requires.1, s.requires.2))
     (λ c.
     let l : Left = search in
     let s = entry l in
-    omega (arith, (right_room l).room, left_long l, s.good))
+    omega (arith, (right_room l).room, left_long l, s.well_formed))
     (λ c κs.
     let l : Left = search in
     let s = entry l in
-    (right_room l, s.pre.1, omega (arith, s.pre.2, l.let-over.kept.1.1.1.1.1.1.1.0)))
-    (λ c. let r : Right = search in r.let-over2.kept.1.1.1.1.1.0 ∙ left_long (left r))
+    (right_room l, s.requires.1, omega (arith, s.requires.2, l.let_over-left.auto.pending)))
+    (λ c. let r : Right = search in r.let_over.auto.dst ∙ left_long (left r))
     (λ c. search rules)
     (λ c.
     let r : Right = search in
     let l = left r in
-    case_writes (entry l).args.dst.now l.let-over.ensures r.let-over2.ensures))
+    case_writes (entry l).args.dst.now l.let_over-left.ensures r.let_over.ensures))

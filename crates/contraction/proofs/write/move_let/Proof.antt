@@ -21,18 +21,18 @@ Copied = tie.After-copy
 abbrev entry : Copied → tie.Start
 entry c = c.before.before.before.before.before.before
 
-abbrev copied : tie.After-let-over → Copied
+abbrev copied : tie.After-let_over → Copied
 copied c = c.before.before.before.before.before
 
 facts : (c : tie.Start) → MovingLet c.args.calls.now c.args.t.now c.args.second c.args.third (length c.args.dst.now)
 facts c = moving_let c.requires.0
 
-copied_long : (c : Copied) → length c.copy.new.1.1.1.0 ≡ length (entry c).args.dst.now
-copied_long c = c.copy.auto.1.1.1.0 ∙ length-set (entry c).args.dst.now 0 _
+copied_long : (c : Copied) → length c.copy.new.dst ≡ length (entry c).args.dst.now
+copied_long c = c.copy.auto.dst ∙ length-set (entry c).args.dst.now 0 _
 
 inner_room : (c : Copied)
     → (let s = (entry c).args in
-    LetRoom s.calls.now s.t.now s.second s.third s.third (length c.copy.new.1.1.1.0) (s.second - 1))
+    LetRoom s.calls.now s.t.now s.second s.third s.third (length c.copy.new.dst) (s.second - 1))
 inner_room c = let_room (facts (entry c)).inner (copied_long c)
 
 pub move_let_spec : {M : Type 1} → statement M
@@ -45,9 +45,9 @@ move_let_spec =
     let s : tie.Start = search in
     ((facts s).inside, omega (arith, (facts s).room, length-set s.args.dst.now 0 4611686018427387904)))
     (λ c. omega (arith, (facts (search)).low))
-    (λ c κs. let s : tie.Start = search in (inner_room (search), s.pre.1, s.pre.2))
-    (λ c. let w : tie.After-let-over = search in w.let-over.kept.1.1.1.1.1.0 ∙ copied_long (copied w))
+    (λ c κs. let s : tie.Start = search in (inner_room (search), s.requires.1, s.requires.2))
+    (λ c. let w : tie.After-let_over = search in w.let_over.auto.dst ∙ copied_long (copied w))
     (λ c. search rules)
     (λ c.
-    let w : tie.After-let-over = search in
-    let_writes (entry (copied w)).args.dst.now (copied w).copy.kept.1.1.1.0 (copied w).copy.ensures w.let-over.ensures))
+    let w : tie.After-let_over = search in
+    let_writes (entry (copied w)).args.dst.now (copied w).copy.auto.dst (copied w).copy.ensures w.let_over.ensures))

@@ -17,23 +17,23 @@ pub substitute_spec : {M : Type 1} → statement M
 substitute_spec =
     tie.close
     (tie.spec
-    (λ c. let s : tie.Start = search in omega (arith, (facts s).value_in, s.pre.1))
-    (λ c. let s : tie.Start = search in omega (arith, (facts s).body_in, s.pre.1))
+    (λ c. let s : tie.Start = search in omega (arith, (facts s).value_in, s.requires.1))
+    (λ c. let s : tie.Start = search in omega (arith, (facts s).body_in, s.requires.1))
     (λ c. (facts (search)).body_in)
     (λ c. (facts (search)).body_in)
     (λ c. search rules)
-    (λ c. let s : tie.Start = search in omega (arith, (facts s).value_in, s.pre.1))
+    (λ c. let s : tie.Start = search in omega (arith, (facts s).value_in, s.requires.1))
     (λ c. search rules)
     (λ c. search rules)
     (λ c. (facts (search)).value_in)
     (λ c κs.
     let s : tie.Start = search in (
-      (facts s).room _ (omega (arith, s.pre.1, s.pre.2)),
+      (facts s).room _ (omega (arith, s.requires.1, s.requires.2)),
       (
-        omega (arith, from_length s.args.t.now s.args.body, s.pre.1),
-        omega (arith, (facts s).value_length, (facts s).value_in, s.pre.1),
+        omega (arith, from_length s.args.t.now s.args.body, s.requires.1),
+        omega (arith, (facts s).value_length, (facts s).value_in, s.requires.1),
       ),
     ))
     (λ c. search rules)
     (λ c. search rules)
-    (λ c. let w : tie.After-substitute-into = search in put_writes w.substitute-into.ensures))
+    (λ c. let w : tie.After-substitute_into = search in put_writes w.substitute_into.ensures))

@@ -15,13 +15,13 @@ abbrev Entry : Type 0
 Entry = tie.Start
 
 abbrev Checked : Type 0
-Checked = tie.After-check-within
+Checked = tie.After-check_within-checked
 
 abbrev Accepted : Type 0
-Accepted = tie.Else1
+Accepted = tie.Else-refusal-ne0
 
 abbrev Marked : Type 0
-Marked = tie.After-input-marks
+Marked = tie.After-input_marks-marks
 
 abbrev entry : Checked → Entry
 entry c = c.before.before.before.before.before
@@ -36,21 +36,21 @@ abbrev tables : Checked → Tables
 tables c = let a = (entry c).args in over a.types.now a.calls.now a.inputs.now
 
 starts : (c : Accepted) → Starts (tables (checked c)).calls (entry (checked c)).args.term.now
-starts c = accepted_starts other_limit (tables (checked c)) _ _ (checked c).check-within.ensures c.if1.false
+starts c = accepted_starts other_limit (tables (checked c)) _ _ (checked c).check_within-checked.ensures c.if-refusal-ne0.false
 
-few : (c : Marked) → ones_of c.input-marks.result ≤ 256
-few c = ones_few c.input-marks.ensures (starts (accepted c))
+few : (c : Marked) → ones_of c.input_marks-marks.result ≤ 256
+few c = ones_few c.input_marks-marks.ensures (starts (accepted c))
 
 pub free_inputs_spec : {M : Type 1} → statement M
 free_inputs_spec =
     tie.close
     (tie.spec
     (λ c κs. search rules)
-    (λ c. let k : Checked = search in refused_read (tables k) _ _ k.check-within.ensures c.if1.true)
+    (λ c. let k : Checked = search in refused_read (tables k) _ _ k.check_within-checked.ensures c.if-refusal-ne0.true)
     (λ c κs.
     let a : Accepted = search in
     let k = checked a in
-    (starts a, accepted_short other_limit (tables k) _ _ k.check-within.ensures a.if1.left))
+    (starts a, accepted_short other_limit (tables k) _ _ k.check_within-checked.ensures a.if-refusal-ne0.false))
     (λ c. search rules)
     (λ c. search rules)
     (λ c. let n = few (search) in search (rules, n))
@@ -61,4 +61,4 @@ free_inputs_spec =
     (λ c.
     let m : Marked = search in
     let k = checked (accepted m) in
-    accepted_read (tables k) _ _ k.check-within.ensures (accepted m).if1.left _ m.input-marks.ensures))
+    accepted_read (tables k) _ _ k.check_within-checked.ensures (accepted m).if-refusal-ne0.false _ m.input_marks-marks.ensures))

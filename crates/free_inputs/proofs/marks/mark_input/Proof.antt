@@ -15,13 +15,13 @@ abbrev Entry : Type 0
 Entry = tie.Start
 
 abbrev Numbered : Type 0
-Numbered = tie.After-number
+Numbered = tie.After-number-n
 
 abbrev Free : Type 0
-Free = tie.Else2
+Free = tie.Else-n-under
 
 abbrev Marking : Type 0
-Marking = tie.Then3
+Marking = tie.Then-i-lt256
 
 abbrev entry : Numbered → Entry
 entry c = c.before.before.before.before
@@ -34,10 +34,10 @@ free c = c.before
 
 -- the input's number
 abbrev which : Free → ℕ
-which c = (numbered c).number.result - (entry (numbered c)).args.under
+which c = (numbered c).number-n.result - (entry (numbered c)).args.under
 
 is_kind_0 : (c : Numbered) → kind_of (entry c).args.w ≡ 0
-is_kind_0 c = sym c.before.before.kind.ensures ∙ c.before.if1.false
+is_kind_0 c = sym c.before.before.kind.ensures ∙ c.before.if-kind-ne0.false
 
 -- there are four words
 four : (c : Marking) → length (entry (numbered (free c))).args.marks.now ≡ 4
@@ -48,18 +48,18 @@ mark_input_spec =
     tie.close
     (tie.spec
     (λ c κs. search rules)
-    (λ c. no_variable _ _ _ (λ z. c.if1.true (c.before.kind.ensures ∙ z)))
+    (λ c. no_variable _ _ _ (λ z. c.if-kind-ne0.true (c.before.kind.ensures ∙ z)))
     (λ c κs. search rules)
-    (λ c. no_input _ _ _ λ i l z. omega (arith, c.if2.true, c.before.number.ensures, z))
+    (λ c. no_input _ _ _ λ i l z. omega (arith, c.if-n-under.true, c.before.number-n.ensures, z))
     (λ c. search rules)
-    (λ c. let m : Marking = search in omega (arith, m.if3.taken, four m))
+    (λ c. let m : Marking = search in omega (arith, m.if-i-lt256.true, four m))
     (λ c. omega arith)
     (λ c. search rules)
-    (λ c. let m : Marking = search in omega (arith, m.if3.taken, four m))
+    (λ c. let m : Marking = search in omega (arith, m.if-i-lt256.true, four m))
     (λ c. search rules)
     (λ c.
     let m : Marking = search in
     let f = free m in
     let n = numbered f in
-    input _ _ _ (which f) (is_kind_0 n) (omega (arith, n.number.ensures, f.if2.left)) (omega (arith, m.if3.taken)))
-    (λ c. no_input _ _ _ λ i l z. let n : Numbered = search in omega (arith, n.number.ensures, c.if3.false, l, z)))
+    input _ _ _ (which f) (is_kind_0 n) (omega (arith, n.number-n.ensures, f.if-n-under.false)) (omega (arith, m.if-i-lt256.true)))
+    (λ c. no_input _ _ _ λ i l z. let n : Numbered = search in omega (arith, n.number-n.ensures, c.if-i-lt256.false, l, z)))

@@ -48,11 +48,11 @@ first_redex_spec =
     (λ c. search rules)
     (λ c.
     let f : Tried = search in
-    forward_found _ _ _ _ (search) (head f).loop-k.invariant f.fit-found.ensures _ _ c.before.found-1.given.1)
+    forward_found _ _ _ _ (search) (head f).loop-k.invariant f.fit-found.ensures _ _ c.in-Redex.is)
     (λ c. search rules)
     (λ c. search rules)
     (λ c. search rules)
     (λ c.
     let f : Tried = search in
-    forward_next _ _ _ _ (search) (head f).loop-k.invariant f.fit-found.ensures c.enum_told-1.given.1)
+    forward_next _ _ _ _ (search) (head f).loop-k.invariant f.fit-found.ensures c.in_default.is)
     (λ c. forward_end _ _ _ _ c.before.loop-k.invariant c.loop-k-test.false))

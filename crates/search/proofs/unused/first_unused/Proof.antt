@@ -1,7 +1,7 @@
 -- Nothing where there is no let, and else the least place in the whole term.
 use mathlib.Core.Path.{◌≡◌, refl, sym, ◌∙◌}
 use borrow.Author.Rules.{rules}
-use borrow.Author.Tests.{not-true, eqb-false}
+use borrow.Author.Tests.{eqb-false}
 use mathlib.Core.Bool.{false}
 use mathlib.Core.List.{List}
 use Prim.Native.Nat.{ℕ, ◌<◌}

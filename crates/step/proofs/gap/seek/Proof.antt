@@ -15,14 +15,14 @@ seek_spec =
     (λ c. search rules)
     (λ c.
     let s : tie.Start = search in
-    let on : tie.Then1 = search in
-    let moved : tie.After-move-words = search in
-    seeks_on s.pre _ _ on.if1.taken refl moved.move-words.ensures)
+    let on : tie.Then-start-place = search in
+    let moved : tie.After-move_words = search in
+    seeks_on s.requires _ _ on.if-start-place.true refl moved.move_words.ensures)
     (λ c. search rules)
     (λ c κs. search rules)
     (λ c. search rules)
     (λ c.
     let s : tie.Start = search in
-    let back : tie.Else1 = search in
-    let moved : tie.After-move-words2 = search in
-    seeks_back s.pre _ _ _ back.if1.left refl refl moved.move-words2.ensures))
+    let back : tie.Else-start-place = search in
+    let moved : tie.After-move_words-2 = search in
+    seeks_back s.requires _ _ _ back.if-start-place.false refl refl moved.move_words-2.ensures))
