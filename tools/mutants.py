@@ -82,7 +82,8 @@ MUTANTS = [
     ("capacity of the output alone", "cases", [(NORMALIZE, CAPACITY, "min (length b.output) max_capacity")]),
     ("the last input has the highest mark", "theory", [
         (FREE, "{ℕ, Bool", "{ℕ, ◌-◌, Bool"), (FREE, "masks 4 (reads x.term)", "masks 4 (λ i. reads x.term (255 - i))")]),
-    ("an input that is used twice is not read", "theory", [(FREE, "ltb, replicate}", "eqb, replicate}"), (FREE, "ltb 0 (uses t i)", "eqb 1 (uses t i)")]),
+    ("an input that is used twice is not read", "theory", [
+        (FREE, "ltb, replicate}", "eqb, replicate}"), (FREE, "ltb 0 (uses t i)", "eqb 1 (uses t i)")]),
     ("uses counted for inputs", "theory", [
         (FREE, "{ℕ, Bool", "{ℕ, zero, suc, ◌+◌, Bool"), (FREE, ANSWER, TOTAL + ANSWER),
         (FREE, "how_many 256 (reads x.term)", "total 256 (uses x.term)")]),
@@ -96,7 +97,8 @@ MUTANTS = [
     ("a unit's run gives a number", "theory", [
         (RUN, "evaluate run ρ (unit A) = answered trivial", "evaluate run ρ (unit A) = answered (num 0)")]),
     ("the unit type has no value, so nothing can be fed", "theory", [
-        (VALUE_TYPES, "product, sum, unit_type,", "arrow, product, sum,"), (VALUE_TYPES, "components tables unit_type A", "components tables arrow A")]),
+        (VALUE_TYPES, "product, sum, unit_type,", "arrow, product, sum,"),
+        (VALUE_TYPES, "components tables unit_type A", "components tables arrow A")]),
     ("an acting call may be dropped", "reduction", [(MAY_DROP, "(call k ts) = not (acts calls k)", "(call k ts) = true")]),
     ("an application may be dropped over any table", "reduction", [(MAY_DROP, "(app f a) = not (some_acts calls)", "(app f a) = true")]),
     ("the term, not the table, says whether an application may be dropped", "reduction", [
@@ -118,12 +120,14 @@ MUTANTS = [
     ("a count of 4 or of 12", "typing", [(TABLE_CHECKS, "leb (arity_of w) 3", "leb (arity_of w) 4")]),
     ("a call acts if its count is 9 or more", "syntax", [("syntax/specs/Words", "leb 8 (count_of w)", "leb 9 (count_of w)")]),
     ("a call past the table has no arguments", "syntax", [
-        ("syntax/specs/Tables", "  w ← get_elem? calls k\n  given (leb (arity_of w) 3)", "  w ← some (get_or calls k 0)\n  given (leb (arity_of w) 3)")]),
+        ("syntax/specs/Tables", "  w ← get_elem? calls k\n  given (leb (arity_of w) 3)",
+            "  w ← some (get_or calls k 0)\n  given (leb (arity_of w) 3)")]),
     ("a malformed count is a number of arguments", "syntax", [
         ("syntax/specs/Tables", "given (leb (arity_of w) 3) (arity_of w)", "given (leb (arity_of w) 7) (arity_of w)")]),
     ("a word of an unknown kind has no parts", "syntax", [(PART_ENDS, "given (leb (kind_of w) 11)", "given (leb (kind_of w) 15)")]),
     ("a word's parts are owed but not the word's own place paid", "syntax", [(PART_ENDS, "(n + owed)", "(n + suc owed)")]),
-    ("the words may run out with a part owed", "syntax", [(PART_ENDS, "extent calls [] (suc owed) = none", "extent calls [] (suc owed) = some zero")]),
+    ("the words may run out with a part owed", "syntax", [
+        (PART_ENDS, "extent calls [] (suc owed) = none", "extent calls [] (suc owed) = some zero")]),
 ]
 
 CHECKED = ["theory", "cases"]
