@@ -1,6 +1,6 @@
 /*
  * The verified normalizer for small typed functional terms, for C and C++ on x86-64 Linux.
- * Link target/staticlib/libexports.a, which `rt staticlib exports` proves and writes.
+ * Link crates/exports/out/libexports.a, which `rt lib` proves and writes in crates/exports.
  * docs/CONTRACTS.md says in full what the calls promise.
  *
  * What a caller owes, for each pointer and the length that follows it (in elements, not bytes):

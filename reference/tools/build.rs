@@ -7,7 +7,7 @@ fn main() {
     println!("cargo::rustc-check-cfg=cfg(verified)");
     println!("cargo::rerun-if-changed=build.rs");
     let package = std::env::var("CARGO_MANIFEST_DIR").expect("cargo names the package's folder");
-    let folder = Path::new(&package).join("../../target/staticlib");
+    let folder = Path::new(&package).join("../../crates/exports/out");
     let library = folder.join("libexports.a");
     if library.exists() {
         println!("cargo::rerun-if-changed={}", library.display());

@@ -1,5 +1,5 @@
 //! The verified normalizer for small typed functional terms: safe functions over the library that
-//! `rt staticlib exports` writes. docs/CONTRACTS.md says what each call promises.
+//! `rt lib` writes in crates/exports. docs/CONTRACTS.md says what each call promises.
 //!
 //! ```
 //! use flatten::{normalize, Buffers, Settings, Tables};
