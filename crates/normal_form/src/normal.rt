@@ -33,6 +33,7 @@ enum Role {
 }
 
 // the kinds of operations: call, application, first, second. A question about single kinds, and not about their parts.
+#[tactic(auto, unfolding(crate::specs::Roles::operation_kind))]
 fn operation_kind(k: u64) -> bool
     ensures { result ≡ operation_kind k }
 {

@@ -1,6 +1,6 @@
 -- What both loops keep: whatever the reduction stood for in an earlier state it stands for now. A turn takes the reduction's next step, so
 -- the loop over a phase's steps keeps it.
-use Prim.Native.Nat.{ℕ, ◌+◌, ◌-◌, ◌≤◌, ◌<◌}
+use Prim.Native.Nat.{ℕ, ◌+◌, ◌≤◌, ◌<◌}
 use native.Mathlib.Omega.{arith}
 use mathlib.Core.Path.{◌≡◌, refl, sym, ◌∙◌, subst}
 use mathlib.Core.List.{List}

@@ -1,5 +1,5 @@
 -- A typed term is copied to the end of a scratch buffer and reduced there; what it comes to is the definition's.
-use Prim.Native.Nat.{ℕ, suc, ◌+◌, ◌-◌, ◌≤◌}
+use Prim.Native.Nat.{zero, ℕ, suc, ◌+◌, ◌-◌, ◌≤◌}
 use native.Mathlib.Omega.{arith}
 use mathlib.Core.Path.{◌≡◌, refl, sym, ◌∙◌, ap, ap₂, subst}
 use mathlib.Core.List.{List, ◌++◌, append-nil}
@@ -67,6 +67,7 @@ module _ {calls words output first second : List ℕ} (x : Settleable calls word
     settled_stopped A a z ae = record { told = λ t s e. go _ (reported t s e) }
       where
         go : (p : Progress) → Reports after r p → Fills (reduced_to A p) output a output
+        go (stopped zero counts) r = elim r [ ]
         go (stopped (suc n) counts) (refusal re ce) = record {
           answer_is = ae ∙ ap₂ {C = Answer} (λ (i : ℕ) (cs : Counts). record { refusal = i; ty = 0; length = 0; counts = cs }) re ce;
           output_is = refl;
@@ -79,6 +80,7 @@ module _ {calls words output first second : List ℕ} (x : Settleable calls word
       last_inside = go _ (reported x.term x.shaped x.is)
         where
           go : (p : Progress) → Reports after r p → (r.begin ≤ length after) × (length after - r.begin ≤ length output)
+          go (stopped zero counts) r = elim r [ ]
           go (stopped (suc n) counts) (refusal re ce) = absurd (omega (arith, z, re))
           go (reached left u counts) (ended re ce g) = (g.inside, omega (arith, l, same_long, x.room))
 
@@ -101,6 +103,7 @@ module _ {calls words output first second : List ℕ} (x : Settleable calls word
 
           go : (p : Progress) → Reports after r p
               → Fills (reduced_to A p) output (record { refusal = 0; ty = A; length = length after - r.begin; counts = r.counts }) output'
+          go (stopped zero counts) r = elim r [ ]
           go (stopped (suc n) counts) (refusal re ce) = absurd (omega (arith, z, re))
           go (reached left u counts) (ended re ce g) = record {
             answer_is = ap₂ {C = Answer} (λ (i : ℕ) (cs : Counts). record { refusal = 0; ty = A; length = i; counts = cs }) (sized g) ce;

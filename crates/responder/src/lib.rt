@@ -1,4 +1,6 @@
 // The public call `respond`: the bytes of a bundle in, the bytes of a listing out.
+#![tactic(auto)]
+
 ghost use Rattle.std.specs.Prelude.{◌≡◌, [], ◌≤◌, length};
 ghost use Rattle.syntax.specs.Tables.{over};
 ghost use Rattle.outcomes.specs.Listing.{listing_of, written_to};

@@ -30,5 +30,5 @@ answer_parts_spec =
     (λ c κs. search rules)
     (λ c. search rules)
     (λ c.
-    let answer-to = c.before.before.answer-to in
+    let answer-to = c.before.before.answer_to in
     parts_answered _ _ _ _ answer-to.ensures))

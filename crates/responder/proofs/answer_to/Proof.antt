@@ -18,8 +18,8 @@ answer_to_spec =
     (λ c κs. search rules)
     (λ c. search rules)
     (λ c.
-    let set : tie.After-no-ceilings = search in
-    let call : tie.After-normalize = search in
+    let set : tie.After-no_ceilings-settings = search in
+    let call : tie.After-normalize-answer = search in
     let last : tie.After-listing = search in
-    listing_normalized _ _ _ _ _ _ _ _ set.no-ceilings.ensures (full_capacity _ _ _ refl refl refl) call.normalize.ensures.outcome
+    listing_normalized _ _ _ _ _ _ _ _ set.no_ceilings-settings.ensures (full_capacity _ _ _ refl refl refl) call.normalize-answer.ensures.outcome
     last.listing.ensures))

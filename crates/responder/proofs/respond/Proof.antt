@@ -14,17 +14,17 @@ respond_spec =
     (λ c κs. search rules)
     (λ c. search rules)
     (λ c.
-    let read : tie.After-read-bundle = search in
-    let test : tie.Then1 = search in
+    let read : tie.After-read_bundle-lengths = search in
+    let test : tie.Then-refusal-ne0 = search in
     let last : tie.After-refuse = search in
-    refused_responds _ _ _ _ _ read.read-bundle.ensures test.if1.taken last.refuse.ensures)
+    refused_responds _ _ _ _ _ read.read_bundle-lengths.ensures test.if-refusal-ne0.true last.refuse.ensures)
     (λ c. search rules)
     (λ c κs.
-    let read : tie.After-read-bundle = search in
-    reading_fits _ _ _ _ read.read-bundle.ensures)
+    let read : tie.After-read_bundle-lengths = search in
+    reading_fits _ _ _ _ read.read_bundle-lengths.ensures)
     (λ c. search rules)
     (λ c.
-    let read : tie.After-read-bundle = search in
-    let test : tie.Else1 = search in
-    let last : tie.After-answer-parts = search in
-    read_responds _ _ _ _ _ read.read-bundle.ensures test.if1.left last.answer-parts.ensures))
+    let read : tie.After-read_bundle-lengths = search in
+    let test : tie.Else-refusal-ne0 = search in
+    let last : tie.After-answer_parts = search in
+    read_responds _ _ _ _ _ read.read_bundle-lengths.ensures test.if-refusal-ne0.false last.answer_parts.ensures))

@@ -24,7 +24,7 @@ totalled : (c : tie.After-lengths_of-lengths)
     → Totalled (entry (header c)).args.bytes.now (header c).word_at-header.result (total c.lengths_of-lengths.result)
 totalled c = record {
   headed = headed (header c);
-  low_zero = omega (arith, c.before.if-header-gt0.false);
+  low_zero = omega arith;
   total_is = ap total c.lengths_of-lengths.ensures.0;
 }
 
@@ -41,7 +41,7 @@ read_bundle_spec =
     (λ c. too_short _ _ _ c.refused-then-size-lt8.ensures c.before.before.if-size-gt65536.false c.before.if-size-lt8.true)
     (λ c κs. search rules)
     (λ c κs. search rules)
-    (λ c. low_bits _ _ _ c.refused-then-header-gt0.ensures (headed (search)) (omega (arith, c.before.if-header-gt0.true)))
+    (λ c. low_bits _ _ _ (search rules) (headed (search)) (omega arith))
     (λ c κs. search rules)
     (λ c. omega (arith, few (search)))
     (λ c. omega (arith, few (search)))
@@ -51,13 +51,12 @@ read_bundle_spec =
     (λ c κs. search rules)
     (λ c. wrong_length _ _ (totalled (search)) _ c.refused-then-size-n.ensures (λ e. c.before.if-size-n.true (omega (arith, e))))
     (λ c κs. search rules)
-    (λ c. no_room _ _ (totalled (search)) (omega (arith, c.before.before.if-size-n.false)) _ c.refused-then-words-n.ensures
-    (omega (arith, c.before.if-words-n.true)))
-    (λ c κs. (omega (arith, c.before.before.if-size-n.false), omega (arith, c.before.if-words-n.false)))
+    (λ c. no_room _ _ (totalled (search)) (omega (arith, c.before.before.if-size-n.false)) _ (search rules)
+    (omega arith))
+    (λ c κs. (omega (arith, c.before.before.if-size-n.false), omega arith))
     (λ c. search rules)
     (λ c.
     let p : tie.After-copy_words = search in
-    let passed : tie.Else-words-n = search in
     let l : tie.After-lengths_of-lengths = search in
-    all_read _ _ (totalled l) (omega (arith, passed.before.if-size-n.false)) _ _ l.lengths_of-lengths.ensures.0 (omega (arith, passed.if-words-n.false))
+    all_read _ _ (totalled l) (omega arith) _ _ l.lengths_of-lengths.ensures.0 (omega arith)
     p.copy_words.ensures))

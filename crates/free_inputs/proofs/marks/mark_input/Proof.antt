@@ -10,7 +10,7 @@ use Rattle.free_inputs.proofs.OneMark.{no_variable, no_input, input}
 use Rattle.free_inputs.proofs.marks.mark_input.Statement.{statement}
 use Rattle.free_inputs.proofs.marks.mark_input.Tie as tie
 
--- the places: the entry, a variable's number, that of a free variable, and that of an input
+-- the places: the entry, a variable's number, and that of a free variable
 abbrev Entry : Type 0
 Entry = tie.Start
 
@@ -20,17 +20,11 @@ Numbered = tie.After-number-n
 abbrev Free : Type 0
 Free = tie.Else-n-under
 
-abbrev Marking : Type 0
-Marking = tie.Then-i-lt256
-
 abbrev entry : Numbered → Entry
 entry c = c.before.before.before.before
 
 abbrev numbered : Free → Numbered
 numbered c = c.before
-
-abbrev free : Marking → Free
-free c = c.before
 
 -- the input's number
 abbrev which : Free → ℕ
@@ -40,8 +34,8 @@ is_kind_0 : (c : Numbered) → kind_of (entry c).args.w ≡ 0
 is_kind_0 c = sym c.before.before.kind.ensures ∙ c.before.if-kind-ne0.false
 
 -- there are four words
-four : (c : Marking) → length (entry (numbered (free c))).args.marks.now ≡ 4
-four c = (entry (numbered (free c))).requires
+four : (c : Free) → length (entry (numbered c)).args.marks.now ≡ 4
+four c = (entry (numbered c)).requires
 
 pub mark_input_spec : {M : Type 1} → statement M
 mark_input_spec =
@@ -52,14 +46,13 @@ mark_input_spec =
     (λ c κs. search rules)
     (λ c. no_input _ _ _ λ i l z. omega (arith, c.if-n-under.true, c.before.number-n.ensures, z))
     (λ c. search rules)
-    (λ c. let m : Marking = search in omega (arith, m.if-i-lt256.true, four m))
+    (λ c. let f : Free = search in omega (arith, four f))
     (λ c. omega arith)
     (λ c. search rules)
-    (λ c. let m : Marking = search in omega (arith, m.if-i-lt256.true, four m))
+    (λ c. let f : Free = search in omega (arith, four f))
     (λ c. search rules)
     (λ c.
-    let m : Marking = search in
-    let f = free m in
+    let f : Free = search in
     let n = numbered f in
-    input _ _ _ (which f) (is_kind_0 n) (omega (arith, n.number-n.ensures, f.if-n-under.false)) (omega (arith, m.if-i-lt256.true)))
-    (λ c. no_input _ _ _ λ i l z. let n : Numbered = search in omega (arith, n.number-n.ensures, c.if-i-lt256.false, l, z)))
+    input _ _ _ (which f) (is_kind_0 n) (omega (arith, n.number-n.ensures, f.if-n-under.false)) (omega arith))
+    (λ c. no_input _ _ _ λ i l z. let n : Numbered = search in omega (arith, n.number-n.ensures, l, z)))

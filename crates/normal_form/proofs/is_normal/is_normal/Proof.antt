@@ -7,17 +7,17 @@ use borrow.Author.Rules.{rules}
 use Rattle.normal_form.proofs.is_normal.is_normal.Statement.{statement}
 use Rattle.normal_form.proofs.is_normal.is_normal.Tie as tie
 
-abbrev tables : tie.After-shared-slice-known4 → Tables
+abbrev tables : tie.After-shared_slice_known-4-1 → Tables
 tables s = let a = s.before.before.before.before.args in over a.types.now a.calls.now a.inputs.now
 
 pub is_normal_spec : {M : Type 1} → statement M
 is_normal_spec = tie.close
     (tie.spec (λ c κs. search rules)
-    (λ c. refused_tested (tables c.before.before) _ _ c.before.check-within.ensures c.if1.true)
+    (λ c. refused_tested (tables c.before.before) _ _ c.before.check_within-checked.ensures c.if-refusal-ne0.true)
     (λ c κs.
-    let checked = c.before.check-within in (
-      accepted_starts other_limit (tables c.before.before) _ _ checked.ensures c.if1.false,
-      accepted_short other_limit (tables c.before.before) _ _ checked.ensures c.if1.false,
+    let checked = c.before.check_within-checked in (
+      accepted_starts other_limit (tables c.before.before) _ _ checked.ensures c.if-refusal-ne0.false,
+      accepted_short other_limit (tables c.before.before) _ _ checked.ensures c.if-refusal-ne0.false,
     )) (λ c.
-    let checked = c.before.before.check-within in
-    accepted_tested (tables c.before.before.before) _ _ checked.ensures c.before.if1.false _ c.is-normal-form.ensures))
+    let checked = c.before.before.check_within-checked in
+    accepted_tested (tables c.before.before.before) _ _ checked.ensures c.before.if-refusal-ne0.false _ c.is_normal_form-normal.ensures))

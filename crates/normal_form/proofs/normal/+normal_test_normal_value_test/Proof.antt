@@ -9,5 +9,5 @@ use Rattle.normal_form.proofs.normal.+normal_test_normal_value_test.Proof.Measur
 use Rattle.normal_form.proofs.normal.+normal_test_normal_value_test.Proof.NormalTest.{normal_test_meets}
 use Rattle.normal_form.proofs.normal.+normal_test_normal_value_test.Proof.NormalValueTest.{normal_value_test_meets}
 
-pub +normal-test-normal-value-test-spec : {M : Type 1} → statement M
-+normal-test-normal-value-test-spec = close μ_normal_test μ_normal_value_test (λ m. normal_test_meets m) (λ m. normal_value_test_meets m)
+pub +normal_test_normal_value_test_spec : {M : Type 1} → statement M
++normal_test_normal_value_test_spec = close μ_normal_test μ_normal_value_test (λ m. normal_test_meets m) (λ m. normal_value_test_meets m)

@@ -18,14 +18,14 @@ admits_spec =
     (λ c κs. search rules)
     (λ c. search rules)
     (λ c.
-    let args = c.before.before.args in
-    ap (λ (x : Role). suits x args.h) (sym c.enum_told.given.1))
-    (λ c.
-    let args = c.before.before.before.args in
-    c.value_kind_lem.ensures ∙ ap (λ (x : Role). suits x args.h) (sym c.before.enum-told2.given.1))
-    (λ c.
-    let args = c.before.before.before.args in
-    c.operation_kind_lem.ensures ∙ ap (λ (x : Role). suits x args.h) (sym c.before.enum-told3.given.1))
+    let args = c.before.args in
+    ap (λ (x : Role). suits x args.h) (sym c.in-Variable.is))
     (λ c.
     let args = c.before.before.args in
-    ap (λ (x : Role). suits x args.h) (sym c.enum-told4.given.1)))
+    c.value_kind.ensures ∙ ap (λ (x : Role). suits x args.h) (sym c.before.in-Value.is))
+    (λ c.
+    let args = c.before.before.args in
+    c.operation_kind.ensures ∙ ap (λ (x : Role). suits x args.h) (sym c.before.in-Operation.is))
+    (λ c.
+    let args = c.before.args in
+    ap (λ (x : Role). suits x args.h) (sym c.in-Normal.is)))

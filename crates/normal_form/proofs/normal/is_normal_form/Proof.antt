@@ -12,6 +12,6 @@ is_normal_form_spec =
     (λ c. search rules)
     (λ c κs.
     let s : tie.Start = search in
-    let a : tie.After-some-acts = search in
-    (s.pre.0, space_none _ s.pre.1, a.some-acts.ensures))
-    (λ c. let n : tie.After-normal-test = search in decides n.normal-test.ensures))
+    let a : tie.After-some_acts = search in
+    (s.requires.0, space_none _ s.requires.1, a.some_acts.ensures))
+    (λ c. let n : tie.After-normal_test-part = search in decides n.normal_test-part.ensures))

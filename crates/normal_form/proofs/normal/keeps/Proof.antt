@@ -30,10 +30,10 @@ pub keeps_spec : {M : Type 1} → statement M
 keeps_spec =
     tie.close
     (tie.spec
-    (λ c. bound_part _ _ _ _ c.before.if1.true c.if2.true)
-    (λ c. used _ _ _ _ c.before.before.if1.true c.before.if2.false (omega (arith, c.if3.true)))
-    (λ c κs. let s : tie.Start = search in s.pre)
+    (λ c. bound_part _ _ _ _ c.before.if-k-eq4.true c.if-j-eq0.true)
+    (λ c. used _ _ _ _ c.before.before.if-k-eq4.true c.before.if-j-eq0.false (omega (arith, c.if-uses-ge1.true)))
+    (λ c κs. let s : tie.Start = search in s.requires)
     (λ c.
-    let n : tie.Else3 = search in
-    ap not c.may_drop_lem.ensures ∙ unused _ _ _ _ n.before.before.if1.taken n.before.if2.left (omega (arith, n.if3.left)))
-    (λ c. other_node _ _ _ _ c.if1.false))
+    let n : tie.Else-uses-ge1 = search in
+    ap not c.may_drop-droppable.ensures ∙ unused _ _ _ _ n.before.before.if-k-eq4.true n.before.if-j-eq0.false (omega (arith, n.if-uses-ge1.false)))
+    (λ c. other_node _ _ _ _ c.if-k-eq4.false))

@@ -11,8 +11,8 @@ pub role_of_spec : {M : Type 1} → statement M
 unfolding role_of
 role_of_spec = tie.close (tie.spec (λ c κs. search rules) (λ c.
     let args = c.before.before.args in
-    c.first-role.ensures ∙ ap (λ (b : Bool). cond b (first_role args.k) (later_role args.k))
-    (sym (eq-eqb _ _ c.before.if1.true))) (λ c κs. search rules) (λ c.
+    c.first_role.ensures ∙ ap (λ (b : Bool). cond b (first_role args.k) (later_role args.k))
+    (sym (eq-eqb _ _ c.before.if-j-eq0.true))) (λ c κs. search rules) (λ c.
     let args = c.before.before.args in
-    c.later-role.ensures ∙ ap (λ (b : Bool). cond b (first_role args.k) (later_role args.k))
-    (sym (ne_eqb _ _ c.before.if1.false))))
+    c.later_role.ensures ∙ ap (λ (b : Bool). cond b (first_role args.k) (later_role args.k))
+    (sym (ne_eqb _ _ c.before.if-j-eq0.false))))

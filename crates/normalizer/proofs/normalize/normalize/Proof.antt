@@ -38,12 +38,11 @@ outcome settings tables words before a output first second r fe se =
 
 returns : tie.Need-returns
 returns c =
-    let run : tie.After-run = search in
+    let run : tie.After-run-answer = search in
     let first : tie.After-clear = search in
-    let second : tie.After-clear2 = search in
-    let kept = run.run.kept.1.1.1.1.1.1 in
-    outcome _ _ _ _ _ _ _ _ run.run.ensures (zeros_cleared _ kept.0 first.clear.ensures)
-    (zeros_cleared _ kept.1.0 second.clear2.ensures)
+    let second : tie.After-clear-2 = search in
+    outcome _ _ _ _ _ _ _ _ run.run-answer.ensures (zeros_cleared _ run.run-answer.auto.first first.clear.ensures)
+    (zeros_cleared _ run.run-answer.auto.second second.clear-2.ensures)
 
 pub normalize_spec : {M : Type 1} → statement M
 normalize_spec =

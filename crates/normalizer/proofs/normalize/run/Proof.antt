@@ -12,46 +12,46 @@ use Rattle.normalizer.proofs.normalize.run.Statement.{statement}
 use Rattle.normalizer.proofs.normalize.run.Tie as tie
 
 -- the way back from a place to the one above it
-abbrev entry : tie.After-check-within → tie.Start
+abbrev entry : tie.After-check_within-checked → tie.Start
 entry c = c.before.before.before.before.before.before.before.before
 
-abbrev checked : tie.After-lesser3 → tie.After-check-within
+abbrev checked : tie.After-lesser-capacity → tie.After-check_within-checked
 checked c = c.before.before.before.before
 
 abbrev buffers : tie.Start → Buffers
 buffers c = record { output = c.args.output.now; scratch₁ = c.args.first.now; scratch₂ = c.args.second.now }
 
-refuses : tie.Need-returns
+refuses : tie.Need-returns-then-refusal-ne0
 refuses c =
-    let v : tie.After-check-within = search in
-    refusal_fills _ _ _ _ (buffers (entry v)) (entry v).args.settings _ v.check-within.ensures c.before.if1.true
+    let v : tie.After-check_within-checked = search in
+    refusal_fills _ _ _ _ (buffers (entry v)) (entry v).args.settings _ v.check_within-checked.ensures c.before.if-refusal-ne0.true
     c.refused.ensures
 
 -- where the capacity is known
-accepted : (c : tie.After-lesser3)
+accepted : (c : tie.After-lesser-capacity)
     → (let v = checked c in
     let s = (entry v).args in
     AcceptedTerm s.types.now s.calls.now s.inputs.now s.term.now (buffers (entry v))
-    v.check-within.result c.lesser3.result)
+    v.check_within-checked.result c.lesser-capacity.result)
 accepted c =
-    let e : tie.Else1 = search in
+    let e : tie.Else-refusal-ne0 = search in
     record {
-      checked_is = (checked c).check-within.ensures;
-      not_refused = e.if1.left;
-      capacity_is = c.lesser3.ensures ∙ ap (λ (x : ℕ). min x 8192)
-          (c.before.lesser2.ensures ∙ ap (min _) c.before.before.lesser.ensures);
+      checked_is = (checked c).check_within-checked.ensures;
+      not_refused = e.if-refusal-ne0.false;
+      capacity_is = c.lesser-capacity.ensures ∙ ap (λ (x : ℕ). min x 8192)
+          (c.before.lesser.ensures ∙ ap (min _) c.before.before.lesser-scratch.ensures);
     }
 
-too_long : tie.Need-returns-2
-too_long c = too_long_fills (accepted (search)) _ c.before.if2.true c.refused2.ensures
+too_long : tie.Need-returns-then-capacity-term
+too_long c = too_long_fills (accepted (search)) _ c.before.if-capacity-term.true c.refused-then-capacity-term.ensures
 
 -- where the term has room
 may_settle : tie.Need-settle-requires
 may_settle c κs =
-    let e : tie.Else2 = search in
-    accepted_settleable (accepted (search)) e.if2.left
+    let e : tie.Else-capacity-term = search in
+    accepted_settleable (accepted (search)) e.if-capacity-term.false
 
-settled : tie.Need-returns-3
+settled : tie.Need-returns
 settled c =
     let p : tie.After-settle = search in
     settled_fills (accepted (search)) _ p.settle.ensures

@@ -14,48 +14,48 @@ use Rattle.normalizer.proofs.normalize.settle.Tie as tie
 abbrev entry : tie.After-copy → tie.Start
 entry c = c.before.before.before.before.before.before.before
 
-abbrev copied : tie.After-reduce → tie.After-copy
+abbrev copied : tie.After-reduce-reduced → tie.After-copy
 copied c = c.before.before.before.before.before
 
-abbrev reduced : tie.Else1 → tie.After-reduce
+abbrev reduced : tie.Else-refusal-ne0 → tie.After-reduce-reduced
 reduced c = c.before.before.before.before.before.before
 
 -- the term's words are at the buffer's end
-begins : tie.Need-reduce-requires
+begins : tie.Need-reduce-reduced-requires
 begins c κs =
     let p : tie.After-copy = search in
-    settle_reducible (entry p).pre refl p.copy.ensures _ refl
+    settle_reducible (entry p).requires refl p.copy.ensures _ refl
 
-stopped_settles : tie.Need-returns
+stopped_settles : tie.Need-returns-then-refusal-ne0
 stopped_settles c =
-    let test : tie.Then1 = search in
-    let r : tie.After-reduce = search in
+    let test : tie.Then-refusal-ne0 = search in
+    let r : tie.After-reduce-reduced = search in
     let p = copied r in
-    settled_stopped (entry p).pre refl p.copy.ensures r.reduce.ensures _ _ test.if1.taken c.refused.ensures
+    settled_stopped (entry p).requires refl p.copy.ensures r.reduce-reduced.ensures _ _ test.if-refusal-ne0.true c.refused.ensures
 
 -- the normal form is at the buffer's end, and has room in the output
-inside : (c : tie.Else1)
-    → (let r = (reduced c).reduce in
+inside : (c : tie.Else-refusal-ne0)
+    → (let r = (reduced c).reduce-reduced in
     let output = (entry (copied (reduced c))).args.output.now in
-    (r.result.begin ≤ length r.last.1.0) × (length r.last.1.0 - r.result.begin ≤ length output))
+    (r.result.begin ≤ length r.new.current) × (length r.new.current - r.result.begin ≤ length output))
 inside c =
     let r = reduced c in
     let p = copied r in
-    last_inside (entry p).pre refl p.copy.ensures r.reduce.ensures c.if1.false r.reduce.kept.1.0
+    last_inside (entry p).requires refl p.copy.ensures r.reduce-reduced.ensures c.if-refusal-ne0.false r.reduce-reduced.auto.current
 
-short : (c : tie.Else1) → (reduced c).reduce.result.begin ≤ 8192
+short : (c : tie.Else-refusal-ne0) → (reduced c).reduce-reduced.result.begin ≤ 8192
 short c =
     let r = reduced c in
-    omega (arith, (inside c).0, r.reduce.kept.1.0, (copied r).copy.kept.1.1.1.0, (entry (copied r)).requires.at_most)
+    omega (arith, (inside c).0, r.reduce-reduced.auto.current, (copied r).copy.auto.dst, (entry (copied r)).requires.at_most)
 
-ended_settles : tie.Need-returns-2
+ended_settles : tie.Need-returns
 ended_settles c =
-    let test : tie.Else1 = search in
-    let last : tie.After-copy2 = search in
+    let test : tie.Else-refusal-ne0 = search in
+    let last : tie.After-copy-2 = search in
     let r = reduced test in
     let p = copied r in
-    settled_ended (entry p).pre refl p.copy.ensures r.reduce.ensures test.if1.left r.reduce.kept.1.0 _ _
-    last.copy2.ensures
+    settled_ended (entry p).requires refl p.copy.ensures r.reduce-reduced.ensures test.if-refusal-ne0.false r.reduce-reduced.auto.current _ _
+    last.copy-2.ensures
 
 pub settle_spec : {M : Type 1} → statement M
 settle_spec =

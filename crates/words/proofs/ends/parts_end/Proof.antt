@@ -96,7 +96,7 @@ Next c r =
     Turn a.calls.now a.t.now a.n (l.owed - 1 + r) (l.i + 1)
 
 inside : (c : Word) → (turn_at (head c)).loop-owed.i < length (entry (head c)).args.t.now
-inside c = omega (arith, c.before.before.if-i-words.false, (turn_at (head c)).loop-owed.invariant.within)
+inside c = omega (arith, (turn_at (head c)).loop-owed.invariant.within)
 
 owes_some : (c : Word) → 0 < (turn_at (head c)).loop-owed.owed
 owes_some c = omega (arith, (head c).loop-owed-test.true)
@@ -127,14 +127,6 @@ kind_next c = onward c.before (counted c) (kind_owes c)
 begins : tie.Need-loop-owed-init invariant-loop decreases-loop
 begins c = record { small = (start c).requires; within = omega arith; few = omega arith; owing = owing_start _ _ _ }
 
-nowhere : tie.Need-returns-then-i-words invariant-loop decreases-loop
-nowhere c =
-    let a = (entry c.before).args in
-    let l = c.before.before.loop-owed in
-    let p : 0 < l.owed = omega (arith, c.before.loop-owed-test.true) in
-    let e : l.i ≡ length a.t.now = omega (arith, c.if-i-words.true, l.invariant.within) in
-    sym (ap end_of (owing_short _ _ _ _ _ p e l.invariant.owing))
-
 whole : tie.Need-returns invariant-loop decreases-loop
 whole c =
     let l = c.before.loop-owed in
@@ -150,7 +142,12 @@ parts_end_spec =
     (λ c κs. search rules)
     (λ c κs. search rules)
     begins
-    nowhere
+    (λ c.
+    let a = (entry c.before).args in
+    let l = c.before.before.loop-owed in
+    let p : 0 < l.owed = omega (arith, c.before.loop-owed-test.true) in
+    let e : l.i ≡ length a.t.now = omega (arith, l.invariant.within) in
+    sym (ap end_of (owing_short _ _ _ _ _ p e l.invariant.owing)))
     (λ c. search rules)
     (λ c. search rules)
     (λ c κs. search rules)

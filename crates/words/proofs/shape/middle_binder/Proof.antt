@@ -46,6 +46,6 @@ middle_binder_spec =
     tie.close
     (tie.spec
     (λ c κs. search rules)
-    (λ c. (inner _ _ c.before.before.before.shape_of-s.ensures c.before.before.if-s.true c.if-s-eq3.true, omega arith))
-    (λ c. (fewer _ _ c.before.before.before.shape_of-s.ensures c.before.before.if-s.true c.if-s-eq3.false, omega arith))
+    (λ c. (inner _ _ c.before.before.before.shape_of-s.ensures c.before.before.if-s.true (omega arith), omega arith))
+    (λ c. (fewer _ _ c.before.before.before.shape_of-s.ensures c.before.before.if-s.true (omega arith), omega arith))
     (λ c. (none _ _ c.before.shape_of-s.ensures c.if-s.false, omega arith)))

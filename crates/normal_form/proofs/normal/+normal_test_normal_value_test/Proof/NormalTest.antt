@@ -9,8 +9,8 @@
 use borrow.Author.Rules.{rules}
 use Prim.Native.Nat.{ℕ, ◌+◌, ◌-◌, ◌≤◌, ◌<◌}
 use native.Mathlib.Omega.{arith}
-use mathlib.Core.Path.{◌≡◌, sym, ◌∙◌}
-use mathlib.Core.Bool.{true}
+use mathlib.Core.Path.{◌≡◌, sym, ◌∙◌, ap}
+use mathlib.Core.Bool.{true, not}
 use lib.ListN.{length, get_or, set, length-set}
 use contract.Lifetimes.{Lfts}
 use borrow.Fn.Kinds.{In, Dens, Plain}
@@ -29,17 +29,17 @@ use Rattle.normal_form.proofs.normal.normal_test.Reads as normal-test
 use Rattle.normal_form.proofs.normal.+normal_test_normal_value_test.Lts-normal_test as lts
 use Rattle.normal_form.proofs.normal.+normal_test_normal_value_test.Proof.Measures.{normal_test_at, normal_test_claims}
 
-abbrev Inv-loop : lts.invariant-loop
+abbrev Inv-loop : lts.invariant-loop-j
 Inv-loop calls acting t used₀ depth w k n at₀ j₀ used at j =
     Testing is_normal_form (part_passes calls k (first_droppable calls t)) calls t used₀ depth k used n at j
 
-abbrev μ_loop : lts.decreases-loop
+abbrev μ_loop : lts.decreases-loop-j
 μ_loop calls acting t used₀ depth w k n at₀ j₀ used at j = n - j
 
 -- the type of a place of the code
 abbrev Place : Type 1
 Place =
-    lts.Claims → In 3 lts.ps → ((κs : Lfts 3) (a : Dens κs lts.ps) → Plain 3 lts.ps lts.r κs) → lts.invariant-loop → lts.decreases-loop → Type 0
+    lts.Claims → In 3 lts.ps → ((κs : Lfts 3) (a : Dens κs lts.ps) → Plain 3 lts.ps lts.r κs) → lts.invariant-loop-j → lts.decreases-loop-j → Type 0
 
 module _ (m : ℕ) where
   -- the places, from the top of the code to its end, and the way back from each to the one above it
@@ -50,13 +50,13 @@ module _ (m : ℕ) where
   Entry = place lts.Start
 
   abbrev Kinded : Type 0
-  Kinded = place lts.After-kind
+  Kinded = place lts.After-kind-k
 
   abbrev Head : Type 0
-  Head = place lts.At-loop
+  Head = place lts.At-loop-j
 
   abbrev Turn : Type 0
-  Turn = place lts.In-loop
+  Turn = place lts.In-loop-j
 
   abbrev Admitted : Type 0
   Admitted = place lts.After-admits
@@ -65,10 +65,10 @@ module _ (m : ℕ) where
   Bound = place lts.After-binders
 
   abbrev PartTested : Type 0
-  PartTested = place lts.After-normal-test
+  PartTested = place lts.After-normal_test-part
 
   abbrev PartPassed : Type 0
-  PartPassed = place lts.Else4
+  PartPassed = place lts.Else-not-keeps
 
   abbrev entry : Kinded → Entry
   entry c = c.before.before.before.before.before
@@ -102,77 +102,78 @@ module _ (m : ℕ) where
   begins c = testable (c.requires.1.0, c.requires.1.1)
 
   -- where the node is of the kind of a value
-  is_value_lem : (c : place lts.Then1) → true ≡ value_kind c.before.before.kind.result
-  is_value_lem c = sym c.if1.true ∙ c.before.value_kind_lem.ensures
+  is_value_lem : (c : place lts.Then-value_kind) → true ≡ value_kind c.before.before.kind-k.result
+  is_value_lem c = sym c.if-value_kind.true ∙ c.before.value_kind.ensures
 
   -- at the head of the loop
-  held : (c : Head) → length c.loop.used ≡ length (start c).args.used.now
-  held c = c.loop.invariant.grown.len
+  held : (c : Head) → length c.loop-j.used ≡ length (start c).args.used.now
+  held c = c.loop-j.invariant.grown.len
 
   near : (c : Head) → (start c).args.depth < 65536
   near c = omega (arith, begins (start c))
 
-  free : (c : Head) → (start c).args.depth < length c.loop.used
+  free : (c : Head) → (start c).args.depth < length c.loop-j.used
   free c = omega (arith, (begins (start c)).deep, held c)
 
-  less : (c : Head) → length (from (start c).args.t.now c.loop.at) < length (start c).args.t.now
-  less c = omega (arith, from_length (start c).args.t.now c.loop.at, c.loop.invariant.going.low, (begins (start c)).some)
+  less : (c : Head) → length (from (start c).args.t.now c.loop-j.at) < length (start c).args.t.now
+  less c = omega (arith, from_length (start c).args.t.now c.loop-j.at, c.loop-j.invariant.going.low, (begins (start c)).some)
 
   -- in a turn: the part at hand, and whether its first word can stand there
-  part : (c : Turn) → Starts (start (top c)).args.calls.now (from (start (top c)).args.t.now (top c).loop.at)
-  part c = part_starts _ _ (top c).loop.invariant.going c.loop-test.true
+  part : (c : Turn) → Starts (start (top c)).args.calls.now (from (start (top c)).args.t.now (top c).loop-j.at)
+  part c = part_starts _ _ (top c).loop-j.invariant.going c.loop-j-test.true
 
-  inside : (c : Turn) → (top c).loop.at < length (start (top c)).args.t.now
-  inside c = omega (arith, not_empty (part c), from_length (start (top c)).args.t.now (top c).loop.at)
+  inside : (c : Turn) → (top c).loop-j.at < length (start (top c)).args.t.now
+  inside c = omega (arith, not_empty (part c), from_length (start (top c)).args.t.now (top c).loop-j.at)
 
   first_inside : (c : Turn) → 1 < length (start (top c)).args.t.now
-  first_inside c = omega (arith, inside c, (top c).loop.invariant.going.low)
+  first_inside c = omega (arith, inside c, (top c).loop-j.invariant.going.low)
 
   suited : (c : Admitted)
-      → (let l = (head c).loop in
+      → (let l = (head c).loop-j in
       c.admits.result
-      ≡ suits (role_of (kinded (head c)).kind.result l.j) (kind_of (get_or (start (head c)).args.t.now l.at 0)))
+      ≡ suits (role_of (kinded (head c)).kind-k.result l.j) (kind_of (get_or (start (head c)).args.t.now l.at 0)))
   suited c = cc
 
   -- where the part's binders are known: its own mark is opened, and its words can be gone through
   opened : (c : Bound)
-      → (let l = (head (admitted c)).loop in
+      → (let l = (head (admitted c)).loop-j in
       let d = (start (head (admitted c))).args.depth in
       OpenedMark l.used (set l.used d 0) d c.binders.result)
   opened c = open_set _ _ _ (free (search))
 
   space : (c : Bound)
-      → (let l = (head (admitted c)).loop in
+      → (let l = (head (admitted c)).loop-j in
       let s = (start (head (admitted c))).args in
       Space 1 (set l.used s.depth 0) (s.depth + c.binders.result) (length (from s.t.now l.at)))
   space c =
       let l : Head = search in
-      test_space _ _ _ _ _ _ _ l.loop.inv (search) (opened c) c.binders.ensures.1 (start l).pre.1.1
+      test_space _ _ _ _ _ _ _ l.loop-j.invariant (search) (opened c) c.binders.ensures.1 (start l).requires.1.1
 
   -- where the part is tested
-  same : (c : PartTested) → length c.normal-test.new.1.1.1.0 ≡ length (start (turn c)).args.used.now
-  same c = c.normal-test.auto.1.1.1.0 ∙ length-set (turn c).loop.used _ 0 ∙ held (search)
+  same : (c : PartTested) → length c.normal_test-part.new.used ≡ length (start (turn c)).args.used.now
+  same c = c.normal_test-part.auto.used ∙ length-set (turn c).loop-j.used _ 0 ∙ held (search)
 
-  mark : (c : PartTested) → (start (turn c)).args.depth < length c.normal-test.new.1.1.1.0
+  mark : (c : PartTested) → (start (turn c)).args.depth < length c.normal_test-part.new.used
   mark c = omega (arith, (begins (start (turn c))).deep, same c)
 
   -- where the part has passed
   next : (c : PartPassed)
       → (let p = tested c in
-      let l = (turn p).loop in
+      let l = (turn p).loop-j in
       let s = (start (turn p)).args in
-      let k = (kinded (turn p)).kind.result in
+      let k = (kinded (turn p)).kind-k.result in
       Testing is_normal_form (part_passes s.calls.now k (first_droppable s.calls.now s.t.now)) s.calls.now s.t.now
       s.used.now s.depth k
-      p.normal-test.last.1.1.1.0
-      (turn p).before.part_count.result (l.at + p.normal-test.result.end) (l.j + 1))
+      p.normal_test-part.new.used
+      (turn p).before.part_count-n.result (l.at + p.normal_test-part.result.end) (l.j + 1))
   next c =
       let p = tested c in
       let b = bound p in
-      parts_next (turn p).loop.inv (search) _ (suited (search)) _ p.normal-test.ensures (opened (search)) b.binders.ensures.0
-      (search) _ c.before.keeps.ensures (search) c.if4.false b.binders.ensures.1 p.normal-test.kept.1.1.1.0
+      let e : place lts.Else-not-admits = search in
+      parts_next (turn p).loop-j.invariant (search) _ (suited (search)) _ p.normal_test-part.ensures (opened (search)) b.binders.ensures.0
+      (search) _ c.before.keeps.ensures (ap not e.if-not-admits.false) (ap not c.if-not-keeps.false) b.binders.ensures.1 p.normal_test-part.auto.used
 
-  reached : (c : PartPassed) → (turn (tested c)).loop.at + (tested c).normal-test.result.end ≤ 65536
+  reached : (c : PartPassed) → (turn (tested c)).loop-j.at + (tested c).normal_test-part.result.end ≤ 65536
   reached c = omega (arith, (next c).going.high, (begins (start (turn (tested c)))).short)
 
   pub normal_test_meets : {M : Type 1} → lts.Closed (normal_test_claims m) (normal_test_at m) normal-test.Post M
@@ -188,16 +189,16 @@ module _ (m : ℕ) where
       (λ c κs. search rules)
       (λ c κs.
       let s : Entry = search in
-      (omega arith, s.pre.1))
+      (omega arith, s.requires.1))
       (λ c. search rules)
       (λ c.
       let s : Entry = search in
-      let v : place lts.After-normal-value-test = search in
-      value_normal s.pre.1.0 _ _ _ (search) (is_value_lem (search)) v.normal-value-test.ensures)
+      let v : place lts.After-normal_value_test = search in
+      value_normal s.requires.1.0 _ _ _ (search) (is_value_lem (search)) v.normal_value_test.ensures)
       (λ c κs. search rules)
       (λ c.
       let s : Entry = search in
-      normal_enter s.pre.1.0 _ _ _ (search) _ _ (search) c.before.if1.false c.part_count.ensures.0)
+      normal_enter s.requires.1.0 _ _ _ (search) _ _ (search) c.before.if-value_kind.false c.part_count-n.ensures.0)
       (λ c κs. search rules)
       (λ c. search rules)
       (λ c. inside (search))
@@ -206,7 +207,7 @@ module _ (m : ℕ) where
       (λ c. held (search))
       (λ c.
       let l : Head = search in
-      role_fails l.loop.inv (search) _ (suited (search)) c.if2.true)
+      role_fails l.loop-j.invariant (search) _ (suited (search)) (ap not c.if-not-admits.true))
       (λ c. omega (arith, near (search)))
       (λ c. free (search))
       (λ c κs. search rules)
@@ -217,23 +218,23 @@ module _ (m : ℕ) where
       (λ c. search rules)
       (λ c κs.
       let s : Entry = search in
-      (omega (arith, less (search)), (part (search), space (search), s.pre.1.2)))
+      (omega (arith, less (search)), (part (search), space (search), s.requires.1.2)))
       (λ c. same (search))
       (λ c.
       let p : PartTested = search in
-      form_fails (turn p).loop.inv (search) _ (suited (search)) _ p.normal-test.ensures c.if3.true)
+      form_fails (turn p).loop-j.invariant (search) _ (suited (search)) _ p.normal_test-part.ensures c.if-not-part.true)
       (λ c. first_inside (search))
       (λ c. omega (arith, near (search)))
       (λ c. mark (search))
-      (λ c κs. let s : Entry = search in s.pre.1.2)
+      (λ c κs. let s : Entry = search in s.requires.1.2)
       (λ c. same (search))
       (λ c.
       let p : PartTested = search in
-      use_fails (turn p).loop.inv (search) _ (suited (search)) _ p.normal-test.ensures (opened (search))
-      (bound p).binders.ensures.0 (search) _ c.before.keeps.ensures c.if4.true)
+      use_fails (turn p).loop-j.invariant (search) _ (suited (search)) _ p.normal_test-part.ensures (opened (search))
+      (bound p).binders.ensures.0 (search) _ c.before.keeps.ensures (ap not c.if-not-keeps.true))
       (λ c. omega (arith, reached (search)))
       (λ c. search rules)
       (λ c. search rules)
       (λ c. next (search))
       (λ c. held (search))
-      (λ c. test_leave _ _ _ _ _ _ _ c.before.loop.invariant c.loop-test.false)
+      (λ c. test_leave _ _ _ _ _ _ _ c.before.loop-j.invariant c.loop-j-test.false)

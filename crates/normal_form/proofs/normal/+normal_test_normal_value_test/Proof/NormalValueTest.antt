@@ -9,7 +9,8 @@
 use borrow.Author.Rules.{rules}
 use Prim.Native.Nat.{ℕ, ◌+◌, ◌-◌, ◌<◌}
 use native.Mathlib.Omega.{arith}
-use mathlib.Core.Path.{◌≡◌, ◌∙◌}
+use mathlib.Core.Path.{◌≡◌, ◌∙◌, ap}
+use mathlib.Core.Bool.{not}
 use lib.ListN.{length, set, length-set}
 use contract.Lifetimes.{Lfts}
 use borrow.Fn.Kinds.{In, Dens, Plain}
@@ -25,17 +26,17 @@ use Rattle.normal_form.proofs.normal.normal_value_test.Reads as normal-value-tes
 use Rattle.normal_form.proofs.normal.+normal_test_normal_value_test.Lts-normal_value_test as lts
 use Rattle.normal_form.proofs.normal.+normal_test_normal_value_test.Proof.Measures.{normal_value_test_at, normal_value_test_claims}
 
-abbrev Inv-loop : lts.invariant-loop
+abbrev Inv-loop : lts.invariant-loop-j
 Inv-loop calls acting t used₀ depth w k n at₀ j₀ used at j =
     Testing is_normal_value (λ j. is_normal_value calls) calls t used₀ depth k used n at j
 
-abbrev μ_loop : lts.decreases-loop
+abbrev μ_loop : lts.decreases-loop-j
 μ_loop calls acting t used₀ depth w k n at₀ j₀ used at j = n - j
 
 -- the type of a place of the code
 abbrev Place : Type 1
 Place =
-    lts.Claims → In 3 lts.ps → ((κs : Lfts 3) (a : Dens κs lts.ps) → Plain 3 lts.ps lts.r κs) → lts.invariant-loop → lts.decreases-loop → Type 0
+    lts.Claims → In 3 lts.ps → ((κs : Lfts 3) (a : Dens κs lts.ps) → Plain 3 lts.ps lts.r κs) → lts.invariant-loop-j → lts.decreases-loop-j → Type 0
 
 module _ (m : ℕ) where
   -- the places, and the way back from each to one above it: a function and its body, and the loop over a node's parts
@@ -46,19 +47,19 @@ module _ (m : ℕ) where
   Entry = place lts.Start
 
   abbrev Kinded : Type 0
-  Kinded = place lts.After-kind
+  Kinded = place lts.After-kind-k
 
   abbrev Function : Type 0
-  Function = place lts.Then2
+  Function = place lts.Then-k-eq2
 
   abbrev Body : Type 0
-  Body = place lts.After-normal-test
+  Body = place lts.After-normal_test-body
 
   abbrev Head : Type 0
-  Head = place lts.At-loop
+  Head = place lts.At-loop-j
 
   abbrev PartTested : Type 0
-  PartTested = place lts.After-normal-value-test
+  PartTested = place lts.After-normal_value_test-part
 
   abbrev entry : Kinded → Entry
   entry c = c.before.before.before.before.before
@@ -83,9 +84,9 @@ module _ (m : ℕ) where
   body : (c : Function)
       → (let s = (entry (kinded c)).args in
       Testing is_normal_value (λ j. is_normal_form s.calls.now) s.calls.now s.t.now s.used.now s.depth
-      (kinded c).kind.result
+      (kinded c).kind-k.result
       s.used.now 1 1 0)
-  body c = function_enter (entry (kinded c)).pre.1.0 _ _ _ (kinded c).kind.ensures c.if2.true
+  body c = function_enter (entry (kinded c)).requires.1.0 _ _ _ (kinded c).kind-k.ensures c.if-k-eq2.true
 
   opened : (c : Function)
       → (let s = (entry (kinded c)).args in
@@ -95,43 +96,43 @@ module _ (m : ℕ) where
   less : (c : Function) → length (from (entry (kinded c)).args.t.now 1) < length (entry (kinded c)).args.t.now
   less c = omega (arith, from_length (entry (kinded c)).args.t.now 1, (begins (search)).some)
 
-  same : (c : Body) → length c.normal-test.new.1.1.1.0 ≡ length (entry (kinded (function c))).args.used.now
-  same c = c.normal-test.auto.1.1.1.0 ∙ length-set (entry (kinded (function c))).args.used.now _ 0
+  same : (c : Body) → length c.normal_test-body.new.used ≡ length (entry (kinded (function c))).args.used.now
+  same c = c.normal_test-body.auto.used ∙ length-set (entry (kinded (function c))).args.used.now _ 0
 
-  passed : (c : place lts.Else3)
+  passed : (c : place lts.Else-not-body)
       → (let b = c.before.before.before.before in
       let s = (entry (kinded (function b))).args in
       Testing is_normal_value (λ j. is_normal_form s.calls.now) s.calls.now s.t.now s.used.now s.depth
-      (kinded (function b)).kind.result b.normal-test.new.1.1.1.0 1 (1 + b.normal-test.result.end) (0 + 1))
+      (kinded (function b)).kind-k.result b.normal_test-body.new.used 1 (1 + b.normal_test-body.result.end) (0 + 1))
   passed c =
       let b : Body = search in
-      let a = b.normal-test.ensures in
-      test_next _ _ _ _ _ _ _ (body (search)) (omega arith) (opened (search)) (omega arith) (function_binds _ (function b).if2.taken) _
-      (said_yes a c.if3.false) (did_pass a c.if3.false) b.normal-test.kept.1.1.1.0
+      let a = b.normal_test-body.ensures in
+      test_next _ _ _ _ _ _ _ (body (search)) (omega arith) (opened (search)) (omega arith) (function_binds _ (function b).if-k-eq2.true) _
+      (said_yes a c.if-not-body.false) (did_pass a c.if-not-body.false) b.normal_test-body.auto.used
 
   -- at the head of the loop
-  held : (c : Head) → length c.loop.used ≡ length (entry (headed c)).args.used.now
-  held c = c.loop.invariant.grown.len
+  held : (c : Head) → length c.loop-j.used ≡ length (entry (headed c)).args.used.now
+  held c = c.loop-j.invariant.grown.len
 
-  fewer : (c : Head) → length (from (entry (headed c)).args.t.now c.loop.at) < length (entry (headed c)).args.t.now
-  fewer c = omega (arith, from_length (entry (headed c)).args.t.now c.loop.at, c.loop.invariant.going.low, (begins (search)).some)
+  fewer : (c : Head) → length (from (entry (headed c)).args.t.now c.loop-j.at) < length (entry (headed c)).args.t.now
+  fewer c = omega (arith, from_length (entry (headed c)).args.t.now c.loop-j.at, c.loop-j.invariant.going.low, (begins (search)).some)
 
-  bare : (c : Head) → 0 ≡ binders_at (headed c).kind.result c.loop.j
+  bare : (c : Head) → 0 ≡ binders_at (headed c).kind-k.result c.loop-j.j
   bare c =
-      let e : place lts.Else4 = search in
-      values_bind_none _ _ _ e.before.value_kind_lem.ensures e.if4.left e.before.before.if2.left
+      let e : place lts.Else-not-value_kind = search in
+      values_bind_none _ _ _ e.before.value_kind.ensures (ap not e.if-not-value_kind.false) e.before.before.if-k-eq2.false
 
-  next : (c : place lts.Else5)
+  next : (c : place lts.Else-not-part)
       → (let p = c.before.before.before.before in
       let s = (entry (headed (head p))).args in
-      let l = (head p).loop in
+      let l = (head p).loop-j in
       Testing is_normal_value (λ j. is_normal_value s.calls.now) s.calls.now s.t.now s.used.now s.depth
-      (headed (head p)).kind.result
-      p.normal-value-test.new.1.1.1.0 (head p).before.part_count.result (l.at + p.normal-value-test.result.end) (l.j + 1))
+      (headed (head p)).kind-k.result
+      p.normal_value_test-part.new.used (head p).before.part_count-n.result (l.at + p.normal_value_test-part.result.end) (l.j + 1))
   next c =
       let p : PartTested = search in
-      values_next (head p).loop.inv (search) p.normal-value-test.ensures (search) (bare (search))
-      p.normal-value-test.kept.1.1.1.0
+      values_next (head p).loop-j.invariant (search) p.normal_value_test-part.ensures (search) (bare (search))
+      p.normal_value_test-part.auto.used
 
   pub normal_value_test_meets : {M : Type 1} → lts.Closed (normal_value_test_claims m) (normal_value_test_at m) normal-value-test.Post M
   normal_value_test_meets =
@@ -146,13 +147,13 @@ module _ (m : ℕ) where
       (λ c κs. search rules)
       (λ c κs.
       let s : Entry = search in
-      space_raisable s.pre.1.1 (begins s).some _ (omega arith))
+      space_raisable s.requires.1.1 (begins s).some _ (omega arith))
       (λ c. search rules)
       (λ c.
       let s : Entry = search in
-      let v : place lts.Then1 = search in
+      let v : place lts.Then-k-eq0 = search in
       let y : place lts.After-mark = search in
-      value_variable s.pre.1.0 _ _ _ v.before.kind.ensures _ v.if1.taken y.before.number.ensures y.mark.ensures)
+      value_variable s.requires.1.0 _ _ _ v.before.kind-k.ensures _ v.if-k-eq0.true y.before.number.ensures y.mark.ensures)
       (λ c. omega (arith, begins (search)))
       (λ c. (begins (search)).deep)
       (λ c. (begins (search)).some)
@@ -164,50 +165,50 @@ module _ (m : ℕ) where
         omega (arith, less (search)),
         (
           part_starts _ _ (body f).going (omega arith),
-          test_space _ _ _ _ _ _ _ (body f) (omega arith) (opened f) (omega arith) (entry (kinded f)).pre.1.1,
-          (entry (kinded f)).pre.1.2,
+          test_space _ _ _ _ _ _ _ (body f) (omega arith) (opened f) (omega arith) (entry (kinded f)).requires.1.1,
+          (entry (kinded f)).requires.1.2,
         ),
       ))
       (λ c. same (search))
       (λ c.
       let b : Body = search in
-      test_fails _ _ _ _ _ _ _ (body (search)) (omega arith) (said_no b.normal-test.ensures c.if3.true))
+      test_fails _ _ _ _ _ _ _ (body (search)) (omega arith) (said_no b.normal_test-body.ensures c.if-not-body.true))
       (λ c. omega (arith, (passed (search)).going.high, (begins (entry (kinded (search)))).short))
       (λ c. same (search))
       (λ c. test_leave _ _ _ _ _ _ _ (passed (search)) (omega arith))
       (λ c κs. search rules)
       (λ c.
       let s : Entry = search in
-      value_none s.pre.1.0 _ _ _ (search) _ c.before.value_kind_lem.ensures c.if4.true)
+      value_none s.requires.1.0 _ _ _ (search) _ c.before.value_kind.ensures (ap not c.if-not-value_kind.true))
       (λ c κs. search rules)
       (λ c.
       let s : Entry = search in
-      let e : place lts.Else4 = search in
-      values_enter s.pre.1.0 _ _ _ (search) _ _ (search) (search) e.before.value_kind_lem.ensures e.if4.left
-      c.part_count.ensures.0)
+      let e : place lts.Else-not-value_kind = search in
+      values_enter s.requires.1.0 _ _ _ (search) _ _ (search) (search) e.before.value_kind.ensures (ap not e.if-not-value_kind.false)
+      c.part_count-n.ensures.0)
       (λ c. search rules)
       (λ c. search rules)
       (λ c. search rules)
       (λ c. search rules)
       (λ c κs.
       let s : Entry = search in
-      let l : place lts.In-loop = search in (
+      let l : place lts.In-loop-j = search in (
         omega (arith, fewer (search)),
         (
-          part_starts _ _ l.before.loop.inv.going l.loop-test.taken,
-          values_space l.before.loop.inv l.loop-test.taken s.pre.1.1,
-          s.pre.1.2,
+          part_starts _ _ l.before.loop-j.invariant.going l.loop-j-test.true,
+          values_space l.before.loop-j.invariant l.loop-j-test.true s.requires.1.1,
+          s.requires.1.2,
         ),
       ))
       (λ c.
       let p : PartTested = search in
-      p.normal-value-test.kept.1.1.1.0 ∙ held (search))
+      p.normal_value_test-part.auto.used ∙ held (search))
       (λ c.
       let p : PartTested = search in
-      test_fails _ _ _ _ _ _ _ (head p).loop.inv (search) (said_no p.normal-value-test.ensures c.if5.true))
+      test_fails _ _ _ _ _ _ _ (head p).loop-j.invariant (search) (said_no p.normal_value_test-part.ensures c.if-not-part.true))
       (λ c. omega (arith, (next (search)).going.high, (begins (entry (headed (search)))).short))
       (λ c. search rules)
       (λ c. search rules)
       (λ c. next (search))
       (λ c. held (search))
-      (λ c. test_leave _ _ _ _ _ _ _ c.before.loop.invariant c.loop-test.false)
+      (λ c. test_leave _ _ _ _ _ _ _ c.before.loop-j.invariant c.loop-j-test.false)

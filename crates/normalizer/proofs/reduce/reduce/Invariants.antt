@@ -1,0 +1,44 @@
+-- The inner loop's invariant says that the reduction has come from the phase's start to this turn, the outer one's that it has come from
+-- the first state to this phase. The loops end: each step takes one off the budget, and each phase has fewer after it.
+use Rattle.std.proofs.Common.{◌≡◌, ℕ, List, length}
+use Rattle.reduction.specs.declared.Settings.{Settings}
+use Rattle.reduction.specs.declared.Phase.{Phase}
+use Rattle.reduction.specs.Reduction.{Counts}
+use Rattle.normalizer.proofs.BetweenTurns.{State}
+use Rattle.normalizer.proofs.StepLoop.{Arrives}
+use Rattle.normalizer.proofs.PhaseLoop.{initial, phases_after}
+use Rattle.normalizer.proofs.reduce.reduce.Given as goal
+
+abbrev pub state : Phase → (words : List ℕ) (start end left : ℕ) → Counts → (second : List ℕ) (refusal : ℕ) → State
+state phase words start end left counts second refusal = record {
+  phase = phase;
+  words = words;
+  start = start;
+  end = end;
+  left = left;
+  counts = counts;
+  second = second;
+  refusal = refusal;
+}
+
+abbrev pub set : (budget : ℕ) (ceilings : List ℕ) → Settings
+set budget ceilings = record { budget = budget; ceilings = ceilings }
+
+abbrev pub invariant-loop-n : goal.invariant-loop-n
+invariant-loop-n l =
+    Arrives l.calls (set l.budget l.ceilings)
+    (state l.phase l.initial.current l.initial.start l.initial.end l.initial.left l.initial.counts l.initial.second l.initial.refusal)
+    (state l.phase l.current l.start l.end l.left l.counts l.second l.refusal)
+    × (length l.pending ≡ 8194)
+
+abbrev pub decreases-loop-n : goal.decreases-loop-n
+decreases-loop-n l = l.left
+
+abbrev pub invariant-reduce : goal.invariant-reduce
+invariant-reduce l =
+    Arrives l.calls (set l.budget l.ceilings) (initial l.initial.current l.begin (set l.budget l.ceilings) l.initial.second)
+    (state l.phase l.current l.start l.end l.left l.counts l.second l.refusal)
+    × (length l.pending ≡ 8194)
+
+abbrev pub decreases-reduce : goal.decreases-reduce
+decreases-reduce l = phases_after l.phase
