@@ -17,7 +17,8 @@
  * They use the stack of their thread, flatten_respond and flatten_normalize the more, the deeper a
  * term nests. The least that was enough for the deepest term, as an earlier compiler built it: 924 KiB
  * for flatten_respond, 668 KiB for flatten_normalize, 200 KiB for flatten_free_inputs
- * (bindings/rust/tests/depth.rs, which runs with 2 MiB). Allow 2 MiB. A stack that is too small is not refused by number: the process ends at its guard page.
+ * (bindings/rust/tests/depth.rs, which runs with 2 MiB). Allow 2 MiB. A stack that is too small is
+ * not refused by number: the process ends at its guard page.
  */
 #ifndef FLATTEN_H
 #define FLATTEN_H
