@@ -31,9 +31,9 @@ keeps_spec =
     tie.close
     (tie.spec
     (λ c. bound_part _ _ _ _ c.before.if-k-eq4.true c.if-j-eq0.true)
-    (λ c. used _ _ _ _ c.before.before.if-k-eq4.true c.before.if-j-eq0.false (omega (arith, c.if-uses-ge1.true)))
+    (λ c. used _ _ _ _ c.before.before.if-k-eq4.true c.before.if-j-eq0.false (omega arith))
     (λ c κs. let s : tie.Start = search in s.requires)
     (λ c.
-    let n : tie.Else-uses-ge1 = search in
-    ap not c.may_drop-droppable.ensures ∙ unused _ _ _ _ n.before.before.if-k-eq4.true n.before.if-j-eq0.false (omega (arith, n.if-uses-ge1.false)))
+    let n : tie.Else-j-eq0 = search in
+    ap not c.may_drop-droppable.ensures ∙ unused _ _ _ _ n.before.if-k-eq4.true n.if-j-eq0.false (omega arith))
     (λ c. other_node _ _ _ _ c.if-k-eq4.false))
