@@ -1,5 +1,6 @@
 // The public calls `respond`, `normalize` and `free_inputs`, and settings without ceilings, for programs in C and Rust.
 #![tactic(auto)]
+
 ghost use Rattle.std.specs.Prelude.{◌≡◌};
 ghost use Rattle.syntax.specs.Tables.{over};
 ghost use Rattle.reduction.specs.Reduction.{no_ceilings};
