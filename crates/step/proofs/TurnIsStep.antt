@@ -229,6 +229,13 @@ module _ {phase : Phase} {calls before : List ℕ} {start end : ℕ} where
             (goes s.taken rest s.is h below (subst (λ (i : ℕ). Gapped after i rest s.taken.next) (sym q) there)));
       }
 
+-- the same of what the code has at hand there: the search's answer, the budget and the answer of `ceiling_met`
+pub found_met : {phase : Phase} {calls before : List ℕ} {start end : ℕ} {rule : Rule} {ahead left : ℕ} {counts ceilings after : List ℕ} {r : Found}
+    {b : Bool} {t : Term} → CurrentClear phase calls before start end t → Finds phase calls (from before end) r → r ≡ Redex rule ahead
+    → (left ≡ 0 → ⊥) → b ≡ ceiling_met ceilings rule counts → b ≡ true
+    → Turned phase calls after start end left counts ceilings (length before) t (Refused 13)
+found_met a f e n c u = (turned_met (first_redex_lem f e) (omega (arith, n)) (sym c ∙ u)).told _ a
+
 -- what rewriting says holds of the answer that a match names, which is the same
 pub rewrites_as : {rule : Rule} {calls before : List ℕ} {start end : ℕ} {after : List ℕ} {r w : Rewritten} → r ≡ w
     → RewritesRedex rule calls before start end after r → RewritesRedex rule calls before start end after w
