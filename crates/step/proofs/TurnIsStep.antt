@@ -107,8 +107,8 @@ module _ {phase : Phase} {calls before : List ℕ} {start end : ℕ} where
         → Turns phase calls before start end left counts ceilings before Stop
     turned_stops e = record {
       told = λ t a.
-          let None-found = sym (ap (moved_by start) (sym e) ∙ f.told t start (search_at a)) in
-          stops (nothing_none (may_drop calls) phase t None-found) a.current;
+          let none_found = sym (ap (moved_by start) (sym e) ∙ f.told t start (search_at a)) in
+          stops (nothing_none (may_drop calls) phase t none_found) a.current;
     }
 
     -- a redex is found
