@@ -1,10 +1,12 @@
 // Reads records from standard input, makes the call that each asks for, and writes a line or a listing for each.
 // A record is ten header words, for call 5 ten ceilings, then the words of four tables or the bytes of a bundle, padded to whole words.
+#![tactic(auto)]
+
 ghost use Rattle.std.specs.Prelude.{◌≤◌, length};
 
-use libc::STDIN_FILENO;
 use normalizer::settings::no_ceilings;
 use reduction::Settings;
+use std::io::Read;
 
 mod codec; // codec.rt: words from bytes, and the contents of buffers
 mod lines; // lines.rt: what is written for each call
@@ -14,35 +16,50 @@ use crate::codec::{
 };
 use crate::lines::{bundle_listing, check_line, inputs_line, normal_line, normalize_line};
 
+// reads until the buffer is full, the input ends or a read fails; answers how many bytes
+fn read_full(input: &mut impl Read, bytes: &mut [u8]) -> usize
+    ensures { result ≤ length bytes.new }
+{
+    let mut done = 0;
+    while done < bytes.len() {
+        let n = input.read(&mut bytes[done..]).unwrap_or(0);
+        if n == 0 {
+            break;
+        }
+        done += n;
+    }
+    done
+}
+
 // reads so many bytes to the front; no where the input ends before
-fn read_front(bytes: &mut [u8], n: usize) -> bool {
+fn read_front(input: &mut impl Read, bytes: &mut [u8], n: usize) -> bool {
     if bytes.len() < n {
         return false;
     }
     let start: usize = 0;
-    let got = io::read_full(STDIN_FILENO, &mut bytes[start..n]);
+    let got = read_full(input, &mut bytes[start..n]);
     got == n
 }
 
 // call 0: the bundle's bytes
-fn bundle(head: &[u8; HEADER_BYTES]) -> bool {
+fn bundle(rt: &impl Print, input: &mut impl Read, head: &[u8; HEADER_BYTES]) -> bool {
     let size = length_word(head, 9);
     let mut bytes: [u8; MOST_BYTES] = [0; MOST_BYTES];
-    if !read_front(&mut bytes, (size + 7) / 8 * 8) {
+    if !read_front(input, &mut bytes, (size + 7) / 8 * 8) {
         return false;
     }
-    bundle_listing(&bytes, size);
+    bundle_listing(rt, &bytes, size);
     true
 }
 
 // the header's budget, with the ceilings of call 5 and none for any other call
-fn settings_after(head: &[u8; HEADER_BYTES]) -> Settings {
+fn settings_after(input: &mut impl Read, head: &[u8; HEADER_BYTES]) -> Settings {
     let budget = half_word(head, 1);
     if header_word(head, 0) != 5 {
         return no_ceilings(budget);
     }
     let mut words: [u8; HEADER_BYTES] = [0; HEADER_BYTES];
-    io::read_full(STDIN_FILENO, &mut words);
+    read_full(input, &mut words);
     let ceilings = half_words(&words);
     Settings {
         budget: budget,
@@ -52,6 +69,7 @@ fn settings_after(head: &[u8; HEADER_BYTES]) -> Settings {
 
 // calls 1 to 5 on the tables that stand one after the other
 fn call_on(
+    rt: &impl Print,
     head: &[u8; HEADER_BYTES],
     settings: Settings,
     words: &[u64],
@@ -69,25 +87,27 @@ fn call_on(
     let term = &words[c..d];
     let call = header_word(head, 0);
     if call == 1 {
-        check_line(types, calls, inputs, term);
+        check_line(rt, types, calls, inputs, term);
         return;
     }
     if call == 2 {
-        normal_line(types, calls, inputs, term);
+        normal_line(rt, types, calls, inputs, term);
         return;
     }
     if call == 4 {
-        inputs_line(types, calls, inputs, term);
+        inputs_line(rt, types, calls, inputs, term);
         return;
     }
     let output = length_word(head, 2);
     let first = length_word(head, 3);
     let second = length_word(head, 4);
-    normalize_line(types, calls, inputs, term, settings, output, first, second);
+    normalize_line(
+        rt, types, calls, inputs, term, settings, output, first, second,
+    );
 }
 
 // calls 1 to 5: the ceilings of call 5 and the tables' words
-fn tables(head: &[u8; HEADER_BYTES]) -> bool {
+fn tables(rt: &impl Print, input: &mut impl Read, head: &[u8; HEADER_BYTES]) -> bool {
     let a = length_word(head, 5);
     let b = a + length_word(head, 6);
     let c = b + length_word(head, 7);
@@ -95,34 +115,35 @@ fn tables(head: &[u8; HEADER_BYTES]) -> bool {
     if MOST_WORDS < d {
         return false;
     }
-    let settings = settings_after(head);
+    let settings = settings_after(input, head);
     let mut bytes: [u8; MOST_BYTES] = [0; MOST_BYTES];
-    if !read_front(&mut bytes, 8 * d) {
+    if !read_front(input, &mut bytes, 8 * d) {
         return false;
     }
     let mut words: [u64; MOST_WORDS] = [0; MOST_WORDS];
     decode(&bytes, &mut words, d);
-    call_on(head, settings, &words, a, b, c, d);
+    call_on(rt, head, settings, &words, a, b, c, d);
     true
 }
 
 // one record; no at the end of the input
-fn record() -> bool {
+fn record(rt: &impl Print, input: &mut impl Read) -> bool {
     let mut head: [u8; HEADER_BYTES] = [0; HEADER_BYTES];
-    let n = io::read_full(STDIN_FILENO, &mut head);
+    let n = read_full(input, &mut head);
     if n < HEADER_BYTES {
         return false;
     }
     if header_word(&head, 0) == 0 {
-        return bundle(&head);
+        return bundle(rt, input, &head);
     }
-    tables(&head)
+    tables(rt, input, &head)
 }
 
 // A proved loop has to end, so it counts its turns down from a number that no run uses up.
-fn main() {
+fn main(rt: HostRuntime) {
+    let mut input = rt.stdin();
     let mut turns = u64::MAX;
-    while turns > 0 && record() {
+    while turns > 0 && record(&rt, &mut input) {
         turns -= 1;
     }
 }

@@ -44,8 +44,8 @@ pub extern "C" fn flatten_normalize(
     second: &mut [u64],
 ) -> Answer
     ensures { Normalizes settings (over types.now calls.now inputs.now) term.now
-        (record { output = output.entry.now; scratch₁ = first.old; scratch₂ = second.old }) result
-        (record { output = output.exit.now; scratch₁ = first.new; scratch₂ = second.new }) }
+        (record { output = output.old; scratch₁ = first.old; scratch₂ = second.old }) result
+        (record { output = output.new; scratch₁ = first.new; scratch₂ = second.new }) }
 {
     normalize(types, calls, inputs, term, settings, output, first, second)
 }

@@ -68,8 +68,8 @@ fn run(
     second: &mut [u64],
 ) -> Answer
     ensures { FillsNormalized settings (over types.now calls.now inputs.now)
-        term.now (record { output = output.entry.now; scratch₁ = first.old; scratch₂ = second.old }) result
-        output.exit.now }
+        term.now (record { output = output.old; scratch₁ = first.old; scratch₂ = second.old }) result
+        output.new }
 {
     let none: [u32; 10] = [0; 10];
     let checked = check_within(NORMALIZE_LIMIT, types, calls, inputs, term);
@@ -106,8 +106,8 @@ pub fn normalize(
     second: &mut [u64],
 ) -> Answer
     ensures { Normalizes settings (over types.now calls.now inputs.now) term.now
-        (record { output = output.entry.now; scratch₁ = first.old; scratch₂ = second.old }) result
-        (record { output = output.exit.now; scratch₁ = first.new; scratch₂ = second.new }) }
+        (record { output = output.old; scratch₁ = first.old; scratch₂ = second.old }) result
+        (record { output = output.new; scratch₁ = first.new; scratch₂ = second.new }) }
 {
     let answer = run(types, calls, inputs, term, settings, output, first, second);
     clear(first);

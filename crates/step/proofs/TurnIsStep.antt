@@ -107,8 +107,8 @@ module _ {phase : Phase} {calls before : List ℕ} {start end : ℕ} where
         → Turns phase calls before start end left counts ceilings before Stop
     turned_stops e = record {
       told = λ t a.
-          let None-found = sym (ap (moved_by start) (sym e) ∙ f.told t start (search_at a)) in
-          stops (nothing_none (may_drop calls) phase t None-found) a.current;
+          let none_found = sym (ap (moved_by start) (sym e) ∙ f.told t start (search_at a)) in
+          stops (nothing_none (may_drop calls) phase t none_found) a.current;
     }
 
     -- a redex is found
@@ -228,6 +228,13 @@ module _ {phase : Phase} {calls before : List ℕ} {start end : ℕ} where
             subst (λ (i : Rule). turned (Stepped i to rest)) s.by (subst (λ (i : ℕ). turned (Stepped s.taken.rule i rest)) q
             (goes s.taken rest s.is h below (subst (λ (i : ℕ). Gapped after i rest s.taken.next) (sym q) there)));
       }
+
+-- the same of what the code has at hand there: the search's answer, the budget and the answer of `ceiling_met`
+pub found_met : {phase : Phase} {calls before : List ℕ} {start end : ℕ} {rule : Rule} {ahead left : ℕ} {counts ceilings after : List ℕ} {r : Found}
+    {b : Bool} {t : Term} → CurrentClear phase calls before start end t → Finds phase calls (from before end) r → r ≡ Redex rule ahead
+    → (left ≡ 0 → ⊥) → b ≡ ceiling_met ceilings rule counts → b ≡ true
+    → Turned phase calls after start end left counts ceilings (length before) t (Refused 13)
+found_met a f e n c u = (turned_met (first_redex_lem f e) (omega (arith, n)) (sym c ∙ u)).told _ a
 
 -- what rewriting says holds of the answer that a match names, which is the same
 pub rewrites_as : {rule : Rule} {calls before : List ℕ} {start end : ℕ} {after : List ℕ} {r w : Rewritten} → r ≡ w

@@ -20,6 +20,7 @@ pub enum Turn {
 
 // the search begins behind the gap, from `start` to `end`; after a step the gap is where the search goes on. 10 is
 // checked before 13, and 13 before 11.
+#[tactic(auto, using(crate::proofs::TurnIsStep::found_met))]
 pub fn take_turn(
     phase: Phase,
     calls: &[u64],

@@ -11,7 +11,7 @@ body_with_spec =
     tie.close
     (tie.spec
     (λ c κs. search rules)
-    (λ c. word_body c.size_from-end.ensures c.before.if-size-eq1.true)
+    (λ c. word_body c.size_from-end.ensures (omega arith))
     (λ c κs. search rules)
     (λ c κs.
     let s : tie.Start = search in

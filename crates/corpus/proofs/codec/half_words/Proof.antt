@@ -3,10 +3,10 @@ use Rattle.std.proofs.Common.{◌-◌, rules}
 use Rattle.corpus.proofs.codec.half_words.Statement.{statement}
 use Rattle.corpus.proofs.codec.half_words.Tie as tie
 
-abbrev invariant-loop : tie.invariant-loop
+abbrev invariant-loop : tie.invariant-loop-i
 invariant-loop words halves₀ i₀ halves i = Unit
 
-abbrev decreases-loop : tie.decreases-loop
+abbrev decreases-loop : tie.decreases-loop-i
 decreases-loop words halves₀ i₀ halves i = 10 - i
 
 pub half_words_spec : {M : Type 1} → statement M

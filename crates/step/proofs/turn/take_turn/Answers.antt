@@ -5,18 +5,13 @@
 -- ceiling is not met either, so 11 is answered only there; and where the next term is in the buffer the gap can go to where the search goes
 -- on (`next_seekable`).
 use Rattle.std.proofs.Common.{sym, ◌∙◌, arith, rules}
-use Rattle.step.proofs.TurnIsStep.{turned_stops, first_redex_lem, turned_spent, turned_met}
+use Rattle.step.proofs.TurnIsStep.{turned_stops, first_redex_lem, turned_spent}
 use Rattle.step.proofs.TurnIsStep.{place_small, redex_seekable, turn_rewritable, turned_full, next_seekable, turned_goes}
 use Rattle.step.proofs.TurnIsStep.{rewrites_as}
 use Rattle.step.proofs.turn.take_turn.Goals as goal
 
 pub returns-then-spent : goal.returns-then-spent
 returns-then-spent c = turned_spent (first_redex_lem c.find-found.ensures c.in-Redex.is) c.if-spent.true
-
-pub returns-then-met : goal.returns-then-met
-returns-then-met c =
-    turned_met (first_redex_lem c.find-found.ensures c.in-Redex.is) (omega (arith, c.if-spent.false))
-    (sym c.ceiling_met-met.ensures ∙ c.if-met.true)
 
 pub overflow_add-place : goal.overflow_add-place
 overflow_add-place c = omega (arith, place_small (first_redex_lem c.find-found.ensures c.in-Redex.is) c.requires.ready.0)
@@ -45,7 +40,7 @@ pub returns-in-Full : goal.returns-in-Full
 returns-in-Full c =
     turned_full
     (record { redex = first_redex_lem c.find-found.ensures c.in-Redex.is; seeks = c.seek-behind.ensures; same = c.seek-behind.auto.words })
-    (omega (arith, c.if-spent.false)) (sym c.ceiling_met-met.ensures ∙ c.if-met.false)
+    (omega (arith, c.if-spent.false)) (sym c.ceiling_met-met.ensures ∙ search)
     (rewrites_as c.in-Full.is c.rewrite-rewritten.ensures)
 
 pub returns-in-Next : goal.returns-in-Next
@@ -53,4 +48,4 @@ returns-in-Next c =
     turned_goes
     (record { redex = first_redex_lem c.find-found.ensures c.in-Redex.is; seeks = c.seek-behind.ensures; same = c.seek-behind.auto.words })
     (rewrites_as c.in-Next.is c.rewrite-rewritten.ensures) (omega (arith, c.if-spent.false))
-    (sym c.ceiling_met-met.ensures ∙ c.if-met.false) c.next_from-from.ensures c.seek-rest.ensures
+    (sym c.ceiling_met-met.ensures ∙ search) c.next_from-from.ensures c.seek-rest.ensures
