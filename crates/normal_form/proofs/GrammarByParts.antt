@@ -13,7 +13,7 @@ use Rattle.syntax.proofs.Options.{and_last}
 use Rattle.reduction.specs.MayDrop.{may_drop}
 use Rattle.reduction.specs.NormalForm.{needed}
 use Rattle.reduction.specs.FitByKinds.{value_kind}
-use Rattle.reduction.specs.Grammar.{Class, a_value, an_operation, a_block, is_aValue, is_an_operation, is_in_grammar, provided, class, are_values}
+use Rattle.reduction.specs.Grammar.{Class, a_value, an_operation, a_block, is_a_value, is_an_operation, is_in_grammar, provided, class, are_values}
 use Rattle.reduction.specs.Grammar.{in_grammar}
 use Rattle.normal_form.specs.Roles.{role_of, suits, operation_kind, keeps_variable}
 use Rattle.normal_form.specs.declared.normal.Role.{Role}
@@ -36,7 +36,7 @@ unfoldable pub part_passes : List ℕ → ℕ → Bool → ℕ → Term → Bool
 part_passes calls k droppable j t =
     suits (role_of k j) (node t).kind && in_grammar (may_drop calls) t && keeps_variable k j droppable (uses t 0)
 
-value_provided : (b : Bool) → is_aValue (provided b a_value) ≡ is_in_grammar (provided b a_value)
+value_provided : (b : Bool) → is_a_value (provided b a_value) ≡ is_in_grammar (provided b a_value)
 value_provided true = refl
 value_provided false = refl
 
@@ -44,11 +44,11 @@ operation_provided : (b : Bool) → is_an_operation (provided b an_operation) �
 operation_provided true = refl
 operation_provided false = refl
 
-no_value : (b : Bool) → is_aValue (provided b an_operation) ≡ false
+no_value : (b : Bool) → is_a_value (provided b an_operation) ≡ false
 no_value true = refl
 no_value false = refl
 
-no_value_block : (b : Bool) → is_aValue (provided b a_block) ≡ false
+no_value_block : (b : Bool) → is_a_value (provided b a_block) ≡ false
 no_value_block true = refl
 no_value_block false = refl
 
@@ -64,7 +64,7 @@ passes : (b : Bool) (c : Class) → is_in_grammar c ≡ true → is_in_grammar (
 passes true c h = h
 passes false c h = refl
 
-value_passes : (b : Bool) → is_aValue (provided b a_value) ≡ b
+value_passes : (b : Bool) → is_a_value (provided b a_value) ≡ b
 value_passes true = refl
 value_passes false = refl
 
@@ -101,13 +101,13 @@ module _ (calls : List ℕ) where
   value_kind_lem (var n) = refl
   value_kind_lem (call k ts) = no_value (are_values pure ts)
   value_kind_lem (lam A b) = value_provided (is_in_grammar (class pure b))
-  value_kind_lem (app f a) = no_value (is_some (as_var f) && is_aValue (class pure a))
+  value_kind_lem (app f a) = no_value (is_some (as_var f) && is_a_value (class pure a))
   value_kind_lem (bind e b) = no_value_block (is_an_operation (class pure e) && needed pure e b && is_in_grammar (class pure b))
-  value_kind_lem (pair A a b) = value_provided (is_aValue (class pure a) && is_aValue (class pure b))
+  value_kind_lem (pair A a b) = value_provided (is_a_value (class pure a) && is_a_value (class pure b))
   value_kind_lem (fst a) = no_value (is_some (as_var a))
   value_kind_lem (snd a) = no_value (is_some (as_var a))
-  value_kind_lem (inl A a) = value_provided (is_aValue (class pure a))
-  value_kind_lem (inr A a) = value_provided (is_aValue (class pure a))
+  value_kind_lem (inl A a) = value_provided (is_a_value (class pure a))
+  value_kind_lem (inr A a) = value_provided (is_a_value (class pure a))
   value_kind_lem (case s l r) = no_value_block (is_some (as_var s) && is_in_grammar (class pure l) && is_in_grammar (class pure r))
   value_kind_lem (unit A) = refl
 
@@ -116,13 +116,13 @@ module _ (calls : List ℕ) where
   operation_kind_lem (var n) = refl
   operation_kind_lem (call k ts) = operation_provided (are_values pure ts)
   operation_kind_lem (lam A b) = no_operation (is_in_grammar (class pure b))
-  operation_kind_lem (app f a) = operation_provided (is_some (as_var f) && is_aValue (class pure a))
+  operation_kind_lem (app f a) = operation_provided (is_some (as_var f) && is_a_value (class pure a))
   operation_kind_lem (bind e b) = no_operation_block (is_an_operation (class pure e) && needed pure e b && is_in_grammar (class pure b))
-  operation_kind_lem (pair A a b) = no_operation (is_aValue (class pure a) && is_aValue (class pure b))
+  operation_kind_lem (pair A a b) = no_operation (is_a_value (class pure a) && is_a_value (class pure b))
   operation_kind_lem (fst a) = operation_provided (is_some (as_var a))
   operation_kind_lem (snd a) = operation_provided (is_some (as_var a))
-  operation_kind_lem (inl A a) = no_operation (is_aValue (class pure a))
-  operation_kind_lem (inr A a) = no_operation (is_aValue (class pure a))
+  operation_kind_lem (inl A a) = no_operation (is_a_value (class pure a))
+  operation_kind_lem (inr A a) = no_operation (is_a_value (class pure a))
   operation_kind_lem (case s l r) = no_operation_block (is_some (as_var s) && is_in_grammar (class pure l) && is_in_grammar (class pure r))
   operation_kind_lem (unit A) = refl
 
@@ -142,7 +142,7 @@ module _ (calls : List ℕ) where
   variable_part (case s l r) = refl
   variable_part (unit A) = refl
 
-  value_part : (t : Term) → is_aValue (class pure t) ≡ (suits Value (node t).kind && in_grammar pure t && true)
+  value_part : (t : Term) → is_a_value (class pure t) ≡ (suits Value (node t).kind && in_grammar pure t && true)
   unfolding is_normal_value suits
   value_part t = value_kind_lem t ∙ sym (and-true _)
 

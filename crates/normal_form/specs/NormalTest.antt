@@ -3,7 +3,7 @@ use Rattle.std.specs.Prelude.{◌≡◌, Bool, true, false, List, ℕ}
 use Rattle.syntax.specs.Term.{Term}
 use Rattle.syntax.specs.Encoding.{size}
 use Rattle.reduction.specs.MayDrop.{may_drop}
-use Rattle.reduction.specs.Grammar.{class, is_aValue, in_grammar}
+use Rattle.reduction.specs.Grammar.{class, is_a_value, in_grammar}
 use Rattle.words.specs.Fronts.{Holds}
 use Rattle.search.specs.Marks.{Marked}
 use Rattle.normal_form.specs.declared.normal.Part.{Part}
@@ -13,7 +13,7 @@ abbrev pub is_normal_form : List ℕ → Term → Bool
 is_normal_form calls t = in_grammar (may_drop calls) t
 
 unfoldable pub is_normal_value : List ℕ → Term → Bool
-is_normal_value calls t = is_aValue (class (may_drop calls) t)
+is_normal_value calls t = is_a_value (class (may_drop calls) t)
 
 -- a term that passed: it ends where the answer says, and its uses are marked
 pub record PassedPart (t : Term) (depth : ℕ) (old new : List ℕ) (r : Part) : Type 0 where

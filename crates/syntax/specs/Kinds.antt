@@ -12,9 +12,9 @@ uses_type k = eqb k 2 || eqb k 5 || eqb k 8 || eqb k 9 || eqb k 11
 
 -- how many parts a node of a kind has, a call's given
 abbrev pub parts_of_kind : ℕ → ℕ → ℕ
-parts_of_kind ofCall k =
+parts_of_kind of_call k =
     cond (leb k 0) 0
-    (cond (leb k 1) ofCall
+    (cond (leb k 1) of_call
     (cond (leb k 2) 1
     (cond (leb k 5) 2
     (cond (leb k 9) 1
