@@ -4,8 +4,12 @@
 -- Of any other rule, the redex that stands behind the gap says what to measure (`acts_rewrite`), and it ends inside the buffer
 -- (`read_inside`). If what it becomes is no longer than the redex and the gap together, the second buffer has room for it (`plan_fits`), and
 -- so has the stretch that ends where the redex does.
-use Rattle.std.proofs.Common.{◌+◌, ◌-◌, ◌≤◌, refl, arith, length}
+use Rattle.std.proofs.Common.{ℕ, ◌+◌, ◌-◌, ◌≤◌, List, refl, arith, length}
+use Rattle.reduction.specs.declared.Rule.{Rule}
+use Rattle.words.specs.Fronts.{from}
 use Rattle.words.proofs.Traversal.{from_length}
+use Rattle.contraction.specs.Plans.{Uncovers}
+use Rattle.step.specs.Rewrites.{Rewritable}
 use Rattle.step.proofs.InPlace.{redex_starts, read_inside, wrote_small, plan_fits, rewrites_full, rewrites_next}
 use Rattle.step.proofs.InPlace.{acts_rewrite, acts_lower, body_inside, body_starts, rewrites_lowered}
 use Rattle.step.proofs.rewrite.rewrite.Goals as goal
@@ -15,20 +19,21 @@ measure-action-requires c =
     (redex_starts c.requires.0, omega (arith, from_length c.args.current.now c.args.end, c.requires.0.limit), c.requires.1)
 
 -- a drop: the body stands behind the words that go
+body_in : {rule : Rule} {calls current second : List ℕ} {start end gone : ℕ} → Uncovers rule calls (from current end) gone
+    → Rewritable rule calls current start end second → (end + gone ≤ length current) × (length current ≤ 8192)
+body_in u w = (body_inside u w, w.limit)
+
 pub overflow_add-body : goal.overflow_add-body
-overflow_add-body c = omega (arith, body_inside (acts_lower c.measure-action.ensures c.in-Lower.is) c.requires.0, c.requires.0.limit)
+overflow_add-body c = omega (arith, body_in (acts_lower c.measure-action.ensures c.in-Lower.is) c.requires.0)
 
 pub offset_bounds-current-body : goal.offset_bounds-current-body
-offset_bounds-current-body c =
-    omega (arith, body_inside (acts_lower c.measure-action.ensures c.in-Lower.is) c.requires.0, c.requires.0.limit)
+offset_bounds-current-body c = omega (arith, body_in (acts_lower c.measure-action.ensures c.in-Lower.is) c.requires.0)
 
 pub slice_bounds-lower_part-count : goal.slice_bounds-lower_part-count
-slice_bounds-lower_part-count c =
-    omega (arith, body_inside (acts_lower c.measure-action.ensures c.in-Lower.is) c.requires.0, c.requires.0.limit)
+slice_bounds-lower_part-count c = omega (arith, body_in (acts_lower c.measure-action.ensures c.in-Lower.is) c.requires.0)
 
 pub slice_bounds-lower_part-start : goal.slice_bounds-lower_part-start
-slice_bounds-lower_part-start c =
-    omega (arith, body_inside (acts_lower c.measure-action.ensures c.in-Lower.is) c.requires.0, c.requires.0.limit)
+slice_bounds-lower_part-start c = omega (arith, body_in (acts_lower c.measure-action.ensures c.in-Lower.is) c.requires.0)
 
 pub lower_part-requires : goal.lower_part-requires
 lower_part-requires c =

@@ -1,14 +1,27 @@
 -- What is found is the definition's step; the budget is checked before the ceiling of the rule, and that before the next term's length.
 --
 -- Why it is right: a redex that the search finds is the first one (`first_redex_lem`), so its place is one of the term's and the gap can go
--- there (`GapAtRedex`). Where the ceiling decides, the budget is not spent, so 13 is answered only there. Where the redex is rewritten, its
+-- there (`at_redex`). Where the ceiling decides, the budget is not spent, so 13 is answered only there. Where the redex is rewritten, its
 -- ceiling is not met either, so 11 is answered only there; and where the next term is in the buffer the gap can go to where the search goes
 -- on (`next_seekable`).
-use Rattle.std.proofs.Common.{sym, ◌∙◌, arith, rules}
-use Rattle.step.proofs.TurnIsStep.{turned_stops, first_redex_lem, turned_spent}
+use Rattle.std.proofs.Common.{◌≡◌, ℕ, ◌+◌, List, length, sym, ◌∙◌, arith, rules}
+use Rattle.reduction.specs.declared.Rule.{Rule}
+use Rattle.reduction.specs.declared.Phase.{Phase}
+use Rattle.reduction.specs.declared.Found.{Found}
+use Rattle.reduction.specs.declared.Found.TheVariants.{Redex}
+use Rattle.words.specs.Fronts.{from}
+use Rattle.search.specs.Finds.{Finds}
+use Rattle.step.specs.Gaps.{Seeks}
+use Rattle.step.proofs.TurnIsStep.{GapAtRedex, turned_stops, first_redex_lem, turned_spent}
 use Rattle.step.proofs.TurnIsStep.{place_small, redex_seekable, turn_rewritable, turned_full, next_seekable, turned_goes}
 use Rattle.step.proofs.TurnIsStep.{rewrites_as}
 use Rattle.step.proofs.turn.take_turn.Goals as goal
+
+-- the gap is at the redex that the search found
+at_redex : {phase : Phase} {calls before : List ℕ} {start end : ℕ} {rule : Rule} {ahead : ℕ} {sought : List ℕ} {behind : ℕ} {r : Found}
+    → Finds phase calls (from before end) r → r ≡ Redex rule ahead → Seeks before start end (start + ahead) sought behind
+    → length sought ≡ length before → GapAtRedex phase calls before start end rule ahead sought behind
+at_redex f e s l = record { redex = first_redex_lem f e; seeks = s; same = l }
 
 pub returns-then-spent : goal.returns-then-spent
 returns-then-spent c = turned_spent (first_redex_lem c.find-found.ensures c.in-Redex.is) c.if-spent.true
@@ -22,7 +35,7 @@ seek-behind-requires c = redex_seekable (first_redex_lem c.find-found.ensures c.
 pub rewrite-rewritten-requires : goal.rewrite-rewritten-requires
 rewrite-rewritten-requires c = (
   turn_rewritable
-      (record { redex = first_redex_lem c.find-found.ensures c.in-Redex.is; seeks = c.seek-behind.ensures; same = c.seek-behind.auto.words })
+      (at_redex c.find-found.ensures c.in-Redex.is c.seek-behind.ensures c.seek-behind.auto.words)
       c.requires.ready.0 _ (search rules),
   c.requires.ready.1,
 )
@@ -30,7 +43,7 @@ rewrite-rewritten-requires c = (
 pub seek-rest-requires : goal.seek-rest-requires
 seek-rest-requires c =
     next_seekable
-    (record { redex = first_redex_lem c.find-found.ensures c.in-Redex.is; seeks = c.seek-behind.ensures; same = c.seek-behind.auto.words })
+    (at_redex c.find-found.ensures c.in-Redex.is c.seek-behind.ensures c.seek-behind.auto.words)
     (rewrites_as c.in-Next.is c.rewrite-rewritten.ensures) c.requires.ready.0 c.next_from-from.ensures
 
 pub returns-in-Nothing : goal.returns-in-Nothing
@@ -39,13 +52,13 @@ returns-in-Nothing c = turned_stops c.find-found.ensures c.in-Nothing.is
 pub returns-in-Full : goal.returns-in-Full
 returns-in-Full c =
     turned_full
-    (record { redex = first_redex_lem c.find-found.ensures c.in-Redex.is; seeks = c.seek-behind.ensures; same = c.seek-behind.auto.words })
+    (at_redex c.find-found.ensures c.in-Redex.is c.seek-behind.ensures c.seek-behind.auto.words)
     (omega (arith, c.if-spent.false)) (sym c.ceiling_met-met.ensures ∙ search)
     (rewrites_as c.in-Full.is c.rewrite-rewritten.ensures)
 
 pub returns-in-Next : goal.returns-in-Next
 returns-in-Next c =
     turned_goes
-    (record { redex = first_redex_lem c.find-found.ensures c.in-Redex.is; seeks = c.seek-behind.ensures; same = c.seek-behind.auto.words })
+    (at_redex c.find-found.ensures c.in-Redex.is c.seek-behind.ensures c.seek-behind.auto.words)
     (rewrites_as c.in-Next.is c.rewrite-rewritten.ensures) (omega (arith, c.if-spent.false))
     (sym c.ceiling_met-met.ensures ∙ search) c.next_from-from.ensures c.seek-rest.ensures
