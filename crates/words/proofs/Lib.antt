@@ -13,3 +13,4 @@ pub mod PastedWords
 pub mod Sized
 pub mod PartsAt
 pub mod Pastes
+pub mod KindTests

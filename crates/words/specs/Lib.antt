@@ -4,3 +4,4 @@ pub mod Fronts
 pub mod Joined
 pub mod Reach
 pub mod Depths
+pub mod KindCodes

@@ -5,6 +5,9 @@
 pub const PENDING: usize = 8194;
 
 pub mod fields; // fields.rt: the fields of type, call and term words
+pub mod kinds; // kinds.rt: the kinds of term words
+pub mod calls; // calls.rt: a call table with the answer to whether some call of it acts
+pub mod tables; // tables.rt: the tables that a term stands over
 pub mod shape; // shape.rt: what a kind decides, by one match; the number of parts of a node
 pub mod acting; // acting.rt: which calls of a table act
 pub mod ends; // ends.rt: where a part ends
