@@ -1,7 +1,7 @@
 -- A typed term is copied to the end of a scratch buffer and reduced there; what it comes to is the definition's.
-use Prim.Native.Nat.{zero, ℕ, suc, ◌+◌, ◌-◌, ◌≤◌}
+use Prim.Native.Nat.{zero, ℕ, suc, ◌+◌, ◌-◌}
 use native.Mathlib.Omega.{arith}
-use mathlib.Core.Path.{◌≡◌, refl, sym, ◌∙◌, ap, ap₂, subst}
+use mathlib.Core.Path.{◌≡◌, refl, ◌∙◌, ap, ap₂, subst}
 use mathlib.Core.List.{List, ◌++◌, append-nil}
 use lib.ListN.{length, take, drop}
 use lib.Seq.{paste, length-paste, take-length, drop-length}
@@ -17,7 +17,7 @@ use Rattle.outcomes.specs.Buffers.{overwrite}
 use Rattle.outcomes.specs.Normalize.{reduced_to}
 use Rattle.outcomes.specs.declared.Answer.{Answer}
 use Rattle.step.specs.Currents.{Gapped, Current}
-use Rattle.normalizer.specs.Reductions.{Reducible, Reports, refusal, ended, Reduces}
+use Rattle.normalizer.specs.Reductions.{Reports, refusal, ended, Reduces}
 use Rattle.normalizer.specs.Answers.{Fills, Settleable, Settles}
 use Rattle.normalizer.specs.declared.reduce.Reduced.{Reduced}
 use Rattle.step.proofs.GapMoved.{gapped_size}
@@ -44,15 +44,6 @@ module _ {calls words output first second : List ℕ} (x : Settleable calls word
     gapped = record { ordered = omega arith; inside = omega (arith, same_long, filled); words_are = at_end ∙ e };
   }
 
-  pub settle_reducible : (second' : List ℕ) → length second' ≡ length second → Reducible calls first' begin second'
-  settle_reducible second' l = record {
-    term = x.term;
-    typed = x.typed;
-    current = placed x.term x.shaped x.is;
-    at_most = omega (arith, same_long, x.at_most);
-    scratch = l ∙ x.scratch ∙ sym same_long;
-  }
-
   module _ {settings : Settings} {after : List ℕ} {r : Reduced} (y : Reduces calls first' begin settings after r) where
     reported : (t : Term) → Shaped calls t → words ≡ encode t
         → Reports after r (reduce (may_drop calls) (length first) settings t)
@@ -75,15 +66,6 @@ module _ {calls words output first second : List ℕ} (x : Settleable calls word
         go (reached left u counts) (ended re ce g) = absurd (z re)
 
     module _ (z : r.refusal ≡ 0) (l : length after ≡ length first') where
-      -- the last term is there, and has room in the output
-      pub last_inside : (r.begin ≤ length after) × (length after - r.begin ≤ length output)
-      last_inside = go _ (reported x.term x.shaped x.is)
-        where
-          go : (p : Progress) → Reports after r p → (r.begin ≤ length after) × (length after - r.begin ≤ length output)
-          go (stopped zero counts) r = elim r [ ]
-          go (stopped (suc n) counts) (refusal re ce) = absurd (omega (arith, z, re))
-          go (reached left u counts) (ended re ce g) = (g.inside, omega (arith, l, same_long, x.room))
-
       -- come through
       pub settled_ended : (A : ℕ) (output' : List ℕ) → output' ≡ paste output 0 (from after r.begin) (length after - r.begin)
           → Settles calls words A settings (length first) output

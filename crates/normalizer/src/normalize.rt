@@ -8,7 +8,6 @@ use crate::reduce::reduce;
 use checker::check::{NORMALIZE_LIMIT, check_within};
 use outcomes::Answer;
 use reduction::Settings;
-use words::lesser::lesser;
 use words::moves::{clear, copy};
 
 // a refusal, with the counts of the steps taken
@@ -16,10 +15,10 @@ fn refused(refusal: u32, counts: [u32; 10]) -> Answer
     ensures { result ≡ record { refusal = refusal; ty = 0; length = 0; counts = counts } }
 {
     Answer {
-        refusal: refusal,
+        refusal,
         ty: 0,
         length: 0,
-        counts: counts,
+        counts,
     }
 }
 
@@ -40,19 +39,18 @@ fn settle(
     let begin = first.len() - term.len();
     copy(term, 0, term.len(), first, begin);
     let reduced = reduce(calls, first, begin, settings, second);
-    let refusal = reduced.refusal;
     let counts = reduced.counts;
-    if refusal != 0 {
-        return refused(refusal, counts);
+    if reduced.refusal != 0 {
+        return refused(reduced.refusal, counts);
     }
     let last = reduced.begin;
     let length = first.len() - last;
     copy(&first[last..], 0, length, output, 0);
     Answer {
         refusal: 0,
-        ty: ty,
-        length: length,
-        counts: counts,
+        ty,
+        length,
+        counts,
     }
 }
 
@@ -71,16 +69,13 @@ fn run(
         term.now (record { output = output.old; scratch₁ = first.old; scratch₂ = second.old }) result
         output.new }
 {
-    let none: [u32; 10] = [0; 10];
     let checked = check_within(NORMALIZE_LIMIT, types, calls, inputs, term);
-    let refusal = checked.refusal;
-    if refusal != 0 {
-        return refused(refusal, none);
+    if checked.refusal != 0 {
+        return refused(checked.refusal, [0; 10]);
     }
-    let scratch = lesser(first.len() as u64, second.len() as u64);
-    let capacity = lesser(lesser(output.len() as u64, scratch), 8192) as usize;
+    let capacity = output.len().min(first.len()).min(second.len()).min(8192);
     if capacity < term.len() {
-        return refused(11, none);
+        return refused(11, [0; 10]);
     }
     settle(
         calls,

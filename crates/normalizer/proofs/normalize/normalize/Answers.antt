@@ -12,9 +12,7 @@ use Rattle.outcomes.specs.Contract.{Normalizes}
 use Rattle.outcomes.specs.declared.Answer.{Answer}
 use Rattle.theory.proofs.ContractHolds.{normalizes}
 use Rattle.normalizer.specs.Answers.{FillsNormalized}
-use borrow.Author.Rules.{rules}
-use Rattle.normalizer.proofs.normalize.normalize.Statement.{statement}
-use Rattle.normalizer.proofs.normalize.normalize.Tie as tie
+use Rattle.normalizer.proofs.normalize.normalize.Goals as goal
 
 zeros_cleared : {n : ℕ} (words : List ℕ) {zeros : List ℕ} → n ≡ length words → zeros ≡ replicate n 0 → zeros ≡ cleared words
 unfolding cleared
@@ -36,22 +34,7 @@ outcome settings tables words before a output first second r fe se =
         ∙ ap (λ (u : List ℕ). record { answer = b; buffers = record { output = p; scratch₁ = u; scratch₂ = s } }) z
         ∙ ap (λ (u : List ℕ). record { answer = b; buffers = record { output = p; scratch₁ = g; scratch₂ = u } }) w
 
-returns : tie.Need-returns
+pub returns : goal.returns
 returns c =
-    let run : tie.After-run-answer = search in
-    let first : tie.After-clear = search in
-    let second : tie.After-clear-2 = search in
-    outcome _ _ _ _ _ _ _ _ run.run-answer.ensures (zeros_cleared _ run.run-answer.auto.first first.clear.ensures)
-    (zeros_cleared _ run.run-answer.auto.second second.clear-2.ensures)
-
-pub normalize_spec : {M : Type 1} → statement M
-normalize_spec =
-    tie.close
-    (tie.spec
-    (λ c κs. search rules)
-    (λ c κs. search rules)
-    (λ c κs. search rules)
-    (λ c. search rules)
-    (λ c. search rules)
-    (λ c. search rules)
-    returns)
+    outcome _ _ _ _ _ _ _ _ c.run-answer.ensures (zeros_cleared _ c.run-answer.auto.first c.clear.ensures)
+    (zeros_cleared _ c.run-answer.auto.second c.clear-2.ensures)
