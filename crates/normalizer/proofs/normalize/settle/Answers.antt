@@ -3,11 +3,8 @@ use Rattle.std.proofs.Common.{refl}
 use Rattle.normalizer.proofs.TermReduced.{settled_stopped, settled_ended}
 use Rattle.normalizer.proofs.normalize.settle.Goals as goal
 
-pub returns-then-reduced-ne0 : goal.returns-then-reduced-ne0
-returns-then-reduced-ne0 c =
-    settled_stopped c.requires refl c.copy.ensures c.reduce-reduced.ensures _ _ c.if-reduced-ne0.true c.refused.ensures
+pub returns-in-Err : goal.returns-in-Err
+returns-in-Err c = settled_stopped c.requires refl c.copy.ensures c.reduce-begin.ensures c.in-Err.is c.refused.ensures
 
-pub returns : goal.returns
-returns c =
-    settled_ended c.requires refl c.copy.ensures c.reduce-reduced.ensures c.if-reduced-ne0.false c.reduce-reduced.auto.current _ _
-    c.copy-2.ensures
+pub returns-in-Ok : goal.returns-in-Ok
+returns-in-Ok c = settled_ended c.requires refl c.copy.ensures c.reduce-begin.ensures c.in-Ok.is c.copy-in-Ok.ensures
