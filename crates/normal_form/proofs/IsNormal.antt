@@ -1,10 +1,8 @@
 -- The answer of `is_normal` from that of the checks: a term that is accepted is typed, so the grammar says whether a rule fits.
-use Prim.Native.Nat.{ℕ, ◌≤◌}
-use native.Mathlib.Omega.{arith}
+use Prim.Native.Nat.{ℕ}
 use mathlib.Core.Path.{◌≡◌, sym, ◌∙◌, ap}
 use mathlib.Core.Bool.{Bool, false}
 use mathlib.Core.List.{List, []}
-use lib.ListN.{replicate, length-replicate}
 use Rattle.syntax.specs.Tables.{Tables}
 use Rattle.typing.specs.Refusals.{elaborate, other_limit}
 use Rattle.typing.proofs.Accepted.{Passed}
@@ -15,21 +13,7 @@ use Rattle.outcomes.specs.declared.Checked.{Checked}
 use Rattle.outcomes.specs.declared.Tested.{Tested}
 use Rattle.theory.proofs.GrammarNormal.{grammar_is_normal}
 use Rattle.checker.proofs.Verdicts.{Accepts, accepted_of, refused_of, accepted_holds}
-use Rattle.search.specs.Marks.{Space}
-use Rattle.normal_form.specs.NormalTest.{is_normal_form, TestsNormal, Decides}
-use Rattle.normal_form.specs.declared.normal.Part.{Part}
-
--- no binder is in scope yet: marks for as many as there can be words
-pub space_none : (l : ℕ) → l ≤ 8192 → Space 1 (replicate 8192 0) 0 l
-space_none l le = record {
-  deep = omega (arith, length-replicate {A = ℕ} 8192 0);
-  small = omega (arith, length-replicate {A = ℕ} 8192 0);
-  low = λ d h. absurd (omega arith);
-}
-
-pub decides : {calls words : List ℕ} {depth : ℕ} {old new : List ℕ} {r : Part} → TestsNormal is_normal_form calls words depth old new r
-    → Decides calls words r.ok
-decides a = record { told = λ t rest h. (a.told t rest h).ok_is }
+use Rattle.normal_form.specs.NormalTest.{Decides}
 
 module _ (tables : Tables) (words : List ℕ) (r : Checked) (e : r ≡ checked_of (elaborate other_limit tables words)) where
   -- refused by a check
