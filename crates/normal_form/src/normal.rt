@@ -30,10 +30,7 @@ enum Role {
 fn operation_kind(k: u64) -> bool
     ensures { result ≡ operation_kind k }
 {
-    match k {
-        1 | 3 | 6 | 7 => true,
-        _ => false,
-    }
+    matches!(k, 1 | 3 | 6 | 7)
 }
 
 // what the first part of a node has to be: a match, as only a call and a let differ from the rest
