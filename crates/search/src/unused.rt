@@ -43,7 +43,7 @@ fn least_mark(used: &[u64], start: usize, end: usize, first: u64) -> u64
 {
     used[start..end]
         .iter()
-        .fold(first, |least, mark| least.min(*mark))
+        .fold(first, |least, &mark| least.min(mark))
 }
 
 // goes through the part at the front, which begins at the place `base`. `owed` parts are ahead, and then `later` ones under one binder
@@ -109,7 +109,7 @@ fn scan_part(
 fn has_let(t: &[u64]) -> bool
     ensures { result ≡ has_let t.now }
 {
-    t.iter().any(|w| kind(*w) == 4)
+    t.iter().any(|&w| kind(w) == 4)
 }
 
 // the first let in the part at the front that can be dropped; uses are marked only where there is a let
