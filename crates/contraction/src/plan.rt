@@ -10,17 +10,16 @@ use search::fits::first_computation;
 use words::ends::parts_size;
 use words::shape::part_count;
 
-// Substitute(body, value, size): where they start, and how many words the value has. Copy(start): one part stays. MoveLet(second, third):
-// where the inner and the outer body start; the inner bound part starts at 2. MoveCase(right, third): where the right branch and the outer
-// body start; the subject is the word at 2, the left branch starts at 3. Insert(index, start, size): which part is bound, where it starts,
-// how many words it has.
+// how what a redex becomes is put together, from parts that stand at these indices: a body with a value, of `size` words, for its variable;
+// one part that stays; a let of a let, whose inner bound part starts at 2; a let of a case, whose subject is the word at 2 and whose left
+// branch starts at 3; or a node under a new let that binds its part of that index, of `size` words
 #[derive(Drop)]
 pub enum Plan {
-    Substitute(usize, usize, usize),
-    Copy(usize),
-    MoveLet(usize, usize),
-    MoveCase(usize, usize),
-    Insert(usize, usize, usize),
+    Substitute { body: usize, value: usize, size: usize },
+    Copy { start: usize },
+    MoveLet { second: usize, third: usize },
+    MoveCase { right: usize, third: usize },
+    Insert { index: usize, start: usize, size: usize },
 }
 
 // how what the redex becomes is written, the words read and the words written
@@ -48,7 +47,7 @@ fn apply(calls: &[u64], t: &[u64], pending: &mut [u64]) -> Measured
     let value = 2 + body.end;
     let size = size_from(calls, t, value);
     Measured {
-        plan: Plan::Substitute(2, value, size),
+        plan: Plan::Substitute { body: 2, value, size },
         read: value + size,
         wrote: substituted(body.end, body.uses, size),
     }
@@ -63,7 +62,7 @@ fn let_value(calls: &[u64], t: &[u64], pending: &mut [u64]) -> Measured
     let start = 1 + size;
     let body = body_with(calls, t, start, size, pending);
     Measured {
-        plan: Plan::Substitute(start, 1, size),
+        plan: Plan::Substitute { body: start, value: 1, size },
         read: start + body.end,
         wrote: body.wrote,
     }
@@ -88,7 +87,7 @@ fn left_case(calls: &[u64], t: &[u64], pending: &mut [u64]) -> Measured
     let right = left + body.end;
     let other = size_from(calls, t, right);
     Measured {
-        plan: Plan::Substitute(left, 2, size),
+        plan: Plan::Substitute { body: left, value: 2, size },
         read: right + other,
         wrote: body.wrote,
     }
@@ -104,7 +103,7 @@ fn right_case(calls: &[u64], t: &[u64], pending: &mut [u64]) -> Measured
     let right = left + parts.second;
     let body = body_with(calls, t, right, parts.first, pending);
     Measured {
-        plan: Plan::Substitute(right, 2, parts.first),
+        plan: Plan::Substitute { body: right, value: 2, size: parts.first },
         read: right + body.end,
         wrote: body.wrote,
     }
@@ -117,7 +116,7 @@ fn first(calls: &[u64], t: &[u64]) -> Measured
 {
     let halves = two_sizes(calls, t, 2);
     Measured {
-        plan: Plan::Copy(2),
+        plan: Plan::Copy { start: 2 },
         read: 2 + halves.first + halves.second,
         wrote: halves.first,
     }
@@ -131,7 +130,7 @@ fn second(calls: &[u64], t: &[u64]) -> Measured
     let halves = two_sizes(calls, t, 2);
     let start = 2 + halves.first;
     Measured {
-        plan: Plan::Copy(start),
+        plan: Plan::Copy { start },
         read: start + halves.second,
         wrote: halves.second,
     }
@@ -147,7 +146,7 @@ fn let_of_let(calls: &[u64], t: &[u64]) -> Measured
     let third = second + parts.second;
     let end = third + size_from(calls, t, third);
     Measured {
-        plan: Plan::MoveLet(second, third),
+        plan: Plan::MoveLet { second, third },
         read: end,
         wrote: end,
     }
@@ -164,7 +163,7 @@ fn let_of_case(calls: &[u64], t: &[u64]) -> Measured
     let body = size_from(calls, t, third);
     let end = third + body;
     Measured {
-        plan: Plan::MoveCase(right, third),
+        plan: Plan::MoveCase { right, third },
         read: end,
         wrote: end + 1 + body,
     }
@@ -182,13 +181,14 @@ fn let_insertion(calls: &[u64], t: &[u64]) -> Measured
     let n = part_count(calls, t[0]);
     let end = behind + parts_size(calls, &t[behind..], n - 1 - operand.index);
     Measured {
-        plan: Plan::Insert(operand.index, start, size),
+        plan: Plan::Insert { index: operand.index, start, size },
         read: end,
         wrote: end + 2,
     }
 }
 
 // a redex of a rule: what is done with it
+#[tactic(auto, using(crate::specs::Plans::is_rewritten, crate::specs::Plans::is_lowered))]
 pub fn measure(rule: Rule, calls: &[u64], t: &[u64], pending: &mut [u64]) -> Action
     requires { StartsRedex rule calls.now t.now × (length t.now ≤ 8192) × (8194 ≤ length pending.old) }
     ensures { Acts rule calls.now t.now result }
