@@ -31,7 +31,10 @@ fn insert_part(
 {
     if here {
         dst[at] = 0;
-        Moved { read: size, wrote: 1 }
+        Moved {
+            read: size,
+            wrote: 1,
+        }
     } else {
         let n = rename_into(calls, t, dst, at, cut, 1, pending);
         Moved { read: n, wrote: n }
@@ -59,7 +62,16 @@ pub fn insert_node(
     let mut wrote: usize = 1;
     for j in 0..n {
         let cut = binders(k, j);
-        let part = insert_part(calls, &t[read..], j == index, size, dst, at + wrote, cut, pending);
+        let part = insert_part(
+            calls,
+            &t[read..],
+            j == index,
+            size,
+            dst,
+            at + wrote,
+            cut,
+            pending,
+        );
         read += part.read;
         wrote += part.wrote;
     }

@@ -6,20 +6,39 @@ ghost use Rattle.contraction.specs.Plans.{StartsRedex, Measures, Uncovers, Acts}
 
 use crate::sizes::{body_with, size_from, substituted, two_sizes, uses_from};
 use reduction::Rule;
-use search::fits::first_computation;
+use search::fits::{Operand, first_computation};
 use words::ends::parts_size;
 use words::shape::part_count;
 
-// how what a redex becomes is put together, from parts that stand at these indices: a body with a value, of `size` words, for its variable;
-// one part that stays; a let of a let, whose inner bound part starts at 2; a let of a case, whose subject is the word at 2 and whose left
-// branch starts at 3; or a node under a new let that binds its part of that index, of `size` words
+// how what a redex becomes is put together, from parts that start at these indices
 #[derive(Drop)]
 pub enum Plan {
-    Substitute { body: usize, value: usize, size: usize },
-    Copy { start: usize },
-    MoveLet { second: usize, third: usize },
-    MoveCase { right: usize, third: usize },
-    Insert { index: usize, start: usize, size: usize },
+    // the body with the value, which has `size` words, for its variable
+    Substitute {
+        body: usize,
+        value: usize,
+        size: usize,
+    },
+    // one part as it is
+    Copy {
+        start: usize,
+    },
+    // of a let of a let, the inner and the outer body; the inner bound part starts at 2
+    MoveLet {
+        second: usize,
+        third: usize,
+    },
+    // of a let of a case, the right branch and the outer body; the subject is the word at 2, and the left branch starts at 3
+    MoveCase {
+        right: usize,
+        third: usize,
+    },
+    // the node, under a let that binds its part of that index, which has `size` words
+    Insert {
+        index: usize,
+        start: usize,
+        size: usize,
+    },
 }
 
 // how what the redex becomes is written, the words read and the words written
@@ -47,7 +66,11 @@ fn apply(calls: &[u64], t: &[u64], pending: &mut [u64]) -> Measured
     let value = 2 + body.end;
     let size = size_from(calls, t, value);
     Measured {
-        plan: Plan::Substitute { body: 2, value, size },
+        plan: Plan::Substitute {
+            body: 2,
+            value,
+            size,
+        },
         read: value + size,
         wrote: substituted(body.end, body.uses, size),
     }
@@ -62,7 +85,11 @@ fn let_value(calls: &[u64], t: &[u64], pending: &mut [u64]) -> Measured
     let start = 1 + size;
     let body = body_with(calls, t, start, size, pending);
     Measured {
-        plan: Plan::Substitute { body: start, value: 1, size },
+        plan: Plan::Substitute {
+            body: start,
+            value: 1,
+            size,
+        },
         read: start + body.end,
         wrote: body.wrote,
     }
@@ -87,7 +114,11 @@ fn left_case(calls: &[u64], t: &[u64], pending: &mut [u64]) -> Measured
     let right = left + body.end;
     let other = size_from(calls, t, right);
     Measured {
-        plan: Plan::Substitute { body: left, value: 2, size },
+        plan: Plan::Substitute {
+            body: left,
+            value: 2,
+            size,
+        },
         read: right + other,
         wrote: body.wrote,
     }
@@ -103,7 +134,11 @@ fn right_case(calls: &[u64], t: &[u64], pending: &mut [u64]) -> Measured
     let right = left + parts.second;
     let body = body_with(calls, t, right, parts.first, pending);
     Measured {
-        plan: Plan::Substitute { body: right, value: 2, size: parts.first },
+        plan: Plan::Substitute {
+            body: right,
+            value: 2,
+            size: parts.first,
+        },
         read: right + body.end,
         wrote: body.wrote,
     }
@@ -174,14 +209,13 @@ fn let_insertion(calls: &[u64], t: &[u64]) -> Measured
     requires { StartsRedex LetInsertion calls.now t.now × (length t.now ≤ 8192) }
     ensures { Measures LetInsertion calls.now t.now result }
 {
-    let operand = first_computation(calls, t);
-    let start = operand.start;
+    let Operand { index, start } = first_computation(calls, t).unwrap();
     let size = size_from(calls, t, start);
     let behind = start + size;
     let n = part_count(calls, t[0]);
-    let end = behind + parts_size(calls, &t[behind..], n - 1 - operand.index);
+    let end = behind + parts_size(calls, &t[behind..], n - 1 - index);
     Measured {
-        plan: Plan::Insert { index: operand.index, start, size },
+        plan: Plan::Insert { index, start, size },
         read: end,
         wrote: end + 2,
     }

@@ -68,6 +68,9 @@ pub fn body_with(calls: &[u64], t: &[u64], at: usize, size: usize, pending: &mut
         Body { end, wrote: end }
     } else {
         let Uses { end, uses } = uses_from(calls, t, at, pending);
-        Body { end, wrote: substituted(end, uses, size) }
+        Body {
+            end,
+            wrote: substituted(end, uses, size),
+        }
     }
 }

@@ -9,8 +9,10 @@ use binding::rename::rename_into;
 use binding::substitute::substitute_into;
 use words::moves::copy;
 
-// the word of a let, and of a case
+// the word of a let, which has a kind and no other field
 const LET: u64 = 4 << 60;
+
+// the word of a case
 const CASE: u64 = 10 << 60;
 
 // a let that binds the part from `start` to `end`, over the body of another let that moves under it; answers its size
@@ -35,6 +37,7 @@ fn let_over(
     1 + size + moved
 }
 
+// a body with a value for its variable
 fn substitute(
     calls: &[u64],
     t: &[u64],
@@ -128,6 +131,8 @@ pub fn write(
         Plan::Copy { start } => copy(t, start, wrote, dst, 0),
         Plan::MoveLet { second, third } => move_let(calls, t, second, third, dst, pending),
         Plan::MoveCase { right, third } => move_case(calls, t, right, third, dst, pending),
-        Plan::Insert { index, start, size } => insert_let(calls, t, index, start, size, dst, pending),
+        Plan::Insert { index, start, size } => insert_let(
+            calls, t, index, start, size, dst, pending,
+        ),
     }
 }

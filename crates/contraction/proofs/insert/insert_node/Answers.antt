@@ -27,7 +27,7 @@ pub slice_bounds-insert_part-start : goal.slice_bounds-insert_part-start
 slice_bounds-insert_part-start c = c.loop-j.invariant.going.high
 
 pub overflow_add-at : goal.overflow_add-at
-overflow_add-at c = 
+overflow_add-at c =
     omega (
       arith,
       length-set {A = ℕ},
