@@ -6,10 +6,8 @@ use Rattle.syntax.specs.Tables.{Tables, over}
 use Rattle.syntax.specs.Term.{Term, var, lam, bind, pair, fst, snd, inr, case}
 use Rattle.syntax.specs.Encoding.{encode}
 use Rattle.reduction.specs.Reduction.{Counts, zero_counts}
-use Rattle.outcomes.specs.Check.{check_outcome}
-use Rattle.outcomes.specs.IsNormal.{is_normal_outcome}
-use Rattle.outcomes.specs.declared.Checked.{Checked}
-use Rattle.outcomes.specs.declared.Tested.{Tested}
+use Rattle.outcomes.specs.Check.{Checked, check_outcome}
+use Rattle.outcomes.specs.IsNormal.{Tested, is_normal_outcome}
 use Rattle.outcomes.specs.ReadBundle.{Reading, unreadable}
 use Rattle.outcomes.specs.Text.{ascii}
 use Rattle.cases.specs.Table.{Case, nines, tables_with, c, d, v0, v1, A, A', accepts_over, accepts, refuses}

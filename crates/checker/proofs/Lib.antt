@@ -14,7 +14,6 @@ pub mod TypeSoFar
 pub mod PartBegins
 pub mod PartHasType
 pub mod InferTurns
-pub mod PlaceByPlace
 pub mod DecodedTerm
 pub mod TermPlaces
 pub mod Verdicts

@@ -1,6 +1,6 @@
--- The places of the term: words that pass place 6 and are one part stand for a term; the answers for scope and type are those of 8 and 9.
+-- What passed the places 1, 6 and 7 tells: the lengths are within their limits, and the words are those of a term.
 use mathlib.Core.Path.{◌≡◌, refl, sym, ◌∙◌, ap, subst}
-use mathlib.Core.Bool.{Bool, true, false, not}
+use mathlib.Core.Bool.{Bool, true, false}
 use mathlib.Core.List.{List, []}
 use mathlib.Core.Option.{Option, some, none}
 use Prim.Native.Nat.{ℕ}
@@ -14,15 +14,16 @@ use Rattle.syntax.specs.Parts.{part_end}
 use Rattle.syntax.proofs.Forests.{even_term}
 use Rattle.syntax.proofs.ForestParts.{term_even}
 use Rattle.words.specs.Fronts.{Holds, Starts}
-use Rattle.typing.specs.Infer.{infer}
-use Rattle.typing.specs.TermChecks.{well_formed_words, scoped}
-use Rattle.checker.specs.Places.{Types}
-use Rattle.checker.specs.Answers.{whole_of, Scopes, Infers}
-use Rattle.checker.specs.declared.node_type.Inferred.{Inferred}
-use Rattle.checker.specs.declared.node_type.Inferred.TheVariants.{Typed, Untyped}
+use Rattle.typing.specs.TableChecks.{lengths_fit}
+use Rattle.typing.specs.TermChecks.{well_formed_words}
+use Rattle.typing.proofs.LengthsFit.{Lengths, lengths_of_lem}
+use Rattle.checker.specs.Answers.{whole_of}
 use Rattle.checker.proofs.DecodedTerm.{holds_decoded}
-use Rattle.checker.proofs.Every.{told_true, told_false}
-use Rattle.checker.proofs.InferredTypes.{untyped_if, typed_if}
+
+-- place 1 passed
+pub lengths_told : {limit : ℕ} {tables : Tables} {words : List ℕ} {b : Bool} → b ≡ lengths_fit limit tables words → b ≡ true
+    → Lengths limit tables words
+lengths_told e p = lengths_of_lem _ _ _ (subst T (sym p ∙ e) tt)
 
 -- place 7 passed: the term that the words stand for
 pub record Decoded (tables : Tables) (words : List ℕ) : Type 0 where
@@ -34,12 +35,12 @@ pub starts : {tables : Tables} {words : List ℕ} → Decoded tables words → S
 starts d = record { term = d.term; rest = []; holds = d.holds }
 
 -- words that pass place 6 stand for a term if they are one part, and else for none
-module _ (tables : Tables) (words : List ℕ) (formed : T (well_formed_words tables words)) where
+module _ (tables : Tables) (words : List ℕ) (formed : well_formed_words tables words ≡ true) where
   abbrev whole : Bool
   whole = whole_of (part_end tables.calls words) (length words)
 
   decoded : (t : Term) → decode tables.calls words ≡ some t → Decoded tables words
-  decoded t d = record { term = t; is = d; holds = holds_decoded tables words formed t d }
+  decoded t d = record { term = t; is = d; holds = holds_decoded tables words (subst T (sym formed) tt) t d }
 
   exact : (o : Option ℕ) → whole_of o (length words) ≡ true → o ≡ some (length words)
   exact none p = absurd (subst T (sym p) tt)
@@ -61,20 +62,3 @@ module _ (tables : Tables) (words : List ℕ) (formed : T (well_formed_words tab
           let w : whole ≡ true = ap (λ (o : Option ℕ). whole_of o (length words)) (term_even tables.calls words t d)
           ∙ eq-eqb (length words) (length words) refl in
           absurd (subst T (sym w ∙ f) tt)
-
--- the places 8 and 9, from the answers b and r of the code
-module _ (tables : Tables) (words : List ℕ) (b : Bool) (s : Scopes tables.calls (length tables.inputs) words b) where
-  pub out_of_scope : not b ≡ true → Types tables words (record { refusal = 8; ty = 0 })
-  unfolding scoped
-  out_of_scope f t rest h = simp (told_false (s t rest h) f)
-
-  module _ (f : not b ≡ false) (r : Inferred) (a : Infers tables tables.inputs words r) where
-    pub has_no_type : r ≡ Untyped → Types tables words (record { refusal = 9; ty = 0 })
-    unfolding scoped
-    has_no_type z t rest h =
-        simp (told_true (s t rest h) f, untyped_if (infer tables t tables.inputs) r (a t rest h) z)
-
-    pub has_type : (A : ℕ) → r ≡ Typed A → Types tables words (record { refusal = 0; ty = A })
-    unfolding scoped
-    has_type A z t rest h =
-        simp (told_true (s t rest h) f, typed_if (infer tables t tables.inputs) A r (a t rest h) z)

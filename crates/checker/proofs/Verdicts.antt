@@ -1,55 +1,54 @@
--- The answer of the checks tells their verdict: refusal 0 is an accepted term of the answered type, any other number a refusal by it.
--- For no refusal has the number 0.
+-- What an answer of `check_within` tells: after a type the term was accepted with it, and after a refusal it was refused with its number.
 use mathlib.Core.Path.{◌≡◌, refl, sym, ap}
 use mathlib.Core.List.{List, []}
 use lib.ListN.{length}
 use Prim.Native.Nat.{ℕ, ◌≤◌}
 use native.Mathlib.Omega.{arith}
+use Rattle.std.specs.Prelude.{Ok, Err}
 use Rattle.syntax.specs.Tables.{Tables}
 use Rattle.words.specs.Fronts.{Holds, Starts}
 use Rattle.typing.specs.Refusals.{Verdict, refused, accepted, TypedTerm, elaborate}
 use Rattle.typing.proofs.LengthsFit.{lengths_of_lem}
 use Rattle.typing.proofs.Accepted.{Verdicts, refusal, passed, Passed, elaborated}
-use Rattle.outcomes.specs.Check.{checked_of}
-use Rattle.outcomes.specs.declared.Checked.{Checked}
+use Rattle.outcomes.specs.declared.Refusal.{Refusal}
+use Rattle.outcomes.specs.Refusal.{number_of}
+use Rattle.outcomes.specs.Check.{Checked, checked_of, check_answer}
+use Rattle.outcomes.proofs.Numbers.{number_within}
 use Rattle.checker.proofs.DecodedTerm.{holds_decoded}
 
--- a verdict accepts what passed, of a type
-pub record Accepts (P : TypedTerm → Type 0) (v : Verdict TypedTerm) (A : ℕ) : Type 0 where
+-- the words are those of a term of type A, which has passed the checks
+pub record Accepts (limit : ℕ) (tables : Tables) (words : List ℕ) (A : ℕ) : Type 0 where
   pub typed : TypedTerm
-  pub is : v ≡ accepted typed
+  pub is : elaborate limit tables words ≡ accepted typed
   pub type : typed.type ≡ A
-  pub passed : P typed
+  pub passed : Passed limit tables words typed
+  pub holds : Holds tables.calls words typed.term []
+  pub short : length words ≤ limit
 
-accepts : {P : TypedTerm → Type 0} (v : Verdict TypedTerm) (r : Checked) → Verdicts P v → r ≡ checked_of v → r.refusal ≡ 0
-    → Accepts P v r.ty
-accepts v r (refusal n) e z = absurd (omega (arith, ap (λ (x : Checked). x.refusal) e))
-accepts v r (passed {x = x} p) e z = record { typed = x; is = refl; type = sym (ap (λ (y : Checked). y.ty) e); passed = p }
+module _ (limit : ℕ) (tables : Tables) (words : List ℕ) where
+  pub accepted_of : {A : ℕ} → check_answer (Ok A) ≡ checked_of (elaborate limit tables words) → Accepts limit tables words A
+  accepted_of {A} e = at (elaborate limit tables words) (elaborated limit tables words) refl e
+    where
+      at : (v : Verdict TypedTerm) → Verdicts (Passed limit tables words) v → elaborate limit tables words ≡ v
+          → check_answer (Ok A) ≡ checked_of v → Accepts limit tables words A
+      at v (refusal n) is e = absurd (omega (arith, ap (λ (x : Checked). x.refusal) e))
+      at v (passed {x = x} p) is e = record {
+        typed = x;
+        is = is;
+        type = sym (ap (λ (c : Checked). c.ty) e);
+        passed = p;
+        holds = holds_decoded tables words p.words' x.term p.term;
+        short = (lengths_of_lem limit tables words p.lengths).words';
+      }
 
-refuses : {P : TypedTerm → Type 0} (v : Verdict TypedTerm) (r : Checked) → Verdicts P v → r ≡ checked_of v → (r.refusal ≡ 0 → ⊥)
-    → v ≡ refused r.refusal
-refuses v r (refusal n) e z = ap (λ (x : Checked). refused x.refusal) (sym e)
-refuses v r (passed p) e z = absurd (z (ap (λ (x : Checked). x.refusal) e))
+  pub refused_of : (r : Refusal) → check_answer (Err r) ≡ checked_of (elaborate limit tables words)
+      → elaborate limit tables words ≡ refused (number_of r)
+  refused_of r e = at (elaborate limit tables words) e
+    where
+      at : (v : Verdict TypedTerm) → check_answer (Err r) ≡ checked_of v → v ≡ refused (number_of r)
+      at (refused n) e = ap (λ (c : Checked). refused c.refusal) (sym e)
+      at (accepted x) e = absurd (omega (arith, ap (λ (c : Checked). c.refusal) e, number_within r))
 
-module _ (limit : ℕ) (tables : Tables) (words : List ℕ) (r : Checked) (e : r ≡ checked_of (elaborate limit tables words)) where
-  pub accepted_of : r.refusal ≡ 0 → Accepts (Passed limit tables words) (elaborate limit tables words) r.ty
-  accepted_of z = accepts (elaborate limit tables words) r (elaborated limit tables words) e z
-
-  pub refused_of : (r.refusal ≡ 0 → ⊥) → elaborate limit tables words ≡ refused r.refusal
-  refused_of z = refuses (elaborate limit tables words) r (elaborated limit tables words) e z
-
--- the words of what passed begin with its term, and end there
-pub accepted_holds : (limit : ℕ) (tables : Tables) (words : List ℕ) (x : TypedTerm) → Passed limit tables words x
-    → Holds tables.calls words x.term []
-accepted_holds limit tables words x p = holds_decoded tables words p.words' x.term p.term
-
--- what a call may ask of words that the checks accepted: they begin with a term, and there are no more than the limit
-module _ (limit : ℕ) (tables : Tables) (words : List ℕ) (r : Checked) (e : r ≡ checked_of (elaborate limit tables words))
-    (z : r.refusal ≡ 0) where
-  pub accepted_starts : Starts tables.calls words
-  accepted_starts =
-      let a = accepted_of limit tables words r e z in
-      record { term = a.typed.term; rest = []; holds = accepted_holds limit tables words a.typed a.passed }
-
-  pub accepted_short : length words ≤ limit
-  accepted_short = (lengths_of_lem limit tables words (accepted_of limit tables words r e z).passed.lengths).words'
+-- what a call may ask of words that the checks accepted: they begin with a term
+pub accepted_starts : {limit : ℕ} {tables : Tables} {words : List ℕ} {A : ℕ} → Accepts limit tables words A → Starts tables.calls words
+accepted_starts a = record { term = a.typed.term; rest = []; holds = a.holds }

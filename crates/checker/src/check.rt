@@ -3,15 +3,15 @@ ghost use Rattle.std.specs.Prelude.{◌≡◌, ◌+◌, ◌≤◌, length};
 ghost use Rattle.syntax.specs.Tables.{over};
 ghost use Rattle.words.specs.Fronts.{Starts};
 ghost use Rattle.typing.specs.Refusals.{elaborate, other_limit};
-ghost use Rattle.outcomes.specs.Check.{checked_of, check_outcome};
+ghost use Rattle.outcomes.specs.Check.{checked_of, check_answer, check_outcome};
 ghost use Rattle.checker.specs.Places.{Types};
 
 use crate::infer::infer;
 use crate::node_type::Inferred;
 use crate::scope::scoped;
-use crate::tables::{lengths_fit, table_refusal};
+use crate::tables::{check_tables, lengths_fit};
 use crate::term_words::{is_whole, words_fit};
-use outcomes::Checked;
+use outcomes::Refusal;
 use words::PENDING;
 
 // the most term words that a call that normalizes takes
@@ -24,6 +24,7 @@ pub const OTHER_LIMIT: usize = 8192;
 pub const SHORT: usize = 512;
 
 // places 8 and 9 of the term that the words begin with, and its type
+#[tactic(auto, unfolding(typing::specs::TermChecks::scoped))]
 fn typed_in(
     types: &[u64],
     calls: &[u64],
@@ -31,27 +32,26 @@ fn typed_in(
     term: &[u64],
     stack: &mut [u64],
     nodes: &mut [u64],
-) -> Checked
+) -> Result<u64, Refusal>
     requires starts { Starts calls.now term.now }
     requires lengths { (length inputs.now ≤ 256) × (length term.now ≤ other_limit) }
     requires room { (length term.now + 2 ≤ length stack.old) × (length term.now + 2 ≤ length nodes.old) }
-    ensures { Types (over types.now calls.now inputs.now) term.now result }
+    ensures { Types (over types.now calls.now inputs.now) term.now (check_answer result) }
 {
     if !scoped(calls, inputs.len(), term, stack) {
-        return Checked { refusal: 8, ty: 0 };
+        return Err(Refusal::Scope);
     }
-    let r = infer(types, calls, inputs, stack, nodes, term);
-    match r {
-        Inferred::Typed(a) => Checked { refusal: 0, ty: a },
-        Inferred::Untyped => Checked { refusal: 9, ty: 0 },
+    match infer(types, calls, inputs, stack, nodes, term) {
+        Inferred::Typed(a) => Ok(a),
+        Inferred::Untyped => Err(Refusal::Type),
     }
 }
 
 // the same in buffers of its own. A short term has short buffers: to clear those of the longest term takes longer than to check it.
-fn typed(types: &[u64], calls: &[u64], inputs: &[u64], term: &[u64]) -> Checked
+fn typed(types: &[u64], calls: &[u64], inputs: &[u64], term: &[u64]) -> Result<u64, Refusal>
     requires starts { Starts calls.now term.now }
     requires lengths { (length inputs.now ≤ 256) × (length term.now ≤ other_limit) }
-    ensures { Types (over types.now calls.now inputs.now) term.now result }
+    ensures { Types (over types.now calls.now inputs.now) term.now (check_answer result) }
 {
     if term.len() + 2 <= SHORT {
         let mut stack: [u64; SHORT] = [0; SHORT];
@@ -64,38 +64,34 @@ fn typed(types: &[u64], calls: &[u64], inputs: &[u64], term: &[u64]) -> Checked
 }
 
 // the type check of a term of up to so many words: place by place
+#[tactic(auto, unfolding(typing::specs::Refusals::elaborate, typing::specs::TermChecks::well_formed_words))]
 pub fn check_within(
     limit: usize,
     types: &[u64],
     calls: &[u64],
     inputs: &[u64],
     term: &[u64],
-) -> Checked
+) -> Result<u64, Refusal>
     requires { limit ≤ other_limit }
-    ensures { result ≡ checked_of (elaborate limit (over types.now calls.now inputs.now) term.now) }
+    ensures { check_answer result ≡ checked_of (elaborate limit (over types.now calls.now inputs.now) term.now) }
 {
     if !lengths_fit(limit, types, calls, inputs, term) {
-        return Checked { refusal: 1, ty: 0 };
+        return Err(Refusal::Lengths);
     }
-    let refusal = table_refusal(types, calls, inputs);
-    if refusal != 0 {
-        return Checked {
-            refusal: refusal,
-            ty: 0,
-        };
-    }
+    check_tables(types, calls, inputs)?;
     if !words_fit(types, calls, term) {
-        return Checked { refusal: 6, ty: 0 };
+        return Err(Refusal::TermWord);
     }
     if !is_whole(calls, term) {
-        return Checked { refusal: 7, ty: 0 };
+        return Err(Refusal::Parts);
     }
     typed(types, calls, inputs, term)
 }
 
 // the type check
-pub fn check(types: &[u64], calls: &[u64], inputs: &[u64], term: &[u64]) -> Checked
-    ensures { result ≡ check_outcome (over types.now calls.now inputs.now) term.now }
+#[tactic(auto, unfolding(outcomes::specs::Check::check_outcome))]
+pub fn check(types: &[u64], calls: &[u64], inputs: &[u64], term: &[u64]) -> Result<u64, Refusal>
+    ensures { check_answer result ≡ check_outcome (over types.now calls.now inputs.now) term.now }
 {
     check_within(OTHER_LIMIT, types, calls, inputs, term)
 }

@@ -5,9 +5,10 @@ ghost use Rattle.typing.specs.TableChecks.{every, lengths_fit, well_formed_type,
 ghost use Rattle.typing.specs.TableChecks.{well_formed_calls, well_formed_inputs};
 ghost use Rattle.typing.specs.TermChecks.{field_fits};
 ghost use Rattle.typing.specs.Refusals.{tables_place};
-ghost use Rattle.checker.specs.Places.{refusal_number};
+ghost use Rattle.checker.specs.Places.{refusal_in, refusal_number};
 ghost use Rattle.checker.specs.Residues.{residue_of, Noted};
 
+use outcomes::Refusal;
 use words::fields::{argument, arguments, kind, number, result, ty};
 
 // 1: the lengths of the tables and of the term
@@ -176,21 +177,22 @@ fn inputs_fit(types: &[u64], inputs: &[u64]) -> bool
     true
 }
 
-// 2 to 5: the number of the first test that fails, 0 if none does
-pub fn table_refusal(types: &[u64], calls: &[u64], inputs: &[u64]) -> u32
-    ensures { result ≡ refusal_number (tables_place (over types.now calls.now inputs.now)) }
+// 2 to 5: the first test that fails decides
+#[tactic(auto, unfolding(typing::specs::TableChecks::well_formed_calls, typing::specs::TableChecks::well_formed_inputs))]
+pub fn check_tables(types: &[u64], calls: &[u64], inputs: &[u64]) -> Result<(), Refusal>
+    ensures { refusal_in result ≡ refusal_number (tables_place (over types.now calls.now inputs.now)) }
 {
     if !types_fit(types) {
-        return 2;
+        return Err(Refusal::TypeWord);
     }
     if !distinct(types) {
-        return 3;
+        return Err(Refusal::RepeatedType);
     }
     if !calls_fit(types, calls) {
-        return 4;
+        return Err(Refusal::CallWord);
     }
     if !inputs_fit(types, inputs) {
-        return 5;
+        return Err(Refusal::InputType);
     }
-    0
+    Ok(())
 }

@@ -6,7 +6,7 @@ ghost use Rattle.typing.specs.TermChecks.{well_formed_word, well_formed_words};
 ghost use Rattle.checker.specs.Answers.{whole_of};
 
 use crate::tables::field_fits;
-use words::ends::{End, part_end};
+use words::ends::part_end;
 use words::fields::{kind, number, ty};
 use words::shape::shape_of;
 
@@ -49,9 +49,5 @@ pub fn is_whole(calls: &[u64], term: &[u64]) -> bool
     requires { length term.now ≤ 8192 }
     ensures { result ≡ whole_of (part_end calls.now term.now) (length term.now) }
 {
-    let e = part_end(calls, term);
-    match e {
-        End::At(n) => n == term.len(),
-        End::Nowhere => false,
-    }
+    part_end(calls, term) == Some(term.len())
 }

@@ -1,3 +1,4 @@
+pub mod Refusal
 pub mod Buffers
 pub mod Text
 pub mod Check

@@ -1,7 +1,10 @@
 -- Bundles (words most significant byte first, a header of four lengths, then the tables), and the outcome of the public call `read_bundle`.
 use Rattle.std.specs.Prelude.{ℕ, zero, suc, ◌+◌, ◌*◌, ◌/◌, ◌%◌, ◌^◌, Bool, true, false, ◌&&◌, List, [], ◌∷◌, leb, eqb, length, take, drop}
+use Rattle.std.specs.Prelude.{Result, Ok, Err}
 use Rattle.outcomes.specs.Buffers.{overwrite}
 use Rattle.outcomes.specs.declared.Lengths.{Lengths}
+use Rattle.outcomes.specs.declared.Refusal.{Refusal}
+use Rattle.outcomes.specs.Refusal.{number_of}
 
 -- a number from its bytes, the most significant first, after the bytes read before
 unfoldable pub from_bytes : ℕ → List ℕ → ℕ
@@ -13,8 +16,21 @@ unfoldable pub words_of : ℕ → List ℕ → List ℕ
 words_of zero bytes = []
 words_of (suc n) bytes = from_bytes 0 (take 8 bytes) ∷ words_of n (drop 8 bytes)
 
+-- the answer: refusal 0 and the four lengths, or 12 and zeros
+pub record LengthsRead : Type 0 where
+  pub refusal : ℕ
+  pub types : ℕ
+  pub calls : ℕ
+  pub inputs : ℕ
+  pub words : ℕ
+
+-- from what the call answers
+abbrev pub lengths_read : Result Lengths Refusal → LengthsRead
+lengths_read (Ok l) = record { refusal = 0; types = l.types; calls = l.calls; inputs = l.inputs; words = l.words }
+lengths_read (Err r) = record { refusal = number_of r; types = 0; calls = 0; inputs = 0; words = 0 }
+
 -- the four lengths that a header gives, 13 bits each
-unfoldable pub lengths_of : ℕ → Lengths
+unfoldable pub lengths_of : ℕ → LengthsRead
 lengths_of header = record {
   refusal = 0;
   types = header / 2 ^ 51;
@@ -24,7 +40,7 @@ lengths_of header = record {
 }
 
 -- how many words follow the header
-abbrev pub total : Lengths → ℕ
+abbrev pub total : LengthsRead → ℕ
 total l = l.types + (l.calls + (l.inputs + l.words))
 
 abbrev pub header_of : List ℕ → ℕ
@@ -38,10 +54,10 @@ readable bytes capacity =
 
 -- the outcome: the four lengths, and the final words of the slice
 pub record Reading : Type 0 where
-  pub lengths : Lengths
+  pub lengths : LengthsRead
   pub words : List ℕ
 
-abbrev pub unreadable : Lengths
+abbrev pub unreadable : LengthsRead
 unreadable = record { refusal = 12; types = 0; calls = 0; inputs = 0; words = 0 }
 
 -- the words after the header

@@ -5,8 +5,7 @@ use Rattle.reduction.specs.declared.Settings.{Settings}
 use Rattle.reduction.specs.Reduction.{no_ceilings, zero_counts}
 use Rattle.outcomes.specs.declared.Answer.{Answer}
 use Rattle.outcomes.specs.Normalize.{Normalized, normalize_within, max_capacity}
-use Rattle.outcomes.specs.declared.Lengths.{Lengths}
-use Rattle.outcomes.specs.ReadBundle.{Reading, read_bundle_outcome}
+use Rattle.outcomes.specs.ReadBundle.{LengthsRead, Reading, read_bundle_outcome}
 use Rattle.outcomes.specs.Listing.{listing_of, Written, written_to}
 
 -- the program's settings: a budget and no ceilings
@@ -18,14 +17,14 @@ abbrev pub bundle_words : ℕ
 bundle_words = 8192
 
 -- the tables, and the term words, of words that are read
-unfoldable pub tables_of : Lengths → List ℕ → Tables
+unfoldable pub tables_of : LengthsRead → List ℕ → Tables
 tables_of l ws = record {
   types = take l.types ws;
   calls = take l.calls (drop l.types ws);
   inputs = take l.inputs (drop (l.types + l.calls) ws);
 }
 
-unfoldable pub term_of : Lengths → List ℕ → List ℕ
+unfoldable pub term_of : LengthsRead → List ℕ → List ℕ
 term_of l ws = take l.words (drop (l.types + (l.calls + l.inputs)) ws)
 
 -- a bundle that is not readable

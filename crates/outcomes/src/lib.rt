@@ -2,18 +2,33 @@
 
 #![tactic(auto)]
 
-// the type check: refusal 0 and the type number, or the refusal and 0
-#[derive(Drop)]
-pub struct Checked {
-    pub refusal: u32,
-    pub ty: u64,
+ghost use Rattle.std.specs.Prelude.{◌≡◌};
+ghost use Rattle.outcomes.specs.Refusal.{number_of};
+
+// why a call refuses, by number: the checks of the tables and the term in their order, the limits of a reduction, and the bundle
+#[derive(Clone, Copy, Debug, PartialEq, Eq)]
+pub enum Refusal {
+    Lengths = 1,
+    TypeWord = 2,
+    RepeatedType = 3,
+    CallWord = 4,
+    InputType = 5,
+    TermWord = 6,
+    Parts = 7,
+    Scope = 8,
+    Type = 9,
+    Budget = 10,
+    Capacity = 11,
+    Bundle = 12,
+    Ceiling = 13,
 }
 
-// the test for a normal form: refusal 0 and yes or no, or the refusal and no
-#[derive(Drop)]
-pub struct Tested {
-    pub refusal: u32,
-    pub normal: bool,
+impl From<Refusal> for u32 {
+    ghost from_gives = { λ r n. n ≡ number_of r };
+
+    fn from(refusal: Refusal) -> u32 {
+        refusal as u32
+    }
 }
 
 // the inputs that a term reads: refusal 0, a mark for each (input 0 is the highest bit of the first word) and how many are marked, or the
@@ -36,10 +51,9 @@ pub struct Answer {
     pub counts: [u32; 10],
 }
 
-// the bundle reader: refusal 0 and the four lengths, or 12 and zeros
+// the four lengths in a bundle's header
 #[derive(Drop)]
 pub struct Lengths {
-    pub refusal: u32,
     pub types: usize,
     pub calls: usize,
     pub inputs: usize,

@@ -4,12 +4,12 @@ use native.Mathlib.Omega.{arith}
 use mathlib.Core.Path.{◌≡◌, refl, sym, ◌∙◌, ap}
 use mathlib.Core.List.{List, [], append-nil}
 use lib.ListN.{length, drop}
+use Rattle.std.proofs.Common.{Option, Some, None}
 use Rattle.syntax.specs.Term.{Term}
 use Rattle.syntax.specs.Encoding.{encode}
 use Rattle.reduction.specs.declared.Phase.{Phase}
 use Rattle.reduction.specs.declared.Phase.TheVariants.{Insertion, Reduction, Dropping}
-use Rattle.reduction.specs.declared.Found.{Found}
-use Rattle.reduction.specs.declared.Found.TheVariants.{Redex, Nothing}
+use Rattle.reduction.specs.declared.Redex.{Redex}
 use Rattle.words.specs.Fronts.{Starts}
 use Rattle.search.specs.Fits.{Scannable}
 use Rattle.search.specs.Searches.{Onward, Continues, moved_by, FindsFirst}
@@ -26,7 +26,7 @@ module _ {phase : Phase} (ready : (calls : List ℕ) (t : Term) (i : ℕ) → Ph
   pub continues : {marks : List ℕ} → Searchable phase calls rest marks → Continues phase calls rest
   continues s = record { term = s.term; index = s.from; onward = onward s.term s.from s.at }
 
-  pub finds_first : {r : Found} → FindsFirst phase calls rest r → Finds phase calls rest r
+  pub finds_first : {r : Option Redex} → FindsFirst phase calls rest r → Finds phase calls rest r
   finds_first f = record { told = λ t i a. f.told t i (onward t i a) }
 
 -- what they take as known
@@ -37,9 +37,10 @@ pub reduction_ready : (calls : List ℕ) (t : Term) (i : ℕ) → PhasePremise c
 reduction_ready calls t i b = b
 
 -- what is found in the whole is found at its place
-at_front : (r : Found) → moved_by 0 r ≡ r
-at_front Nothing = refl
-at_front (Redex rule place) = let e : 0 + place ≡ place = omega arith in ap (Redex rule) e
+at_front : (r : Option Redex) → moved_by 0 r ≡ r
+at_front None = refl
+at_front (Some r) =
+    let e : 0 + r.place ≡ r.place = omega arith in ap (λ (p : ℕ). Some (record { rule = r.rule; place = p })) e
 
 -- phase 3
 module _ {calls rest : List ℕ} where
@@ -56,7 +57,7 @@ module _ {calls rest : List ℕ} where
   pub marks_open : {phase : Phase} {marks : List ℕ} → Searchable phase calls rest marks → MarkSpace marks 0 (length rest)
   marks_open s = record { deep = omega (arith, s.deep); small = s.marks_small; low = λ d l. absurd (omega (arith, l)) }
 
-  pub finds_unused : {r : Found} → FindsUnused calls rest r → Finds Dropping calls rest r
+  pub finds_unused : {r : Option Redex} → FindsUnused calls rest r → Finds Dropping calls rest r
   finds_unused {r} f = record {
     told = λ t i a. ap (λ (k : ℕ). moved_by k r) a.premise ∙ at_front r ∙ f.told t a.shaped (whole a);
   }

@@ -7,8 +7,8 @@ ghost use Rattle.search.specs.Unused.{has_let, MarkSpace, MarksBinder, LeastMark
 
 use crate::marks::mark;
 use crate::may_drop::may_drop;
-use crate::value::{value_kind, value_test};
-use reduction::{Found, Rule};
+use crate::value::value_test;
+use reduction::{Redex, Rule};
 use words::fields::{kind, number};
 use words::lesser::lesser;
 use words::shape::{outer_count, part_count};
@@ -28,19 +28,11 @@ fn open_mark(calls: &[u64], acting: bool, t: &[u64], place: usize) -> u64
     requires { Starts calls.now t.now × (length t.now ≤ 8192) × (place ≤ 65536) × (acting ≡ some_acts calls.now) }
     ensures { MarksBinder calls.now t.now place result }
 {
-    if kind(t[0]) == 4 {
-        if !may_drop(calls, acting, t[1]) {
-            return NO_PLACE;
-        }
-        if !value_kind(kind(t[1])) {
-            return place as u64;
-        }
-        let bound = value_test(calls, &t[1..]);
-        if !bound.value {
-            return place as u64;
-        }
+    if kind(t[0]) == 4 && may_drop(calls, acting, t[1]) && value_test(calls, &t[1..]).is_none() {
+        place as u64
+    } else {
+        NO_PLACE
     }
-    NO_PLACE
 }
 
 // the least of `first` and the marks of the binders from a depth to another
@@ -133,18 +125,17 @@ fn has_let(t: &[u64]) -> bool
 }
 
 // the first let in the part at the front that can be dropped; uses are marked only where there is a let
-pub fn first_unused(calls: &[u64], acting: bool, t: &[u64], used: &mut [u64]) -> Found
+pub fn first_unused(calls: &[u64], acting: bool, t: &[u64], used: &mut [u64]) -> Option<Redex>
     requires starts { Starts calls.now t.now × MarkSpace used.old 0 (length t.now) × (length t.now ≤ 8192) }
     requires acting_value { acting ≡ some_acts calls.now }
     ensures { FindsUnused calls.now t.now result }
 {
     if !has_let(t) {
-        return Found::Nothing;
+        return None;
     }
-    let scan = scan_part(calls, acting, t, used, 0, 0);
-    let first = scan.first;
-    if first < NO_PLACE {
-        return Found::Redex(Rule::Drop, first as usize);
-    }
-    Found::Nothing
+    let first = scan_part(calls, acting, t, used, 0, 0).first;
+    (first < NO_PLACE).then_some(Redex {
+        rule: Rule::Drop,
+        place: first as usize,
+    })
 }

@@ -2,9 +2,11 @@
 use Prim.Native.Nat.{ℕ}
 use mathlib.Core.Path.{◌≡◌, refl, sym, ◌∙◌, ap}
 use mathlib.Core.List.{List, ◌++◌}
-use mathlib.Core.Option.{some, some-injective}
+use mathlib.Core.Option.{Option, some, some-injective}
 use native.Mathlib.Omega.{arith}
 use native.Mathlib.Nat.{add-zero}
+use Rattle.std.proofs.Common.{unwrap_or}
+use Rattle.syntax.specs.Maybe.{option_of}
 use Rattle.syntax.specs.Term.{Term, Terms}
 use Rattle.syntax.specs.Encoding.{size, encode_all}
 use Rattle.syntax.specs.Decoding.{decode}
@@ -14,9 +16,7 @@ use Rattle.syntax.proofs.Decoding.{decode-words}
 use Rattle.syntax.proofs.Parts.{longer, terms_hold, part_end_lem}
 use Rattle.syntax.proofs.Sizes.{size_all}
 use Rattle.words.specs.Fronts.{Holds, HoldsAll, StartsAll}
-use Rattle.words.specs.Ends.{end_of, SizedAll}
-use Rattle.words.specs.declared.ends.End.{End}
-use Rattle.words.specs.declared.ends.End.TheVariants.{At, Nowhere}
+use Rattle.words.specs.Ends.{SizedAll}
 use Rattle.words.proofs.Traversal.{front_words, all_fit}
 use Rattle.words.proofs.Extents.{nothing_owed}
 
@@ -33,24 +33,17 @@ same_term {calls} {words} {t} {u} h g = some-injective t u
     ∙ ap (decode calls) (sym (front_words h (size t) refl) ∙ front_words g (size t) (same_size h g))
     ∙ decode-words calls u g.shaped)
 
-module _ (calls words : List ℕ) (m : ℕ) where
-  ended : (ts : Terms) (rest : List ℕ) → HoldsAll calls words m ts rest → end_of (extent calls words m) ≡ At (size_all ts)
-  ended ts rest h = ap end_of
+module _ (calls words : List ℕ) (m r : ℕ) (s : StartsAll calls words m)
+    (e : r ≡ unwrap_or (option_of (extent calls words m)) 0) where
+  -- the words of a row of terms end where its size says
+  row_size : (ts : Terms) (rest : List ℕ) → HoldsAll calls words m ts rest → r ≡ size_all ts
+  row_size ts rest h = e
+      ∙ ap (λ (o : Option ℕ). unwrap_or (option_of o) 0)
       (ap (λ (l : List ℕ). extent calls l m) h.is
       ∙ ap (extent calls (encode_all ts ++ rest)) (sym (add-zero (count ts) ∙ h.many))
       ∙ terms_hold calls ts h.shaped rest 0
       ∙ ap (longer (size_all ts)) (nothing_owed calls rest)
       ∙ ap (λ (x : ℕ). some x) (add-zero (size_all ts)))
 
-  module _ (n : ℕ) {e : End} (s : StartsAll calls words m) (p : e ≡ end_of (extent calls words m)) where
-    pub sized : e ≡ At n → SizedAll calls words m n
-    sized q =
-        let x = ended s.terms s.rest s.holds in
-        let y : n ≡ size_all s.terms = cc in
-        record { within = omega (arith, y, all_fit s.holds); told = λ ts rest h. let x = ended ts rest h in (cc) }
-
-    pub never_nowhere : e ≡ Nowhere → SizedAll calls words m n
-    never_nowhere q =
-        let x = ended s.terms s.rest s.holds in
-        let z : ◌≡◌ {A = ℕ} 0 1 = cc in
-        absurd (omega arith)
+  pub row_sized : SizedAll calls words m r
+  row_sized = record { within = omega (arith, row_size s.terms s.rest s.holds, all_fit s.holds); told = row_size }

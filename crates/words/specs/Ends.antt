@@ -1,15 +1,8 @@
--- The answers of the calls that find the end of a part and its size.
+-- The answers of the calls that find the size of a part.
 use Rattle.std.specs.Prelude.{ℕ, ◌≤◌, ◌≡◌, List, length}
-use Rattle.std.proofs.Math.Option.{Option, some, none}
 use Rattle.syntax.specs.Term.{Term, Terms}
 use Rattle.syntax.specs.Encoding.{size, encode_all}
 use Rattle.words.specs.Fronts.{Holds, HoldsAll}
-use Rattle.words.specs.declared.ends.End.{End}
-use Rattle.words.specs.declared.ends.End.TheVariants.{At, Nowhere}
-
-abbrev pub end_of : Option ℕ → End
-end_of none = Nowhere
-end_of (some n) = At n
 
 -- the term at the front has so many words
 pub record Sized (calls words : List ℕ) (n : ℕ) : Type 0 where

@@ -1,23 +1,18 @@
 // Where a part ends: the one loop that finds it.
 ghost use Rattle.std.specs.Prelude.{◌≡◌, ◌≤◌, length};
 ghost use Rattle.syntax.specs.Parts.{extent, part_end};
-ghost use Rattle.words.specs.Ends.{end_of, Sized, SizedAll};
+ghost use Rattle.syntax.specs.Maybe.{option_of};
+ghost use Rattle.words.specs.Ends.{Sized, SizedAll};
 ghost use Rattle.words.specs.Fronts.{Starts, StartsAll};
 
 use crate::fields::{kind, number};
 use crate::shape::{argument_counts, known_arity, part_counts};
 
-#[derive(Drop)]
-pub enum End {
-    At(usize),
-    Nowhere,
-}
-
 // where the first n parts end, by a loop over words that keeps how many parts are still owed. It ends when none is, or no word is left; a
 // word whose number of parts is not known owes more than the words behind it.
-fn parts_end(calls: &[u64], t: &[u64], n: usize) -> End
+fn parts_end(calls: &[u64], t: &[u64], n: usize) -> Option<usize>
     requires { (length t.now ≤ 8192) × (n ≤ 8192) }
-    ensures { result ≡ end_of (extent calls.now t.now n) }
+    ensures { result ≡ option_of (extent calls.now t.now n) }
 {
     let counts = part_counts();
     let arities = argument_counts();
@@ -26,7 +21,7 @@ fn parts_end(calls: &[u64], t: &[u64], n: usize) -> End
     let mut i: usize = 0;
     while 0 < owed {
         if i == words {
-            return End::Nowhere;
+            return None;
         }
         let w = t[i];
         let k = kind(w);
@@ -38,13 +33,14 @@ fn parts_end(calls: &[u64], t: &[u64], n: usize) -> End
             i += 1;
         }
     }
-    End::At(i)
+    Some(i)
 }
 
 // where the part at the front ends, of any words; nowhere if no front of them is one term
-pub fn part_end(calls: &[u64], t: &[u64]) -> End
+#[tactic(auto, unfolding(syntax::specs::Parts::part_end))]
+pub fn part_end(calls: &[u64], t: &[u64]) -> Option<usize>
     requires { length t.now ≤ 8192 }
-    ensures { result ≡ end_of (part_end calls.now t.now) }
+    ensures { result ≡ option_of (part_end calls.now t.now) }
 {
     parts_end(calls, t, 1)
 }
@@ -54,11 +50,7 @@ pub fn parts_size(calls: &[u64], t: &[u64], n: usize) -> usize
     requires { StartsAll calls.now t.now n × (length t.now ≤ 8192) }
     ensures { SizedAll calls.now t.now n result }
 {
-    let end = parts_end(calls, t, n);
-    match end {
-        End::At(size) => size,
-        End::Nowhere => 0,
-    }
+    parts_end(calls, t, n).unwrap_or(0)
 }
 
 // how many words the part at the front has

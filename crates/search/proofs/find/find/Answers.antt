@@ -4,7 +4,8 @@ use mathlib.Core.Path.{◌≡◌, sym, subst}
 use mathlib.Core.List.{List}
 use Rattle.reduction.specs.declared.Phase.{Phase}
 use Rattle.reduction.specs.declared.Phase.TheVariants.{Insertion, Reduction, Dropping}
-use Rattle.reduction.specs.declared.Found.{Found}
+use Rattle.std.proofs.Common.{Option}
+use Rattle.reduction.specs.declared.Redex.{Redex}
 use Rattle.search.specs.Searches.{FindsFirst, Continues}
 use Rattle.search.specs.Finds.{Searchable, Finds}
 use Rattle.search.proofs.FirstRedexFound.{continues, finds_first, insertion_ready, reduction_ready, whole_starts, marks_open}
@@ -14,13 +15,13 @@ use Rattle.search.proofs.find.find.Goals as goal
 searchable_at : {p : Phase} (q : Phase) {calls rest marks : List ℕ} → p ≡ q → Searchable p calls rest marks → Searchable q calls rest marks
 searchable_at q {calls} {rest} {marks} e s = subst (λ (x : Phase). Searchable x calls rest marks) e s
 
-finds_at : {p : Phase} (q : Phase) {calls rest : List ℕ} {r : Found} → p ≡ q → Finds q calls rest r → Finds p calls rest r
+finds_at : {p : Phase} (q : Phase) {calls rest : List ℕ} {r : Option Redex} → p ≡ q → Finds q calls rest r → Finds p calls rest r
 finds_at q {calls} {rest} {r} e s = subst (λ (x : Phase). Finds x calls rest r) (sym e) s
 
 continues_at : {p : Phase} (q : Phase) {calls rest : List ℕ} → p ≡ q → Continues q calls rest → Continues p calls rest
 continues_at q {calls} {rest} e s = subst (λ (x : Phase). Continues x calls rest) (sym e) s
 
-first_at : {p : Phase} (q : Phase) {calls rest : List ℕ} {r : Found} → p ≡ q → FindsFirst p calls rest r → FindsFirst q calls rest r
+first_at : {p : Phase} (q : Phase) {calls rest : List ℕ} {r : Option Redex} → p ≡ q → FindsFirst p calls rest r → FindsFirst q calls rest r
 first_at q {calls} {rest} {r} e s = subst (λ (x : Phase). FindsFirst x calls rest r) e s
 
 pub first_redex-requires : goal.first_redex-requires

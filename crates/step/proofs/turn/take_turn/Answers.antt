@@ -5,6 +5,7 @@
 -- ceiling is not met either, so 11 is answered only there; and where the next term is in the buffer the gap can go to where the search goes
 -- on (`next_seekable`).
 use Rattle.std.proofs.Common.{◌≡◌, ℕ, ◌+◌, List, length, sym, ◌∙◌, arith, rules}
+use Rattle.std.proofs.lemmas.Result.{err_from_is_err_and}
 use Rattle.reduction.specs.declared.Rule.{Rule}
 use Rattle.reduction.specs.declared.Phase.{Phase}
 use Rattle.reduction.specs.declared.Found.{Found}
@@ -14,7 +15,6 @@ use Rattle.search.specs.Finds.{Finds}
 use Rattle.step.specs.Gaps.{Seeks}
 use Rattle.step.proofs.TurnIsStep.{GapAtRedex, turned_stops, first_redex_lem, turned_spent}
 use Rattle.step.proofs.TurnIsStep.{place_small, redex_seekable, turn_rewritable, turned_full, next_seekable, turned_goes}
-use Rattle.step.proofs.TurnIsStep.{rewrites_as}
 use Rattle.step.proofs.turn.take_turn.Goals as goal
 
 -- the gap is at the redex that the search found
@@ -22,6 +22,9 @@ at_redex : {phase : Phase} {calls before : List ℕ} {start end : ℕ} {rule : R
     → Finds phase calls (from before end) r → r ≡ Redex rule ahead → Seeks before start end (start + ahead) sought behind
     → length sought ≡ length before → GapAtRedex phase calls before start end rule ahead sought behind
 at_redex f e s l = record { redex = first_redex_lem f e; seeks = s; same = l }
+
+pub returns-in_default : goal.returns-in_default
+returns-in_default c = turned_stops c.find-found.ensures c.in_default.is
 
 pub returns-then-spent : goal.returns-then-spent
 returns-then-spent c = turned_spent (first_redex_lem c.find-found.ensures c.in-Redex.is) c.if-spent.true
@@ -32,33 +35,30 @@ overflow_add-place c = omega (arith, place_small (first_redex_lem c.find-found.e
 pub seek-behind-requires : goal.seek-behind-requires
 seek-behind-requires c = redex_seekable (first_redex_lem c.find-found.ensures c.in-Redex.is) c.requires.ready.0
 
-pub rewrite-rewritten-requires : goal.rewrite-rewritten-requires
-rewrite-rewritten-requires c = (
+pub rewrite-requires : goal.rewrite-requires
+rewrite-requires c = (
   turn_rewritable
       (at_redex c.find-found.ensures c.in-Redex.is c.seek-behind.ensures c.seek-behind.auto.words)
       c.requires.ready.0 _ (search rules),
   c.requires.ready.1,
 )
 
+pub returns-in_err-next : goal.returns-in_err-next
+returns-in_err-next c =
+    let p = err_from_is_err_and c.from_residual.result c.from_residual.ensures.1 in
+    rw (p.1, p.2) (turned_full
+    (at_redex c.find-found.ensures c.in-Redex.is c.seek-behind.ensures c.seek-behind.auto.words)
+    (omega (arith, c.if-spent.false)) (sym c.ceiling_met-met.ensures ∙ search) c.in_err-next.ensures)
+
 pub seek-rest-requires : goal.seek-rest-requires
 seek-rest-requires c =
     next_seekable
     (at_redex c.find-found.ensures c.in-Redex.is c.seek-behind.ensures c.seek-behind.auto.words)
-    (rewrites_as c.in-Next.is c.rewrite-rewritten.ensures) c.requires.ready.0 c.next_from-from.ensures
+    c.in_ok-next.ensures c.requires.ready.0 c.next_from-from.ensures
 
-pub returns-in-Nothing : goal.returns-in-Nothing
-returns-in-Nothing c = turned_stops c.find-found.ensures c.in-Nothing.is
-
-pub returns-in-Full : goal.returns-in-Full
-returns-in-Full c =
-    turned_full
-    (at_redex c.find-found.ensures c.in-Redex.is c.seek-behind.ensures c.seek-behind.auto.words)
-    (omega (arith, c.if-spent.false)) (sym c.ceiling_met-met.ensures ∙ search)
-    (rewrites_as c.in-Full.is c.rewrite-rewritten.ensures)
-
-pub returns-in-Next : goal.returns-in-Next
-returns-in-Next c =
+pub returns : goal.returns
+returns c =
     turned_goes
     (at_redex c.find-found.ensures c.in-Redex.is c.seek-behind.ensures c.seek-behind.auto.words)
-    (rewrites_as c.in-Next.is c.rewrite-rewritten.ensures) (omega (arith, c.if-spent.false))
+    c.in_ok-next.ensures (omega (arith, c.if-spent.false))
     (sym c.ceiling_met-met.ensures ∙ search) c.next_from-from.ensures c.seek-rest.ensures

@@ -8,7 +8,7 @@ use native.Mathlib.Omega.{arith}
 use borrow.Author.Rules.{rules}
 use lib.ListN.{length, get_or}
 use Rattle.syntax.specs.Parts.{known_parts}
-use Rattle.words.specs.Ends.{end_of}
+use Rattle.syntax.specs.Maybe.{option_of}
 use Rattle.words.specs.Shapes.{Owes as OwesParts}
 use Rattle.words.proofs.Extents.{Owing, owing_start, owing_word, owing_short, owing_done}
 use Rattle.words.proofs.PartCounts.{owed_by_call, owed_by_kind_lem}
@@ -131,7 +131,7 @@ whole : tie.Need-returns invariant-loop decreases-loop
 whole c =
     let l = c.before.loop-owed in
     let z : l.owed ≤ 0 = omega (arith, c.loop-owed-test.false) in
-    sym (ap end_of (owing_done _ _ _ _ _ z l.invariant.owing))
+    sym (ap option_of (owing_done _ _ _ _ _ z l.invariant.owing))
 
 pub parts_end_spec : {M : Type 1} → statement M
 parts_end_spec =
@@ -147,7 +147,7 @@ parts_end_spec =
     let l = c.before.before.loop-owed in
     let p : 0 < l.owed = omega (arith, c.before.loop-owed-test.true) in
     let e : l.i ≡ length a.t.now = omega (arith, l.invariant.within) in
-    sym (ap end_of (owing_short _ _ _ _ _ p e l.invariant.owing)))
+    sym (ap option_of (owing_short _ _ _ _ _ p e l.invariant.owing)))
     (λ c. search rules)
     (λ c. search rules)
     (λ c κs. search rules)
