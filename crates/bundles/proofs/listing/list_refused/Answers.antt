@@ -1,6 +1,6 @@
-use Rattle.std.proofs.Common.{◌≡◌, ◌+◌, length, refl, ap, arith, rules}
+use Rattle.std.proofs.Common.{length, refl, ap, arith, rules}
 use Rattle.outcomes.specs.Text.{ascii}
-use Rattle.outcomes.specs.Listing.{decimal, fields, nope}
+use Rattle.outcomes.specs.Listing.{decimal, nope}
 use Rattle.bundles.specs.FirstLine.{refused_line}
 use Rattle.bundles.proofs.FieldsWritten.{start_put}
 use Rattle.bundles.proofs.WholeListing.{length_refused, no_room, all_put, refused_put}

@@ -1,4 +1,4 @@
-use Rattle.std.proofs.Common.{arith, rules}
+use Rattle.std.proofs.Common.{arith}
 use Rattle.bundles.proofs.ListingOutcome.{outcome_refused, outcome_accepted, outcome_short}
 use Rattle.bundles.proofs.listing.listing.Goals as goal
 

@@ -1,4 +1,4 @@
-use Rattle.std.proofs.Common.{arith, rules}
+use Rattle.std.proofs.Common.{rules}
 use Rattle.bundles.proofs.FieldsPut.{next_put, last_put}
 use Rattle.bundles.proofs.listing.put_counts.Goals as goal
 
