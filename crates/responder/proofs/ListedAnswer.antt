@@ -1,14 +1,13 @@
 -- The listing of a normalization: the words that the answer counts are those at the output's front.
-use Prim.Native.Nat.{ℕ, zero, suc, ◌+◌, ◌-◌, ◌≤◌}
-use Prim.{⊥}
+use Prim.Native.Nat.{ℕ, zero, suc, ◌≤◌}
 use native.Mathlib.Omega.{arith}
 use mathlib.Core.Path.{◌≡◌, refl, sym, ◌∙◌, ap, subst}
 use mathlib.Core.Bool.{Bool, true, false}
 use mathlib.Core.List.{List, [], ◌++◌}
-use lib.ListN.{length, take, drop, replicate, length-append}
+use lib.ListN.{length, drop, length-append}
 use borrow.Author.Tests.{le-leb}
-use Rattle.syntax.specs.Term.{Term}
-use Rattle.syntax.specs.Tables.{Tables, over}
+use Rattle.std.specs.Prelude.{Err}
+use Rattle.syntax.specs.Tables.{Tables}
 use Rattle.syntax.specs.Term.{Term}
 use Rattle.syntax.specs.Encoding.{size}
 use Rattle.typing.specs.Refusals.{Verdict, refused, accepted, TypedTerm, elaborate, normalize_limit}
@@ -19,9 +18,10 @@ use Rattle.outcomes.specs.Buffers.{overwrite}
 use Rattle.outcomes.specs.Listing.{listing_of, Written, written_to, words_listed, listing_outcome}
 use Rattle.outcomes.specs.Normalize.{Normalized, reduced_to, checked_to, normalize_within, Buffers, capacity_of, max_capacity, Outcome}
 use Rattle.outcomes.specs.Normalize.{normalize_outcome}
-use Rattle.outcomes.specs.ReadBundle.{Reading, total, lengths_of, header_of, readable, unreadable, words_after, read_bundle_outcome}
-use Rattle.outcomes.specs.Respond.{program_settings, bundle_words, tables_of, term_of, unread, listed, respond_to, response, respond_outcome}
-use Rattle.outcomes.specs.declared.Lengths.{Lengths}
+use Rattle.outcomes.specs.declared.Refusal.{Refusal}
+use Rattle.outcomes.specs.Refusal.{number_of}
+use Rattle.outcomes.specs.ReadBundle.{LengthsRead, lengths_read, Reading, total, lengths_of, header_of, readable, unreadable, words_after, read_bundle_outcome}
+use Rattle.outcomes.specs.Respond.{program_settings, unread, listed, respond_to}
 use Rattle.outcomes.specs.declared.Answer.{Answer}
 use Rattle.theory.proofs.ContractHolds.{take_front}
 use Rattle.bundles.proofs.Bytes.{length-words}
@@ -91,42 +91,17 @@ pub refusal_listed : (n : ℕ) (output text : List ℕ) (told : Written) → tol
 unfolding overwrite
 refusal_listed n output text told e = e ∙ front_listed (record { answer = unread n; words = [] }) output text refl
 
-module _ (l : Lengths) (ws text : List ℕ) (told : Written) where
-  -- what is written for a reading, by its refusal
-  refused_response : (n : ℕ) → l.refusal ≡ n → (n ≡ 0 → ⊥)
-      → listing_of (unread l.refusal) [] ≡ respond_to (record { lengths = l; words = ws })
-  unfolding respond_to
-  refused_response zero e h = absurd (h refl)
-  refused_response (suc n) e h = rw (e, respond_to)
-
-  read_response : l.refusal ≡ 0
-      → listed (normalize_within max_capacity program_settings (tables_of l ws) (term_of l ws)) ≡ respond_to (record { lengths = l; words = ws })
-  unfolding respond_to
-  read_response e = ap answered (sym e)
-    where
-      answered : ℕ → List ℕ
-      answered n = elim n [
-        | zero ↦ listed (normalize_within max_capacity program_settings (tables_of l ws) (term_of l ws))
-        | suc m ↦ listing_of (unread (suc m)) []
-      ]
-
-  module _ (bytes : List ℕ) (read : record { lengths = l; words = ws } ≡ read_bundle_outcome bytes (replicate bundle_words 0)) where
-    pub refused_responds : (l.refusal ≡ 0 → ⊥) → told ≡ written_to text (listing_of (unread l.refusal) [])
-        → told ≡ respond_outcome bytes text
-    unfolding respond_outcome response
-    refused_responds h e = e ∙ ap (written_to text) (refused_response l.refusal refl h ∙ ap respond_to read)
-
-    pub read_responds : l.refusal ≡ 0
-        → told ≡ written_to text (listed (normalize_within max_capacity program_settings (tables_of l ws) (term_of l ws)))
-        → told ≡ respond_outcome bytes text
-    unfolding respond_outcome response
-    read_responds h e = e ∙ ap (written_to text) (read_response h ∙ ap respond_to read)
+-- what is written for a reading that is refused
+pub refused_response : (why : Refusal) (ws : List ℕ)
+    → respond_to (record { lengths = lengths_read (Err why); words = ws }) ≡ listing_of (unread (number_of why)) []
+unfolding respond_to
+refused_response why ws = grind arith
 
 -- the words of a reading are all in the slice
 abbrev ReadingFits : Reading → Type 0
 ReadingFits r = total r.lengths ≤ length r.words
 
-pub reading_fits : (bytes slice : List ℕ) (l : Lengths) (ws : List ℕ)
+pub reading_fits : (bytes slice : List ℕ) (l : LengthsRead) (ws : List ℕ)
     → record { lengths = l; words = ws } ≡ read_bundle_outcome bytes slice → total l ≤ length ws
 unfolding read_bundle_outcome overwrite words_after
 reading_fits bytes slice l ws e = subst ReadingFits (sym e) (by_test (readable bytes (length slice)))
