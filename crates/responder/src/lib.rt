@@ -66,7 +66,7 @@ fn answer_parts(words: &[u64], lengths: Lengths, text: &mut [u8]) -> usize
 pub fn respond(bytes: &[u8], text: &mut [u8]) -> usize
     ensures { record { length = result; buffer = text.new } ≡ respond_outcome bytes.now text.old }
 {
-    let mut words: [u64; 8192] = [0; 8192];
+    let mut words = [0; 8192];
     match read_bundle(bytes, &mut words) {
         Err(refusal) => refuse(refusal, text),
         Ok(lengths) => answer_parts(&words, lengths, text),
