@@ -27,7 +27,7 @@ use Rattle.syntax.proofs.ByKind.{by_kind}
 
 -- true is not false
 pub apart : {X : Type 0} {b : Bool} → b ≡ true → b ≡ false → X
-apart p q = let z : ◌≡◌ {A = ℕ} 0 1 = cc in absurd (omega arith)
+apart p q = absurd cc
 
 value_parts_lem : (t : Term) → value_kind (node t).kind ≡ true → ((node t).kind ≡ 2 → ⊥) → is_value t ≡ all_values (node t).parts
 unfolding is_value value_kind node all_values

@@ -52,19 +52,19 @@ module _ {counts : List ℕ} (table : Tabled value_parts counts) {k : ℕ} (l : 
       let high : leb 5 (value_parts k) ≡ true = le-leb 5 (value_parts k) (omega (arith, table.at_kind k l, h)) in
       not-true _ (kinds_imply (λ j. leb 5 (value_parts j)) (λ j. not (value_kind j)) refl k l high)
 
--- in a turn of the loop, at a node of kind k
-module _ {calls t counts : List ℕ} {at owed k : ℕ} (table : Tabled value_parts counts) (g : Marching calls t ValuesSoFar 1 at owed)
-    (lt : 1 ≤ owed) (ke : k ≡ kind_of (get_or t at 0)) (l : k < 16) where
-  past_node : get_or counts k 0 < 4 → Marching calls t ValuesSoFar 1 (at + 1) (owed - 1 + get_or counts k 0)
+-- in a turn of the loop, at a node of kind k, of which the table says n
+module _ {calls t counts : List ℕ} {at owed k n : ℕ} (table : Tabled value_parts counts) (g : Marching calls t ValuesSoFar 1 at owed)
+    (lt : 1 ≤ owed) (ke : k ≡ kind_of (get_or t at 0)) (l : k < 16) (ne : n ≡ get_or counts k 0) where
+  past_node : n < 4 → Marching calls t ValuesSoFar 1 (at + 1) (owed - 1 + n)
   past_node few =
-      let o = opened table l (omega (arith, few)) in
-      test_open g lt ke _ o.of_value o.no_function (of_kind _ _ _ _ ke o.no_call o.parts_are).0
+      let o = opened table l (omega (arith, few, ne)) in
+      test_open g lt ke _ o.of_value o.no_function (of_kind _ _ _ _ ke o.no_call (ne ∙ o.parts_are)).0
 
-  past_function : {n : ℕ} → get_or counts k 0 ≡ 4 → Sized calls (from t at) n → Marching calls t ValuesSoFar 1 (at + n) (owed - 1)
-  past_function e s = test_function g lt ke _ (function table l e) s
+  past_function : {size : ℕ} → n ≡ 4 → Sized calls (from t at) size → Marching calls t ValuesSoFar 1 (at + size) (owed - 1)
+  past_function e s = test_function g lt ke _ (function table l (sym ne ∙ e)) s
 
-  at_computation : 5 ≤ get_or counts k 0 → TestsValue calls t None
-  at_computation many = test_computation g lt ke (no_value table l many)
+  at_computation : 5 ≤ n → TestsValue calls t None
+  at_computation many = test_computation g lt ke (no_value table l (omega (arith, many, ne)))
 
 pub loop-owed-init : goal.loop-owed-init
 loop-owed-init c = record { table = c.value_parts-counts.ensures; going = test_begin c.requires.0 }
@@ -83,7 +83,7 @@ loop-owed-preserved-then-n-lt-FUNCTION c =
     let i = c.loop-owed.invariant in
     record {
       table = i.table;
-      going = past_node i.table i.going (omega arith) c.kind.ensures (omega (arith, c.type_inv.t c.loop-owed.at)) (omega arith);
+      going = past_node i.table i.going (omega arith) c.kind.ensures (omega (arith, c.type_inv.t c.loop-owed.at)) c.from-n.ensures (omega arith);
     }
 
 pub part_size-at-requires : goal.part_size-at-requires
@@ -102,14 +102,14 @@ loop-owed-preserved c =
     let i = c.loop-owed.invariant in
     record {
       table = i.table;
-      going = past_function i.table i.going (omega arith) c.kind.ensures (omega (arith, c.type_inv.t c.loop-owed.at)) c.if-n-eq-FUNCTION.true
+      going = past_function i.table i.going (omega arith) c.kind.ensures (omega (arith, c.type_inv.t c.loop-owed.at)) c.from-n.ensures c.if-n-eq-FUNCTION.true
           c.part_size-at.ensures;
     }
 
 pub returns-else-n-eq-FUNCTION : goal.returns-else-n-eq-FUNCTION
 returns-else-n-eq-FUNCTION c =
     let i = c.loop-owed.invariant in
-    at_computation i.table i.going (omega arith) c.kind.ensures (omega (arith, c.type_inv.t c.loop-owed.at)) (omega arith)
+    at_computation i.table i.going (omega arith) c.kind.ensures (omega (arith, c.type_inv.t c.loop-owed.at)) c.from-n.ensures (omega arith)
 
 pub returns : goal.returns
 returns c = test_end c.loop-owed.invariant.going (omega arith)
