@@ -1,13 +1,13 @@
 -- The search answers a rule and a place exactly if the step is by that rule at that place, and nothing exactly if there is no step.
-use mathlib.Core.Path.{◌≡◌, refl, sym, ◌∙◌, ap, ap₂, subst}
+use mathlib.Core.Path.{◌≡◌, refl, ◌∙◌, ap, ap₂}
 use mathlib.Core.Bool.{Bool}
 use mathlib.Core.Option.{Option, some, none}
 use Prim.Native.Nat.{ℕ}
+use Rattle.std.proofs.Common.{Some, None}
 use Rattle.syntax.specs.Term.{Term}
 use Rattle.reduction.specs.declared.Phase.{Phase}
 use Rattle.reduction.specs.declared.Rule.{Rule}
-use Rattle.reduction.specs.declared.Found.{Found}
-use Rattle.reduction.specs.declared.Found.TheVariants.{Redex, Nothing}
+use Rattle.reduction.specs.declared.Redex.{Redex}
 use Rattle.reduction.specs.Redex.{Step, step, found_of, first_redex}
 
 -- a step by a rule at a place
@@ -17,36 +17,33 @@ pub record StepAt (pure : Term → Bool) (phase : Phase) (t : Term) (r : Rule) (
   pub by : taken.rule ≡ r
   pub at : taken.place ≡ i
 
--- the same of an answer, so that an equation of answers tells apart what was found
-abbrev Says : Rule → ℕ → Found → Type 0
-Says r i Nothing = ⊥
-Says r i (Redex q j) = (q ≡ r) × (j ≡ i)
-
-abbrev Silent : Found → Type 0
-Silent Nothing = Unit
-Silent (Redex q j) = ⊥
+-- the redex of a rule at a place
+abbrev pub redex : Rule → ℕ → Redex
+redex r i = record { rule = r; place = i }
 
 module _ (pure : Term → Bool) (phase : Phase) (t : Term) where
-  pub step_redex : (r : Rule) (i : ℕ) → StepAt pure phase t r i → first_redex pure phase t ≡ Redex r i
+  pub step_redex : (r : Rule) (i : ℕ) → StepAt pure phase t r i → first_redex pure phase t ≡ Some (redex r i)
   unfolding first_redex
-  step_redex r i s = ap found_of s.is ∙ ap₂ Redex s.by s.at
+  step_redex r i s = ap found_of s.is ∙ ap₂ (λ (q : Rule) (j : ℕ). Some (redex q j)) s.by s.at
 
-  pub redex_step : (r : Rule) (i : ℕ) → first_redex pure phase t ≡ Redex r i → StepAt pure phase t r i
+  pub redex_step : (r : Rule) (i : ℕ) → first_redex pure phase t ≡ Some (redex r i) → StepAt pure phase t r i
   unfolding first_redex
-  redex_step r i e = go (step pure phase t) refl (subst (Says r i) (sym e) (refl, refl))
+  redex_step r i e = go (step pure phase t) refl e
     where
-      go : (o : Option Step) → step pure phase t ≡ o → Says r i (found_of o) → StepAt pure phase t r i
-      go none d f = absurd f
-      go (some s) d f = record { taken = s; is = d; by = f.0; at = f.1 }
+      go : (o : Option Step) → step pure phase t ≡ o → found_of o ≡ Some (redex r i) → StepAt pure phase t r i
+      go none d f = absurd cc
+      go (some s) d f =
+          let same : redex s.rule s.place ≡ redex r i = cc in
+          record { taken = s; is = d; by = ap (λ (x : Redex). x.rule) same; at = ap (λ (x : Redex). x.place) same }
 
-  pub none_nothing : step pure phase t ≡ none → first_redex pure phase t ≡ Nothing
+  pub none_nothing : step pure phase t ≡ none → first_redex pure phase t ≡ None
   unfolding first_redex
   none_nothing e = ap found_of e
 
-  pub nothing_none : first_redex pure phase t ≡ Nothing → step pure phase t ≡ none
+  pub nothing_none : first_redex pure phase t ≡ None → step pure phase t ≡ none
   unfolding first_redex
-  nothing_none e = go (step pure phase t) (subst Silent (sym e) tt)
+  nothing_none e = go (step pure phase t) e
     where
-      go : (o : Option Step) → Silent (found_of o) → o ≡ none
+      go : (o : Option Step) → found_of o ≡ None → o ≡ none
       go none f = refl
-      go (some s) f = absurd f
+      go (some s) f = absurd cc

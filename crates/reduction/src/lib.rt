@@ -2,7 +2,7 @@
 
 #![tactic(auto)]
 
-#[derive(Clone, Copy)]
+#[derive(Clone, Copy, Debug, PartialEq, Eq)]
 pub enum Rule {
     LetInsertion,
     LetOfLet,
@@ -16,17 +16,18 @@ pub enum Rule {
     Drop,
 }
 
-#[derive(Clone, Copy)]
+#[derive(Clone, Copy, Debug, PartialEq, Eq)]
 pub enum Phase {
     Insertion,
     Reduction,
     Dropping,
 }
 
-#[derive(Drop)]
-pub enum Found {
-    Redex(Rule, usize),
-    Nothing,
+// a redex, as the search answers it: the rule that fits, and the index of the node that it fits
+#[derive(Clone, Copy)]
+pub struct Redex {
+    pub rule: Rule,
+    pub place: usize,
 }
 
 // what the caller sets: how many steps may be taken, and how often each rule may be used, in the order of the counts; laid out as C does

@@ -7,9 +7,11 @@ use mathlib.Core.Path.{◌≡◌, refl, sym, ◌∙◌, ap, ap₂, subst}
 use mathlib.Core.Bool.{Bool, true, false, cond, ◌&&◌}
 use mathlib.Core.List.{List, [], append-nil}
 use mathlib.Core.Option.{Option, some, none}
-use lib.Dec.{eqb}
+use Rattle.std.proofs.Common.{Some, None}
+use lib.Dec.{eqb, ltb}
+use Rattle.std.specs.Bool.{then_some}
 use lib.ListN.{length, get_or, drop, get_elem?}
-use borrow.Author.Tests.{eqb-true, eqb-false}
+use borrow.Author.Tests.{eqb-true, eqb-false, ltb-true, ltb-false}
 use Rattle.syntax.specs.Maybe.{given}
 use Rattle.syntax.specs.Words.{kind_of}
 use Rattle.syntax.specs.Substitution.{rename}
@@ -24,13 +26,12 @@ use Rattle.syntax.proofs.Inherited.{shaped_site}
 use Rattle.reduction.specs.declared.Phase.TheVariants.{Dropping}
 use Rattle.reduction.specs.declared.Rule.{Rule}
 use Rattle.reduction.specs.declared.Rule.TheVariants.{Drop}
-use Rattle.reduction.specs.declared.Found.TheVariants.{Redex, Nothing}
 use Rattle.reduction.specs.MayDrop.{may_drop}
 use Rattle.reduction.specs.Rules.{drop as drop_rule, fire, rules, lower}
 use Rattle.reduction.specs.Redex.{Contraction, contract, found_of, first_redex}
 use Rattle.reduction.specs.Clear.{Clear}
 use Rattle.reduction.proofs.Clear.{clear_down, clear_all, first_at}
-use Rattle.reduction.proofs.SearchAnswer.{none_nothing}
+use Rattle.reduction.proofs.SearchAnswer.{redex, none_nothing}
 use Rattle.words.specs.Fronts.{Holds, from}
 use Rattle.words.specs.Reach.{inner}
 use Rattle.words.proofs.Sized.{same_term}
@@ -146,7 +147,7 @@ subterm_at {calls} {words} t s w j p e = record {
 
 -- without a let there is nothing to drop
 pub finds_none : {calls words : List ℕ} → ((i : ℕ) → i < length words → kind_of (get_or words i 0) ≡ 4 → ⊥) → length words ≤ 8192
-    → FindsUnused calls words Nothing
+    → FindsUnused calls words None
 unfolding size final_mark
 finds_none {calls} {words} free small = record {
   told = λ t s w.
@@ -181,7 +182,7 @@ module _ {calls words old new : List ℕ} {r : PartScan} (a : Scans calls words 
         (a.before n le lim).marks j p.subterm _ (omega (arith, ends, index_below t j p e)) (subterm_at t s w j p e),
       ))
 
-  none_unused : 65536 ≤ r.first → Nothing ≡ first_redex (may_drop calls) Dropping t
+  none_unused : 65536 ≤ r.first → None ≡ first_redex (may_drop calls) Dropping t
   none_unused h = sym (none_nothing (may_drop calls) Dropping t (clear_all (may_drop calls) Dropping t
       (clear_down (may_drop calls) Dropping (size t) (omega (arith, small)) (clear_first 65536 h (omega arith)))))
 
@@ -212,21 +213,21 @@ module _ {calls words old new : List ℕ} {r : PartScan} (a : Scans calls words 
         passed : NoUnusedBefore calls words 0 (r.first + 1) r.end
         passed = record { marks = λ i u rest l h. judged i u rest l h (judge calls (0 + i) u) }
 
-    first_unused : Redex Drop r.first ≡ first_redex (may_drop calls) Dropping t
+    first_unused : Some (redex Drop r.first) ≡ first_redex (may_drop calls) Dropping t
     unfolding first_redex
     first_unused = sym (inside (dec_lt r.first (size t)))
       where
         here : (p : PositionAt t r.first) → Judged calls (0 + r.first) p.position.subterm
-            → first_redex (may_drop calls) Dropping t ≡ Redex Drop r.first
+            → first_redex (may_drop calls) Dropping t ≡ Some (redex Drop r.first)
         here p (stays f m) = absurd (no_further λ u rest l h.
             subst (λ (z : Term). 65536 ≤ final_mark calls (0 + r.first) z)
             (sym (same_term h (subterm_at t s w r.first p.position p.is))) m)
         here p (drops c f q m) =
             ap found_of (first_at (may_drop calls) Dropping t r.first p.position c
             (clear_first r.first (omega arith) (omega (arith, lt))) p.is f)
-            ∙ ap (λ (k : Rule). Redex k r.first) q
+            ∙ ap (λ (k : Rule). Some (redex k r.first)) q
 
-        inside : Dec (r.first < size t) → first_redex (may_drop calls) Dropping t ≡ Redex Drop r.first
+        inside : Dec (r.first < size t) → first_redex (may_drop calls) Dropping t ≡ Some (redex Drop r.first)
         inside (yes l) = let p = position_at t r.first l in here p (judge calls (0 + r.first) p.position.subterm)
         inside (no l) = absurd (no_further λ u rest b h. absurd (omega (arith, l, b, ends)))
 
@@ -235,8 +236,10 @@ module _ {calls words old new : List ℕ} {r : PartScan} (a : Scans calls words 
   unfolding size
   short t w = omega (arith, small, ap (λ (l : List ℕ). length l) w)
 
-  pub finds_redex : r.first < 65536 → FindsUnused calls words (Redex Drop r.first)
-  finds_redex lt = record { told = λ t s w. first_unused a t s w (short t w) lt }
-
-  pub finds_nothing : 65536 ≤ r.first → FindsUnused calls words Nothing
-  finds_nothing le = record { told = λ t s w. none_unused a t s w (short t w) le }
+  pub finds_least : FindsUnused calls words (then_some (ltb r.first 65536) (redex Drop r.first))
+  finds_least = record { told = λ t s w. go t s w (ltb r.first 65536) refl }
+    where
+      go : (t : Term) → Shaped calls t → words ≡ encode t → (b : Bool) → ltb r.first 65536 ≡ b
+          → then_some b (redex Drop r.first) ≡ first_redex (may_drop calls) Dropping t
+      go t s w true e = first_unused a t s w (short t w) (ltb-true _ _ e)
+      go t s w false e = none_unused a t s w (short t w) (ltb-false _ _ e)

@@ -1,7 +1,7 @@
 -- The search for the first operand that is a computation: the parts passed are values, and their words end where the next part starts.
 use Prim.Native.Nat.{ℕ, ◌+◌, ◌≤◌, ◌<◌}
 use mathlib.Core.Path.{◌≡◌, refl, sym, ◌∙◌, ap}
-use mathlib.Core.Bool.{Bool, true, false, ◌&&◌, not}
+use mathlib.Core.Bool.{Bool, true, ◌&&◌, not}
 use mathlib.Core.List.{List, ◌++◌}
 use native.Mathlib.Omega.{arith}
 use lib.ListN.{length, get_or, length-append}
@@ -17,9 +17,7 @@ use Rattle.words.specs.Joined.{joined}
 use Rattle.search.specs.ValueTest.{TestsValue}
 use Rattle.search.specs.Operands.{all_values, FindsOperand}
 use Rattle.words.specs.Shapes.{operand_count}
-use Rattle.search.specs.declared.value.ValueEnd.{ValueEnd}
-use Rattle.search.specs.declared.fits.FoundOperand.{FoundOperand}
-use Rattle.search.proofs.ValueByNode.{apart}
+use Rattle.std.proofs.Common.{Some, None}
 use Rattle.search.proofs.InsertionFits.{values_to, operands_of, inserts_is, operands_are_parts, behind, values_front, computation_next}
 
 -- j parts of t are passed, all of them values; the words of ts start at `at`
@@ -77,15 +75,15 @@ find_enter calls words k n m s ke ne me = record {
 
 module _ {calls words : List ℕ} {n m at j : ℕ} (g : Seeking calls words n m at j) where
   -- no operand is left
-  pub find_none : (r : FoundOperand) → m ≤ j → r.found ≡ false → FindsOperand calls words r
-  find_none r le e = record {
+  pub find_none : m ≤ j → FindsOperand calls words None
+  find_none le = record {
     told = λ t rest h.
         let s = g.going.stand t rest h in
         let p = s.to_do in
         let v = values_front (operands_of t) p.front s.parts (omega (arith, g.operands t rest h, p.many)) p.values in
         record {
-          found_is = e ∙ sym (inserts_is t ∙ ap (λ (ts : Terms). not (values_to (operands_of t) ts)) p.parts ∙ ap not v);
-          first = λ d. apart d e;
+          found_is = sym (inserts_is t ∙ ap (λ (ts : Terms). not (values_to (operands_of t) ts)) p.parts ∙ ap not v);
+          first = tt;
         };
   }
 
@@ -96,54 +94,53 @@ module _ {calls words : List ℕ} {n m at j : ℕ} (g : Seeking calls words n m 
         let h = g.going.start.holds in
         omega (arith, g.operands _ _ h, operands_are_parts g.going.start.term, g.parts, (front_of h).parts)
 
-    module _ {v : ValueEnd} (a : TestsValue calls (from words at) v) where
-      -- an operand that is no value
-      pub find_first : (r : FoundOperand) → v.value ≡ false → r.found ≡ true → r.index ≡ j → r.start ≡ at → FindsOperand calls words r
-      find_first r vf e ie se = record {
-        told = λ t rest h.
-            let x = next calls words g.going find_part t rest h in
-            let p = x.to_do in
-            let c = sym (a.told x.part _ x.holds).value_is ∙ vf in
-            let o = g.operands t rest h in
-            let w = computation_next (operands_of t) p.front x.part x.later (omega (arith, p.many, o)) p.values c in
-            record {
-              found_is = e ∙ sym (inserts_is t ∙ ap (λ (ts : Terms). not (values_to (operands_of t) ts)) p.parts ∙ ap not w);
-              first = λ d. record {
-                front = p.front;
-                part = x.part;
-                later = x.later;
-                parts = p.parts;
-                values = p.values;
-                computation = c;
-                operand = omega (arith, ie, o);
-                index_is = ie ∙ sym p.many;
-                start_is = se ∙ p.start;
-              };
+    -- an operand that is no value
+    pub find_first : TestsValue calls (from words at) None → FindsOperand calls words (Some (record { index = j; start = at }))
+    find_first a = record {
+      told = λ t rest h.
+          let x = next calls words g.going find_part t rest h in
+          let p = x.to_do in
+          let c = sym (a.told x.part _ x.holds).value_is in
+          let o = g.operands t rest h in
+          let w = computation_next (operands_of t) p.front x.part x.later (omega (arith, p.many, o)) p.values c in
+          record {
+            found_is = sym (inserts_is t ∙ ap (λ (ts : Terms). not (values_to (operands_of t) ts)) p.parts ∙ ap not w);
+            first = record {
+              front = p.front;
+              part = x.part;
+              later = x.later;
+              parts = p.parts;
+              values = p.values;
+              computation = c;
+              operand = omega (arith, o);
+              index_is = sym p.many;
+              start_is = p.start;
             };
+          };
+    }
+
+    -- a value of so many words
+    module _ {size : ℕ} (a : TestsValue calls (from words at) (Some size)) where
+      passes : Does calls words (ValuesBefore at j) (ValuesBefore (at + size) (j + 1)) at size
+      passes t rest h part later holds p =
+          let c = a.told part (encode_all later ++ rest) holds in (
+            c.end_is,
+            record {
+              front = joined p.front (arg part done);
+              parts = p.parts ∙ pass p.front part later;
+              values = pass_values p.front part p.values (sym c.value_is);
+              many = pass_many p.front part ∙ ap (λ (x : ℕ). x + 1) p.many;
+              start = omega (arith, p.start, c.end_is, pass_words p.front part);
+            },
+          )
+
+      pub find_reached : at + size ≤ length words
+      find_reached = reached calls words (ValuesBefore (at + size) (j + 1)) size g.going find_part passes
+
+      -- a turn of the loop
+      pub find_next : Seeking calls words n m (at + size) (j + 1)
+      find_next = record {
+        going = onward calls words (ValuesBefore (at + size) (j + 1)) size g.going find_part passes;
+        parts = g.parts;
+        operands = g.operands;
       }
-
-      module _ (vt : v.value ≡ true) where
-        passes : Does calls words (ValuesBefore at j) (ValuesBefore (at + v.end) (j + 1)) at v.end
-        passes t rest h part later holds p =
-            let c = a.told part (encode_all later ++ rest) holds in
-            let s = c.end_is vt in (
-              s,
-              record {
-                front = joined p.front (arg part done);
-                parts = p.parts ∙ pass p.front part later;
-                values = pass_values p.front part p.values (sym c.value_is ∙ vt);
-                many = pass_many p.front part ∙ ap (λ (x : ℕ). x + 1) p.many;
-                start = omega (arith, p.start, s, pass_words p.front part);
-              },
-            )
-
-        pub find_reached : at + v.end ≤ length words
-        find_reached = reached calls words (ValuesBefore (at + v.end) (j + 1)) v.end g.going find_part passes
-
-        -- a turn of the loop
-        pub find_next : Seeking calls words n m (at + v.end) (j + 1)
-        find_next = record {
-          going = onward calls words (ValuesBefore (at + v.end) (j + 1)) v.end g.going find_part passes;
-          parts = g.parts;
-          operands = g.operands;
-        }

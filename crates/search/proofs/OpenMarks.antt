@@ -11,15 +11,13 @@ use Rattle.syntax.specs.Term.{Term, var, call, lam, app, bind, pair, fst, snd, i
 use Rattle.words.specs.Fronts.{Holds, Starts, from}
 use Rattle.words.proofs.Traversal.{front_of}
 use Rattle.words.proofs.PartsAt.{first_from, parts_of_lem, part_here}
-use Rattle.reduction.specs.FitByKinds.{value_kind}
 use Rattle.reduction.specs.MayDrop.{may_drop}
 use Rattle.search.specs.ValueTest.{TestsValue}
-use Rattle.search.specs.declared.value.ValueEnd.{ValueEnd}
+use Rattle.std.proofs.Common.{Option, is_some}
 use Rattle.search.specs.Unused.{open_mark, MarksBinder}
 use Rattle.search.specs.NodeMayDrop.{node_may_drop}
 use Rattle.search.proofs.NodeMayDrop.{by_word}
 use Rattle.syntax.proofs.ByKind.{by_kind}
-use Rattle.search.proofs.ValueByNode.{other_kind}
 
 -- only a let has a mark below
 pub other_mark : (calls : List ℕ) (p : ℕ) (t : Term) → ((node t).kind ≡ 4 → ⊥) → 65536 ≡ open_mark calls p t
@@ -85,16 +83,11 @@ module _ (calls words : List ℕ) where
             go true x y = sym (ap (λ (z : Bool). cond (not z && may_drop calls e) p 65536) x)
             go false x y = sym (ap₂ (λ (z d : Bool). cond (not z && d) p 65536) x y)
 
-        -- a part whose first word is not of a value's kind is none
-        pub opens_kind : value_kind (kind_of (get_or words 1 0)) ≡ false → MarksBinder calls words p p
-        opens_kind n = opens p p le k λ e rest h. droppable e rest h false
-            (other_kind e (ap value_kind (sym (ap kind_of (sym (first_from words 1)) ∙ (front_of h).kind)) ∙ n))
-
-        module _ {r : ValueEnd} (a : TestsValue calls (from words 1) r) where
-          pub opens_let : r.value ≡ false → MarksBinder calls words p p
+        module _ {r : Option ℕ} (a : TestsValue calls (from words 1) r) where
+          pub opens_let : is_some r ≡ false → MarksBinder calls words p p
           opens_let e = opens p p le k λ x rest h. droppable x rest h false (sym (a.told x rest h).value_is ∙ e)
 
-          pub opens_value : r.value ≡ true → MarksBinder calls words p 65536
+          pub opens_value : is_some r ≡ true → MarksBinder calls words p 65536
           opens_value e = opens p 65536 (omega arith) k λ x rest h. droppable x rest h true (sym (a.told x rest h).value_is ∙ e)
 
   pub opens_other : (p : ℕ) → (kind_of (get_or words 0 0) ≡ 4 → ⊥) → MarksBinder calls words p 65536

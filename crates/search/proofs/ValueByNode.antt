@@ -22,12 +22,12 @@ use Rattle.words.proofs.Rows.{Marching, march, one_starts, one_holds, march_end,
 use Rattle.words.specs.Ends.{Sized}
 use Rattle.search.specs.ValueTest.{TestsValue}
 use Rattle.search.specs.Operands.{all_values}
-use Rattle.search.specs.declared.value.ValueEnd.{ValueEnd}
+use Rattle.std.proofs.Common.{Some, None}
 use Rattle.syntax.proofs.ByKind.{by_kind}
 
 -- true is not false
 pub apart : {X : Type 0} {b : Bool} → b ≡ true → b ≡ false → X
-apart p q = let z : ◌≡◌ {A = ℕ} 0 1 = cc in absurd (omega arith)
+apart p q = absurd cc
 
 value_parts_lem : (t : Term) → value_kind (node t).kind ≡ true → ((node t).kind ≡ 2 → ⊥) → is_value t ≡ all_values (node t).parts
 unfolding is_value value_kind node all_values
@@ -83,28 +83,28 @@ test_begin {calls} {words} s = march calls words ValuesSoFar 1 (one_starts s) λ
 
 module _ {calls words : List ℕ} {at owed : ℕ} (g : Marching calls words ValuesSoFar 1 at owed) where
   -- no term is owed
-  pub test_end : (r : ValueEnd) → owed ≡ 0 → r.end ≡ at → r.value ≡ true → TestsValue calls words r
+  pub test_end : owed ≡ 0 → TestsValue calls words (Some at)
   unfolding all_values
-  test_end r z re rv = record {
+  test_end z = record {
     told = λ t rest h.
         let e = march_end calls words g z (arg t done) rest (one_holds h) in
         record {
-          value_is = rv ∙ sym (sym (values_one t) ∙ e.1);
-          end_is = λ d. omega (arith, re, e.0, size_arg t done, size_done);
+          value_is = sym (sym (values_one t) ∙ e.1);
+          end_is = omega (arith, e.0, size_arg t done, size_done);
         };
   }
 
   module _ (lt : 1 ≤ owed) {k : ℕ} (ke : k ≡ kind_of (get_or words at 0)) where
     -- a computation
-    pub test_computation : (r : ValueEnd) → value_kind k ≡ false → r.value ≡ false → TestsValue calls words r
+    pub test_computation : value_kind k ≡ false → TestsValue calls words None
     unfolding all_values
-    test_computation r kf e = record {
+    test_computation kf = record {
       told = λ t rest h.
           let v = visit calls words g lt (arg t done) rest (one_holds h) in
           let c = other_kind v.term (ap value_kind (sym v.kind ∙ sym ke) ∙ kf) in
           record {
-            value_is = e ∙ sym (sym (values_one t) ∙ v.to_do ∙ ap (λ (x : Bool). x && all_values v.later) c);
-            end_is = λ d. apart d e;
+            value_is = sym (sym (values_one t) ∙ v.to_do ∙ ap (λ (x : Bool). x && all_values v.later) c);
+            end_is = tt;
           };
     }
 

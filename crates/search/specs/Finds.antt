@@ -1,5 +1,5 @@
 -- What the search for the first redex of a phase asks and says.
-use Rattle.std.specs.Prelude.{ℕ, ◌≤◌, ◌≡◌, List, length, drop}
+use Rattle.std.specs.Prelude.{ℕ, ◌≤◌, ◌≡◌, List, length, drop, Option}
 use Rattle.syntax.specs.Term.{Term}
 use Rattle.syntax.specs.Encoding.{encode}
 use Rattle.syntax.specs.Shaped.{Shaped}
@@ -7,7 +7,7 @@ use Rattle.reduction.specs.MayDrop.{may_drop}
 use Rattle.reduction.specs.Redex.{first_redex}
 use Rattle.reduction.specs.Clear.{Clear}
 use Rattle.reduction.specs.declared.Phase.{Phase}
-use Rattle.reduction.specs.declared.Found.{Found}
+use Rattle.reduction.specs.declared.Redex.{Redex}
 use Rattle.search.specs.Searches.{moved_by}
 use Rattle.search.specs.PhasePremise.{PhasePremise}
 
@@ -28,5 +28,5 @@ pub record Searchable (phase : Phase) (calls rest marks : List ℕ) : Type 0 whe
   pub marks_small : length marks ≤ 65536
 
 -- for whatever term the words go on with, from whatever index on
-pub record Finds (phase : Phase) (calls rest : List ℕ) (r : Found) : Type 0 where
+pub record Finds (phase : Phase) (calls rest : List ℕ) (r : Option Redex) : Type 0 where
   pub told : (t : Term) (from : ℕ) → SearchAt phase calls rest from t → moved_by from r ≡ first_redex (may_drop calls) phase t

@@ -1,7 +1,8 @@
--- The rule of a phase that fits the node at the front, as a redex at place 0.
+-- The rule of a phase that fits the node at the front.
 use Rattle.std.specs.Prelude.{ℕ, ◌≡◌, cond, List, eqb}
+use Rattle.std.specs.declared.option.Option as code
 use Rattle.std.proofs.Math.Option.{Option, some, none, map}
-use Rattle.syntax.specs.Maybe.{given}
+use Rattle.syntax.specs.Maybe.{given, option_of}
 use Rattle.syntax.specs.Term.{Term}
 use Rattle.reduction.specs.MayDrop.{may_drop}
 use Rattle.reduction.specs.Rules.{rules}
@@ -9,15 +10,8 @@ use Rattle.reduction.specs.declared.Phase.{Phase}
 use Rattle.reduction.specs.declared.Phase.TheVariants.{Insertion, Reduction, Dropping}
 use Rattle.reduction.specs.declared.Rule.{Rule}
 use Rattle.reduction.specs.declared.Rule.TheVariants.{LeftCase, RightCase}
-use Rattle.reduction.specs.declared.Found.{Found}
-use Rattle.reduction.specs.declared.Found.TheVariants.{Redex, Nothing}
 use Rattle.reduction.specs.Redex.{contract, step}
 use Rattle.words.specs.Fronts.{Holds}
-
--- a rule that fits, as a redex at place 0
-abbrev pub root_redex : Option Rule → Found
-root_redex none = Nothing
-root_redex (some r) = Redex r 0
 
 -- the rule of phase 2 that fits a case, by the kind of its subject
 unfoldable pub case_by_kind : ℕ → Option Rule
@@ -34,5 +28,5 @@ Scannable calls Reduction t = step (may_drop calls) Insertion t ≡ none
 Scannable calls Dropping t = ⊥
 
 -- for whatever term is at the front
-pub record Fits (phase : Phase) (calls words : List ℕ) (r : Found) : Type 0 where
-  pub told : (t : Term) (rest : List ℕ) → Holds calls words t rest → Scannable calls phase t → r ≡ root_redex (rule_of calls phase t)
+pub record Fits (phase : Phase) (calls words : List ℕ) (r : code.Option Rule) : Type 0 where
+  pub told : (t : Term) (rest : List ℕ) → Holds calls words t rest → Scannable calls phase t → r ≡ option_of (rule_of calls phase t)

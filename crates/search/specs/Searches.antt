@@ -1,13 +1,12 @@
 -- What the search for the first redex from a place on asks and says.
-use Rattle.std.specs.Prelude.{ℕ, ◌+◌, ◌≡◌, List, drop}
+use Rattle.std.specs.Prelude.{ℕ, ◌+◌, ◌≡◌, List, drop, Option, Some, None}
 use Rattle.syntax.specs.Term.{Term}
 use Rattle.syntax.specs.Encoding.{encode}
 use Rattle.syntax.specs.Shaped.{Shaped}
 use Rattle.reduction.specs.MayDrop.{may_drop}
 use Rattle.reduction.specs.Clear.{Clear}
 use Rattle.reduction.specs.declared.Phase.{Phase}
-use Rattle.reduction.specs.declared.Found.{Found}
-use Rattle.reduction.specs.declared.Found.TheVariants.{Redex, Nothing}
+use Rattle.reduction.specs.declared.Redex.{Redex}
 use Rattle.reduction.specs.Redex.{first_redex}
 use Rattle.search.specs.Fits.{Scannable}
 
@@ -25,10 +24,10 @@ pub record Continues (phase : Phase) (calls words : List ℕ) : Type 0 where
   pub onward : Onward phase calls words term index
 
 -- what is found at a place of a slice that starts at index i
-abbrev pub moved_by : ℕ → Found → Found
-moved_by i Nothing = Nothing
-moved_by i (Redex r k) = Redex r (i + k)
+abbrev pub moved_by : ℕ → Option Redex → Option Redex
+moved_by i None = None
+moved_by i (Some r) = Some (record { rule = r.rule; place = i + r.place })
 
 -- for whatever term the words go on with, from whatever index on: its first redex
-pub record FindsFirst (phase : Phase) (calls words : List ℕ) (r : Found) : Type 0 where
+pub record FindsFirst (phase : Phase) (calls words : List ℕ) (r : Option Redex) : Type 0 where
   pub told : (t : Term) (i : ℕ) → Onward phase calls words t i → moved_by i r ≡ first_redex (may_drop calls) phase t

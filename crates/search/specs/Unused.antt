@@ -1,6 +1,6 @@
 -- The search of phase 3 by marks of binders: the mark of a let that binds a computation that may be dropped begins as the let's place, any
 -- other as 65536, and each use adds 65536. So a mark is in the end below 65536 exactly for a let that can be dropped, and then its place.
-use Rattle.std.specs.Prelude.{ℕ, ◌+◌, ◌*◌, ◌≤◌, ◌<◌, ◌≡◌, Bool, cond, ◌&&◌, List, eqb, length, get_or}
+use Rattle.std.specs.Prelude.{ℕ, ◌+◌, ◌*◌, ◌≤◌, ◌<◌, ◌≡◌, Bool, cond, ◌&&◌, List, eqb, length, get_or, Option}
 use Rattle.syntax.specs.Lists.{any}
 use Rattle.syntax.specs.Words.{kind_of}
 use Rattle.syntax.specs.Term.{Term, var, call, lam, app, bind, pair, fst, snd, inl, inr, case, unit}
@@ -10,7 +10,7 @@ use Rattle.syntax.specs.Values.{is_computation, uses_all}
 use Rattle.words.specs.Fronts.{Holds, from}
 use Rattle.words.specs.Reach.{inner}
 use Rattle.reduction.specs.declared.Phase.TheVariants.{Dropping}
-use Rattle.reduction.specs.declared.Found.{Found}
+use Rattle.reduction.specs.declared.Redex.{Redex}
 use Rattle.reduction.specs.MayDrop.{may_drop}
 use Rattle.reduction.specs.Redex.{first_redex}
 use Rattle.search.specs.Marks.{Marked, Space}
@@ -70,5 +70,5 @@ pub record Scans (calls words : List ℕ) (base depth : ℕ) (old new : List ℕ
   pub told : (t : Term) (rest : List ℕ) → Holds calls words t rest → (r.end ≡ size t) × Marked 65536 t depth old new
 
 -- the first redex of phase 3 in whatever term the words are
-pub record FindsUnused (calls words : List ℕ) (r : Found) : Type 0 where
+pub record FindsUnused (calls words : List ℕ) (r : Option Redex) : Type 0 where
   pub told : (t : Term) → Shaped calls t → words ≡ encode t → r ≡ first_redex (may_drop calls) Dropping t

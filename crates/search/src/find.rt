@@ -5,16 +5,21 @@ ghost use Rattle.search.specs.Finds.{Searchable, Finds};
 
 use crate::redex::first_redex;
 use crate::unused::first_unused;
-use reduction::{Found, Phase};
+use reduction::{Phase, Redex};
 
 // phases 1 and 2 by a scan of the words; phase 3, where they are the whole term, by one pass that counts uses in the buffer
-pub fn find(phase: Phase, calls: &[u64], acting: bool, rest: &[u64], marks: &mut [u64]) -> Found
+pub fn find(
+    phase: Phase,
+    calls: &[u64],
+    acting: bool,
+    rest: &[u64],
+    marks: &mut [u64],
+) -> Option<Redex>
     requires { Searchable phase calls.now rest.now marks.old × (acting ≡ some_acts calls.now) }
     ensures { Finds phase calls.now rest.now result }
 {
     match phase {
-        Phase::Insertion => first_redex(phase, calls, rest),
-        Phase::Reduction => first_redex(phase, calls, rest),
+        Phase::Insertion | Phase::Reduction => first_redex(phase, calls, rest),
         Phase::Dropping => first_unused(calls, acting, rest, marks),
     }
 }

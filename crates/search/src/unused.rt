@@ -7,13 +7,14 @@ ghost use Rattle.search.specs.Unused.{has_let, MarkSpace, MarksBinder, LeastMark
 
 use crate::marks::mark;
 use crate::may_drop::may_drop;
-use crate::value::{value_kind, value_test};
-use reduction::{Found, Rule};
+use crate::value::value_test;
+use reduction::{Redex, Rule};
 use words::fields::{kind, number};
-use words::lesser::lesser;
 use words::shape::{outer_count, part_count};
 
 // past every place: the mark of a binder that cannot be dropped, and what each use adds to a mark
+// kept: a number and no Option, because marks are words of the caller's buffer and each use adds to one; with an Option for the place the
+// uses would have to be counted in another buffer
 const NO_PLACE: u64 = 65536;
 
 // where a part ends, and the least place in it of a let that can be dropped, or NO_PLACE
@@ -28,19 +29,11 @@ fn open_mark(calls: &[u64], acting: bool, t: &[u64], place: usize) -> u64
     requires { Starts calls.now t.now × (length t.now ≤ 8192) × (place ≤ 65536) × (acting ≡ some_acts calls.now) }
     ensures { MarksBinder calls.now t.now place result }
 {
-    if kind(t[0]) == 4 {
-        if !may_drop(calls, acting, t[1]) {
-            return NO_PLACE;
-        }
-        if !value_kind(kind(t[1])) {
-            return place as u64;
-        }
-        let bound = value_test(calls, &t[1..]);
-        if !bound.value {
-            return place as u64;
-        }
+    if kind(t[0]) == 4 && may_drop(calls, acting, t[1]) && value_test(calls, &t[1..]).is_none() {
+        place as u64
+    } else {
+        NO_PLACE
     }
-    NO_PLACE
 }
 
 // the least of `first` and the marks of the binders from a depth to another
@@ -48,14 +41,9 @@ fn least_mark(used: &[u64], start: usize, end: usize, first: u64) -> u64
     requires { (start ≤ end) × (end ≤ length used.now) }
     ensures { LeastMark used.now start end first result }
 {
-    let mut least = first;
-    let mut d = start;
-    while d < end {
-        let next = lesser(least, used[d]);
-        least = next;
-        d += 1;
-    }
-    least
+    used[start..end]
+        .iter()
+        .fold(first, |least, &mark| least.min(mark))
 }
 
 // goes through the part at the front, which begins at the place `base`. `owed` parts are ahead, and then `later` ones under one binder
@@ -104,9 +92,8 @@ fn scan_part(
                     later = n - outer;
                 } else {
                     let part = scan_part(calls, acting, &t[at..], used, under, base + at);
-                    let least = lesser(first, part.first);
-                    first = least;
-                    at = at + part.end;
+                    first = first.min(part.first);
+                    at += part.end;
                     owed -= 1;
                 }
             }
@@ -122,29 +109,21 @@ fn scan_part(
 fn has_let(t: &[u64]) -> bool
     ensures { result ≡ has_let t.now }
 {
-    let mut i: usize = 0;
-    while i < t.len() {
-        if kind(t[i]) == 4 {
-            return true;
-        }
-        i += 1;
-    }
-    false
+    t.iter().any(|&w| kind(w) == 4)
 }
 
 // the first let in the part at the front that can be dropped; uses are marked only where there is a let
-pub fn first_unused(calls: &[u64], acting: bool, t: &[u64], used: &mut [u64]) -> Found
+pub fn first_unused(calls: &[u64], acting: bool, t: &[u64], used: &mut [u64]) -> Option<Redex>
     requires starts { Starts calls.now t.now × MarkSpace used.old 0 (length t.now) × (length t.now ≤ 8192) }
     requires acting_value { acting ≡ some_acts calls.now }
     ensures { FindsUnused calls.now t.now result }
 {
     if !has_let(t) {
-        return Found::Nothing;
+        return None;
     }
-    let scan = scan_part(calls, acting, t, used, 0, 0);
-    let first = scan.first;
-    if first < NO_PLACE {
-        return Found::Redex(Rule::Drop, first as usize);
-    }
-    Found::Nothing
+    let first = scan_part(calls, acting, t, used, 0, 0).first;
+    (first < NO_PLACE).then_some(Redex {
+        rule: Rule::Drop,
+        place: first as usize,
+    })
 }

@@ -8,28 +8,18 @@ use words::ends::part_size;
 use words::fields::kind;
 use words::shape::{FUNCTION, shape_of, value_parts};
 
-// whether a part is a value, and where it ends if it is
-#[derive(Drop)]
-pub struct ValueEnd {
-    pub end: usize,
-    pub value: bool,
-}
-
 // the kinds of values: the variable, and those that carry their type (function, pair, left and right injection, unit); the shape of a
 // kind tells which do
+#[tactic(auto, unfolding(reduction::specs::FitByKinds::value_kind))]
 pub fn value_kind(k: u64) -> bool
     ensures { result ≡ value_kind k }
 {
-    if k == 0 {
-        return true;
-    }
-    let s = shape_of(k);
-    s.ty
+    k == 0 || shape_of(k).ty
 }
 
-// whether the part at the front is a value, and its end if it is: word by word, as long as they can be those of a value;
+// where the part at the front ends, if it is a value: word by word, as long as they can be those of a value;
 // a function is one whatever its body, any other value is one if its parts are
-pub fn value_test(calls: &[u64], t: &[u64]) -> ValueEnd
+pub fn value_test(calls: &[u64], t: &[u64]) -> Option<usize>
     requires { Starts calls.now t.now × (length t.now ≤ 8192) }
     ensures { TestsValue calls.now t.now result }
 {
@@ -37,23 +27,16 @@ pub fn value_test(calls: &[u64], t: &[u64]) -> ValueEnd
     let mut owed: usize = 1;
     let mut at: usize = 0;
     while 0 < owed {
-        let w = t[at];
-        let n = counts[kind(w) as usize] as usize;
+        let n = usize::from(counts[kind(t[at]) as usize]);
         if n < FUNCTION {
             owed = owed - 1 + n;
             at += 1;
         } else if n == FUNCTION {
-            at = at + part_size(calls, &t[at..]);
+            at += part_size(calls, &t[at..]);
             owed -= 1;
         } else {
-            return ValueEnd {
-                end: 0,
-                value: false,
-            };
+            return None;
         }
     }
-    ValueEnd {
-        end: at,
-        value: true,
-    }
+    Some(at)
 }

@@ -6,6 +6,7 @@ use mathlib.Core.List.{List}
 use lib.ListN.{length, take}
 use lib.Seq.{paste, sets, take_all}
 use borrow.Rule.Slice.PartMut.{put_mid}
+use Rattle.std.specs.Prelude.{Ok, Err}
 use Rattle.syntax.specs.Term.{Term}
 use Rattle.syntax.specs.Encoding.{encode, size}
 use Rattle.syntax.specs.Positions.{Position}
@@ -20,18 +21,18 @@ use Rattle.contraction.specs.Writers.{SizedPlanRoom, WritesPlan}
 use Rattle.contraction.specs.declared.plan.Measured.{Measured}
 use Rattle.contraction.specs.declared.plan.Action.{Action}
 use Rattle.contraction.specs.declared.plan.Action.TheVariants.{Rewrite, Lower}
+use Rattle.outcomes.specs.declared.Refusal.TheVariants.{Capacity}
 use Rattle.step.specs.Rewrites.{RedexAt, Rewritable, too_long, there, RewritesRedex}
-use Rattle.step.specs.declared.rewrite.Rewritten.TheVariants.{Full, Next}
 use Rattle.step.proofs.RewrittenRedex.{holds_behind, redex_inside, plugged_length, rewritten, written_front}
 use Rattle.step.proofs.LoweredBody.{put_pasted, lower_at_lower}
 
 module _ {rule : Rule} {calls words : List ℕ} where
   -- what is done with the redex
-  pub acts_rewrite : {c : Action} {m : Measured} → Acts rule calls words c → c ≡ Rewrite m → Measures rule calls words m
-  acts_rewrite {m = m} d e = elim (subst (λ (x : Action). Acts rule calls words x) e d) [ is_rewritten f ↦ f ]
+  pub acts_rewrite : {m : Measured} → Acts rule calls words (Rewrite m) → Measures rule calls words m
+  acts_rewrite (is_rewritten f) = f
 
-  pub acts_lower : {c : Action} {n : ℕ} → Acts rule calls words c → c ≡ Lower n → Uncovers rule calls words n
-  acts_lower {n = n} d e = elim (subst (λ (x : Action). Acts rule calls words x) e d) [ is_lowered f ↦ f ]
+  pub acts_lower : {n : ℕ} → Acts rule calls words (Lower n) → Uncovers rule calls words n
+  acts_lower (is_lowered f) = f
 
 module _ {rule : Rule} {calls words : List ℕ} {start end : ℕ} where
   pub redex_starts : {second : List ℕ} → Rewritable rule calls words start end second → StartsRedex rule calls (from words end)
@@ -71,7 +72,7 @@ module _ {rule : Rule} {calls words : List ℕ} {start end : ℕ} where
           }
 
     -- the next term is too long
-    pub rewrites_full : {after : List ℕ} → end + m.read - start < m.wrote → RewritesRedex rule calls words start end after Full
+    pub rewrites_full : {after : List ℕ} → end + m.read - start < m.wrote → RewritesRedex rule calls words start end after (Err Capacity)
     rewrites_full h = record {
       told = λ t p y d.
           let a = measured d in
@@ -83,7 +84,7 @@ module _ {rule : Rule} {calls words : List ℕ} {start end : ℕ} where
     pub rewrites_next : (second : List ℕ) {written after : List ℕ} {n : ℕ} → length written ≡ length second → length second ≡ length words
         → m.wrote ≤ end + m.read - start → n ≡ end + m.read - m.wrote
         → WritesPlan calls (from words end) m.plan second written → after ≡ paste words n written m.wrote
-        → RewritesRedex rule calls words start end after (Next n)
+        → RewritesRedex rule calls words start end after (Ok n)
     unfolding size
     rewrites_next second {written} {after} {n} l s h ne w ae = record {
       told = λ t p y d.
@@ -120,7 +121,7 @@ module _ {rule : Rule} {calls words : List ℕ} {start end : ℕ} where
 
     -- lowered where it stands, it is what the redex becomes
     pub rewrites_lowered : {ys after : List ℕ} {next : ℕ} → next ≡ end + n → Lowers calls (from words next) ys
-        → after ≡ put_mid next (length words - next) words ys → RewritesRedex rule calls words start end after (Next next)
+        → after ≡ put_mid next (length words - next) words ys → RewritesRedex rule calls words start end after (Ok next)
     unfolding size
     rewrites_lowered {ys} {after} {next} ne l ae = record {
       told = λ t p y d.

@@ -6,6 +6,7 @@ use mathlib.Core.Bool.{Bool, true, false}
 use mathlib.Core.List.{List, [], ◌∷◌}
 use mathlib.Core.Option.{Option, some, none, some-injective, none-ne-some}
 use lib.ListN.{length, get_elem?}
+use Rattle.std.specs.Prelude.{Option as Maybe, Some, None, Result, Ok, Err}
 use Rattle.syntax.specs.Term.{Term}
 use Rattle.syntax.specs.Encoding.{size}
 use Rattle.syntax.specs.Positions.{positions}
@@ -18,23 +19,20 @@ use Rattle.reduction.specs.Reduction.{ceiling_met}
 use Rattle.reduction.specs.declared.Rule.{Rule}
 use Rattle.reduction.specs.declared.Phase.{Phase}
 use Rattle.reduction.specs.declared.Phase.TheVariants.{Insertion, Reduction, Dropping}
-use Rattle.reduction.specs.declared.Found.{Found}
-use Rattle.reduction.specs.declared.Found.TheVariants.{Redex, Nothing}
+use Rattle.reduction.specs.declared.Redex.{Redex}
 use Rattle.reduction.proofs.Clear.{step_at}
 use Rattle.reduction.proofs.SearchAnswer.{StepAt, redex_step, nothing_none}
 use Rattle.words.specs.Fronts.{from}
 use Rattle.words.proofs.Traversal.{from_length}
-use Rattle.search.specs.Searches.{moved_by}
+use Rattle.outcomes.specs.declared.Refusal.{Refusal}
+use Rattle.outcomes.specs.declared.Refusal.TheVariants.{Budget, Ceiling, Capacity}
 use Rattle.step.specs.Currents.{Gapped}
 use Rattle.step.specs.Gaps.{Seekable, Seeks}
 use Rattle.search.specs.Finds.{SearchAt, Searchable, Finds}
 use Rattle.step.specs.Rewrites.{RedexAt, Rewritable, RewrittenTo, too_long, there, RewritesRedex}
 use Rattle.step.specs.Turns.{CurrentClear, Ready, Turned, stops, spent, met, full, goes, Turns}
 use Rattle.search.specs.NextFrom.{next_from}
-use Rattle.step.specs.declared.rewrite.Rewritten.{Rewritten}
-use Rattle.step.specs.declared.rewrite.Rewritten.TheVariants.{Full, Next}
-use Rattle.step.specs.declared.turn.Turn.{Turn}
-use Rattle.step.specs.declared.turn.Turn.TheVariants.{Stop, Refused, Step as Stepped}
+use Rattle.step.specs.declared.turn.Step.{Step as Stepped}
 use Rattle.step.proofs.GapMoved.{gapped_size, gapped_behind, gapped_seekable, gapped_sought}
 
 -- what a phase makes of a node is what the rule it names makes of it
@@ -101,32 +99,28 @@ module _ {phase : Phase} {calls before : List ℕ} {start end : ℕ} where
     marks_small = omega (arith, r.limit, r.scratch);
   }
 
-  module _ {r : Found} (f : Finds phase calls (from before end) r) where
-    -- nothing is found
-    pub turned_stops : {left : ℕ} {counts ceilings : List ℕ} → r ≡ Nothing
-        → Turns phase calls before start end left counts ceilings before Stop
-    turned_stops e = record {
-      told = λ t a.
-          let none_found = sym (ap (moved_by start) (sym e) ∙ f.told t start (search_at a)) in
-          stops (nothing_none (may_drop calls) phase t none_found) a.current;
-    }
+  -- nothing is found
+  pub turned_stops : {left : ℕ} {counts ceilings : List ℕ} → Finds phase calls (from before end) None
+      → Turns phase calls before start end left counts ceilings before (Ok None)
+  turned_stops f = record {
+    told = λ t a. stops (nothing_none (may_drop calls) phase t (sym (f.told t start (search_at a)))) a.current;
+  }
 
-    -- a redex is found
-    pub first_redex_lem : {rule : Rule} {ahead : ℕ} → r ≡ Redex rule ahead → FirstRedex phase calls before start end rule ahead
-    first_redex_lem {rule} {ahead} e = record {
-      step_of = λ t a.
-          redex_step (may_drop calls) phase t rule (start + ahead) (sym (ap (moved_by start) (sym e) ∙ f.told t start (search_at a)));
-    }
+  -- a redex is found
+  pub first_redex_lem : {r : Redex} → Finds phase calls (from before end) (Some r) → FirstRedex phase calls before start end r.rule r.place
+  first_redex_lem {r} f = record {
+    step_of = λ t a. redex_step (may_drop calls) phase t r.rule (start + r.place) (sym (f.told t start (search_at a)));
+  }
 
   module _ {rule : Rule} {ahead : ℕ} (r : FirstRedex phase calls before start end rule ahead) where
     -- the budget is used up
     pub turned_spent : {left : ℕ} {counts ceilings after : List ℕ} → left ≡ 0
-        → Turns phase calls before start end left counts ceilings after (Refused 10)
+        → Turns phase calls before start end left counts ceilings after (Err Budget)
     turned_spent z = record { told = λ t a. let s = r.step_of t a in spent s.taken s.is z }
 
     -- it is not, and the ceiling of the rule is met
     pub turned_met : {left : ℕ} {counts ceilings after : List ℕ} → 0 < left → ceiling_met ceilings rule counts ≡ true
-        → Turns phase calls before start end left counts ceilings after (Refused 13)
+        → Turns phase calls before start end left counts ceilings after (Err Ceiling)
     turned_met {counts = counts} {ceilings = ceilings} h u = record {
       told = λ t a.
           let s = r.step_of t a in
@@ -178,7 +172,7 @@ module _ {phase : Phase} {calls before : List ℕ} {start end : ℕ} where
     }
 
     -- the redex is rewritten, or the next term is too long
-    rewritten_at : {after : List ℕ} (w : Rewritten) → RewritesRedex rule calls sought (start + ahead) behind after w → (t : Term)
+    rewritten_at : {after : List ℕ} (w : Result ℕ Refusal) → RewritesRedex rule calls sought (start + ahead) behind after w → (t : Term)
         → (a : CurrentClear phase calls before start end t)
         → RewrittenTo (length sought) after (start + ahead) (step_of t a).taken.next w
     rewritten_at {after} w x t a =
@@ -186,25 +180,25 @@ module _ {phase : Phase} {calls before : List ℕ} {start end : ℕ} where
         let y = step_at (may_drop calls) phase t s.taken s.is in
         subst (λ (u : Term). RewrittenTo (length sought) after (start + ahead) u w) (sym y.next) (x.told t _ _ (redex_behind t a))
 
-    pub turned_full : {left : ℕ} {counts ceilings after : List ℕ} → 0 < left → ceiling_met ceilings rule counts ≡ false
-        → RewritesRedex rule calls sought (start + ahead) behind after Full
-        → Turns phase calls before start end left counts ceilings after (Refused 11)
-    turned_full {left} {counts} {ceilings} {after} h u x = record { told = λ t a. go t a (rewritten_at Full x t a) }
+    pub turned_full : {left : ℕ} {counts ceilings after : List ℕ} {e : Refusal} → 0 < left → ceiling_met ceilings rule counts ≡ false
+        → RewritesRedex rule calls sought (start + ahead) behind after (Err e)
+        → Turns phase calls before start end left counts ceilings after (Err e)
+    turned_full {left} {counts} {ceilings} {after} h u x = record { told = λ t a. go t a (rewritten_at (Err _) x t a) }
       where
-        go : (t : Term) (a : CurrentClear phase calls before start end t)
-            → RewrittenTo (length sought) after (start + ahead) (step_of t a).taken.next Full
-            → Turned phase calls after start end left counts ceilings (length before) t (Refused 11)
+        go : {e : Refusal} (t : Term) (a : CurrentClear phase calls before start end t)
+            → RewrittenTo (length sought) after (start + ahead) (step_of t a).taken.next (Err e)
+            → Turned phase calls after start end left counts ceilings (length before) t (Err e)
         go t a (too_long m) =
             let s = step_of t a in
             full s.taken s.is h (ap (λ (i : Rule). ceiling_met ceilings i counts) s.by ∙ u) (omega (arith, m, g.same))
 
-    module _ {rewritten : List ℕ} {n : ℕ} (x : RewritesRedex rule calls sought (start + ahead) behind rewritten (Next n)) where
+    module _ {rewritten : List ℕ} {n : ℕ} (x : RewritesRedex rule calls sought (start + ahead) behind rewritten (Ok n)) where
       -- the next term is there
       next_there : (t : Term) (a : CurrentClear phase calls before start end t)
           → Gapped rewritten (start + ahead) n (step_of t a).taken.next
-      next_there t a = go (rewritten_at (Next n) x t a)
+      next_there t a = go (rewritten_at (Ok n) x t a)
         where
-          go : {u : Term} {n : ℕ} → RewrittenTo (length sought) rewritten (start + ahead) u (Next n) → Gapped rewritten (start + ahead) n u
+          go : {u : Term} {n : ℕ} → RewrittenTo (length sought) rewritten (start + ahead) u (Ok n) → Gapped rewritten (start + ahead) n u
           go (there n g) = g
 
       -- and the gap goes to where the search goes on
@@ -217,27 +211,23 @@ module _ {phase : Phase} {calls before : List ℕ} {start end : ℕ} where
 
       pub turned_goes : {left to rest : ℕ} {counts ceilings after : List ℕ} → 0 < left → ceiling_met ceilings rule counts ≡ false
           → to ≡ next_from phase (start + ahead) → Seeks rewritten (start + ahead) n to after rest
-          → Turns phase calls before start end left counts ceilings after (Stepped rule to rest)
+          → Turns phase calls before start end left counts ceilings after (Ok (Some (record { rule = rule; start = to; end = rest })))
       turned_goes {left} {to} {rest} {counts} {ceilings} {after} h u e k = record {
         told = λ t a.
             let s = step_of t a in
             let q : next_from phase s.taken.place ≡ to = ap (next_from phase) s.at ∙ sym e in
             let there = gapped_sought (next_there t a) k in
             let below = ap (λ (i : Rule). ceiling_met ceilings i counts) s.by ∙ u in
-            let turned : Turn → Type 0 = λ r. Turned phase calls after start end left counts ceilings (length before) t r in
-            subst (λ (i : Rule). turned (Stepped i to rest)) s.by (subst (λ (i : ℕ). turned (Stepped s.taken.rule i rest)) q
+            let turned : Rule → ℕ → Type 0 =
+            λ i j. Turned phase calls after start end left counts ceilings (length before) t
+            (Ok (Some (record { rule = i; start = j; end = rest }))) in
+            subst (λ (i : Rule). turned i to) s.by (subst (λ (i : ℕ). turned s.taken.rule i) q
             (goes s.taken rest s.is h below (subst (λ (i : ℕ). Gapped after i rest s.taken.next) (sym q) there)));
       }
 
 -- the same of what the code has at hand there: the search's answer, the budget and the answer of `ceiling_met`
-pub found_met : {phase : Phase} {calls before : List ℕ} {start end : ℕ} {rule : Rule} {ahead left : ℕ} {counts ceilings after : List ℕ} {r : Found}
-    {b : Bool} {t : Term} → CurrentClear phase calls before start end t → Finds phase calls (from before end) r → r ≡ Redex rule ahead
-    → (left ≡ 0 → ⊥) → b ≡ ceiling_met ceilings rule counts → b ≡ true
-    → Turned phase calls after start end left counts ceilings (length before) t (Refused 13)
-found_met a f e n c u = (turned_met (first_redex_lem f e) (omega (arith, n)) (sym c ∙ u)).told _ a
-
--- what rewriting says holds of the answer that a match names, which is the same
-pub rewrites_as : {rule : Rule} {calls before : List ℕ} {start end : ℕ} {after : List ℕ} {r w : Rewritten} → r ≡ w
-    → RewritesRedex rule calls before start end after r → RewritesRedex rule calls before start end after w
-rewrites_as {rule} {calls} {before} {start} {end} {after} e x =
-    subst (λ (y : Rewritten). RewritesRedex rule calls before start end after y) e x
+pub found_met : {phase : Phase} {calls before : List ℕ} {start end : ℕ} {r : Redex} {left : ℕ} {counts ceilings after : List ℕ} {b : Bool}
+    {t : Term} → CurrentClear phase calls before start end t → Finds phase calls (from before end) (Some r) → (left ≡ 0 → ⊥)
+    → b ≡ ceiling_met ceilings r.rule counts → b ≡ true
+    → Turned phase calls after start end left counts ceilings (length before) t (Err Ceiling)
+found_met a f n c u = (turned_met (first_redex_lem f) (omega (arith, n)) (sym c ∙ u)).told _ a

@@ -3,21 +3,15 @@ ghost use Rattle.std.specs.Prelude.{◌≤◌, length as length_of};
 ghost use Rattle.step.specs.Rewrites.{Rewritable, RewritesRedex};
 
 use binding::lower::lower_part;
-use contraction::plan::{Action, measure};
+use contraction::plan::{Action, Measured, measure};
 use contraction::write::write;
+use outcomes::Refusal;
 use reduction::Rule;
 use words::moves::copy;
 
-// the next term is longer than the capacity; or where the gap ends then
-#[derive(Drop)]
-pub enum Rewritten {
-    Full,
-    Next(usize),
-}
-
-// a dropped let and what it binds become part of the gap, and the body stays where it is. Of any other rule, what the redex becomes has room
-// in its own place and the gap before it, or the next term is longer than the buffer; that is known before a word is written. The words
-// before the gap and behind the redex are not touched.
+// where the gap ends then, unless the next term is longer than the capacity. A dropped let and what it binds become part of the gap, and the
+// body stays where it is. Of any other rule, what the redex becomes has room in its own place and the gap before it, or the next term is
+// longer than the buffer; that is known before a word is written. The words before the gap and behind the redex are not touched.
 pub fn rewrite(
     rule: Rule,
     calls: &[u64],
@@ -26,28 +20,25 @@ pub fn rewrite(
     end: usize,
     second: &mut [u64],
     pending: &mut [u64],
-) -> Rewritten
+) -> Result<usize, Refusal>
     requires { Rewritable rule calls.now current.old start end second.old × (8194 ≤ length_of pending.old) }
     ensures { RewritesRedex rule calls.now current.old start end current.new result }
 {
-    let action = measure(rule, calls, &current[end..], pending);
-    match action {
+    match measure(rule, calls, &current[end..], pending) {
         Action::Lower(gone) => {
             let body = end + gone;
             lower_part(calls, &mut current[body..], pending);
-            Rewritten::Next(body)
+            Ok(body)
         }
-        Action::Rewrite(m) => {
-            let plan = m.plan;
-            let wrote = m.wrote;
-            let behind = end + m.read;
+        Action::Rewrite(Measured { plan, read, wrote }) => {
+            let behind = end + read;
             if behind - start < wrote {
-                return Rewritten::Full;
+                return Err(Refusal::Capacity);
             }
             write(plan, calls, &current[end..], second, wrote, pending);
             let next = behind - wrote;
             copy(second, 0, wrote, current, next);
-            Rewritten::Next(next)
+            Ok(next)
         }
     }
 }

@@ -5,21 +5,22 @@ ghost use Rattle.step.specs.Turns.{Ready, Turns};
 
 use crate::counts::ceiling_met;
 use crate::gap::seek;
-use crate::rewrite::{Rewritten, rewrite};
-use reduction::{Found, Phase, Rule};
+use crate::rewrite::rewrite;
+use outcomes::Refusal;
+use reduction::{Phase, Rule};
 use search::find::find;
 use search::next_from::next_from;
 
-// the phase is over; refused with a number; or a step by a rule, and where the gap begins and ends then
-#[derive(Drop)]
-pub enum Turn {
-    Stop,
-    Refused(u32),
-    Step(Rule, usize, usize),
+// a step taken: by which rule, and where the gap begins and ends after it
+#[derive(Clone, Copy)]
+pub struct Step {
+    pub rule: Rule,
+    pub start: usize,
+    pub end: usize,
 }
 
-// the search begins behind the gap, from `start` to `end`; after a step the gap is where the search goes on. 10 is
-// checked before 13, and 13 before 11.
+// the step, or none if the phase is over. The search begins behind the gap, from `start` to `end`; after a step the gap is where the search
+// goes on. The budget is checked before the ceiling, and that before the capacity.
 #[tactic(auto, using(crate::proofs::TurnIsStep::found_met))]
 pub fn take_turn(
     phase: Phase,
@@ -33,34 +34,31 @@ pub fn take_turn(
     ceilings: [u32; 10],
     second: &mut [u64],
     pending: &mut [u64],
-) -> Turn
+) -> Result<Option<Step>, Refusal>
     requires ready { Ready phase calls.now current.old start end second.old × (8194 ≤ length_of pending.old) }
     requires acting_value { acting ≡ some_acts calls.now }
     ensures { Turns phase calls.now current.old start end left counts ceilings current.new result }
 {
-    let found = find(phase, calls, acting, &current[end..], second);
-    match found {
-        Found::Nothing => Turn::Stop,
-        Found::Redex(rule, ahead) => {
-            let spent = left == 0;
-            let met = ceiling_met(ceilings, rule, counts);
-            if spent {
-                return Turn::Refused(10);
-            }
-            if met {
-                return Turn::Refused(13);
-            }
-            let place = start + ahead;
-            let behind = seek(current, start, end, place);
-            let rewritten = rewrite(rule, calls, current, place, behind, second, pending);
-            match rewritten {
-                Rewritten::Full => Turn::Refused(11),
-                Rewritten::Next(n) => {
-                    let from = next_from(phase, place);
-                    let rest = seek(current, place, n, from);
-                    Turn::Step(rule, from, rest)
-                }
-            }
-        }
+    let Some(redex) = find(phase, calls, acting, &current[end..], second) else {
+        return Ok(None);
+    };
+    let rule = redex.rule;
+    let spent = left == 0;
+    let met = ceiling_met(ceilings, rule, counts);
+    if spent {
+        return Err(Refusal::Budget);
     }
+    if met {
+        return Err(Refusal::Ceiling);
+    }
+    let place = start + redex.place;
+    let behind = seek(current, start, end, place);
+    let next = rewrite(rule, calls, current, place, behind, second, pending)?;
+    let from = next_from(phase, place);
+    let rest = seek(current, place, next, from);
+    Ok(Some(Step {
+        rule,
+        start: from,
+        end: rest,
+    }))
 }

@@ -4,10 +4,17 @@ use native.Mathlib.Omega.{arith}
 use native.Mathlib.Numerals.{add-one}
 use mathlib.Core.Path.{◌≡◌, refl, sym, ◌∙◌, ap}
 use mathlib.Core.Bool.{Bool, true, false, ◌||◌}
-use mathlib.Core.List.{List, ◌∷◌}
+use mathlib.Core.List.{List, [], ◌∷◌}
 use lib.ListN.{length, get_or, drop, drop_of_length-le}
 use lib.Seq.{drop-cons}
+use Rattle.std.specs.List.{list_any}
 use Rattle.syntax.specs.Lists.{any}
+
+-- as the library says it of a chain
+pub any_by_list : {X : Type 0} (test : X → Bool) (xs : List X) → any test xs ≡ list_any test xs
+unfolding any
+any_by_list test [] = refl
+any_by_list test (x ∷ xs) = ap (λ (b : Bool). test x || b) (any_by_list test xs)
 
 module _ (test : ℕ → Bool) where
   pub record NoneBefore (words : List ℕ) (i : ℕ) : Type 0 where

@@ -6,16 +6,24 @@ use mathlib.Core.Path.{◌≡◌, refl, sym, ◌∙◌, ap, subst}
 use mathlib.Core.Bool.{Bool, false, cond}
 use mathlib.Core.List.{List}
 use lib.Dec.{eqb}
-use lib.ListN.{length, get_or, set, length-set}
+use lib.ListN.{length, get_or, set, replicate, length-set}
 use lib.Seq.{get_or-set_same, get_or-set_other}
+use Rattle.std.proofs.Common.{rules}
+use Rattle.std.proofs.lemmas.List.{places}
 use borrow.Author.Tests.{ne_eqb}
+use borrow.Rule.Slice.PartMut.{mid_of, put_mid}
 use Rattle.syntax.specs.Kinds.{parts_of_kind, binds_of, free_of}
 use Rattle.syntax.specs.Parts.{part_count}
 use Rattle.syntax.specs.Tables.{arity}
 use Rattle.syntax.specs.Values.{counts}
 use Rattle.syntax.specs.Words.{kind_of, number_of}
 use Rattle.words.specs.Reach.{outer_count}
-use Rattle.words.specs.Depths.{Filled, Opened, OpensParts}
+use Rattle.words.specs.Depths.{Opened, OpensParts}
+
+-- the words from an index to another are w, those before are as they were
+pub record Filled (old new : List ℕ) (start end w : ℕ) : Type 0 where
+  pub kept : (j : ℕ) → j < start → get_or new j 0 ≡ get_or old j 0
+  pub set_to : (j : ℕ) → start ≤ j → j < end → get_or new j 0 ≡ w
 
 -- the depths at the first two places, and at the others
 pub record Entries (old new : List ℕ) (last n k depth : ℕ) : Type 0 where
@@ -136,6 +144,14 @@ module _ (calls : List ℕ) (w : ℕ) (p new : List ℕ) (last depth k n x y : �
 -- there are no further parts
 pub three_filled : (words : List ℕ) (last n depth : ℕ) → n ≤ 3 → Filled words words (last + 3) (last + n) depth
 three_filled words last n depth le = record { kept = λ j l. refl; set_to = λ j g l. absurd (omega (arith, g, l, le)) }
+
+-- or they are filled
+pub row_filled : (words row : List ℕ) (start end w : ℕ) → start ≤ end → end ≤ length words → row ≡ replicate (length (mid_of start (end - start) words)) w
+    → Filled words (put_mid start (end - start) words row) start end w
+row_filled words row start end w h g e = record {
+  kept = λ j l. search (rules, places);
+  set_to = λ j m l. search (rules, places);
+}
 
 -- a node without parts
 pub opens_none : (calls : List ℕ) (w : ℕ) (p : List ℕ) (last depth : ℕ) → part_count calls w ≡ 0 → OpensParts calls w depth p p last last

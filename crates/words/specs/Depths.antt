@@ -4,11 +4,6 @@ use Rattle.syntax.specs.Words.{kind_of}
 use Rattle.syntax.specs.Parts.{part_count}
 use Rattle.words.specs.Reach.{outer_count}
 
--- the words from an index to another are w, those before are as they were
-pub record Filled (old new : List ℕ) (start end w : ℕ) : Type 0 where
-  pub kept : (j : ℕ) → j < start → get_or new j 0 ≡ get_or old j 0
-  pub set_to : (j : ℕ) → start ≤ j → j < end → get_or new j 0 ≡ w
-
 -- from `last` on stand the depths of a node's n parts, the last part's first; the inner ones are all but the first o
 pub record Opened (old new : List ℕ) (last n o depth : ℕ) : Type 0 where
   pub kept : (j : ℕ) → j < last → get_or new j 0 ≡ get_or old j 0

@@ -1,7 +1,7 @@
 -- What a node's kind decides, as the code answers it, and a call word's argument types by place.
 use Rattle.std.specs.Prelude.{◌≡◌, ℕ, ◌-◌, ◌≤◌, ◌<◌, cond, ◌||◌, List, leb, eqb, get_or}
 use Rattle.std.proofs.Math.Option.{Option, some, none}
-use Rattle.syntax.specs.Maybe.{given}
+use Rattle.syntax.specs.Maybe.{given, option_of}
 use Rattle.syntax.specs.Words.{argument_fields}
 use Rattle.syntax.specs.Kinds.{parts_of_kind, uses_number, uses_type, binds_of, free_of}
 use Rattle.words.specs.declared.shape.Shape.{Shape}
@@ -15,8 +15,7 @@ pub record Shaping (k : ℕ) (s : Shape) : Type 0 where
   pub parts : s.parts ≡ parts_of_kind 0 k
   pub number : s.number ≡ uses_number k
   pub ty : s.ty ≡ uses_type k
-  pub binds : s.binds ≡ binds_of k
-  pub free : s.free ≡ free_of k
+  pub binder : s.binder ≡ option_of (given (binds_of k) (free_of k))
 
 -- how many of the n parts of a node of kind k are operands, the first ones: none of a function's and a let's, a case's subject, and all
 -- parts of any other node

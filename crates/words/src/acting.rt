@@ -8,23 +8,12 @@ use crate::fields::acts;
 pub fn call_acts(calls: &[u64], n: u64) -> bool
     ensures { result ≡ acts_in calls.now n }
 {
-    let i = n as usize;
-    if i < calls.len() {
-        return acts(calls[i]);
-    }
-    false
+    calls.get(n as usize).is_some_and(|&w| acts(w))
 }
 
 // whether some call of the table acts
 pub fn some_acts(calls: &[u64]) -> bool
     ensures { result ≡ some_acts calls.now }
 {
-    let mut i: usize = 0;
-    while i < calls.len() {
-        if acts(calls[i]) {
-            return true;
-        }
-        i += 1;
-    }
-    false
+    calls.iter().any(|&w| acts(w))
 }

@@ -1,22 +1,10 @@
 // The depths of the parts still to come, in a buffer: the next part's stands last, behind those of the parts after it.
 ghost use Rattle.std.specs.Prelude.{◌+◌, ◌≤◌, length};
 ghost use Rattle.syntax.specs.Parts.{part_count};
-ghost use Rattle.words.specs.Depths.{Filled, OpensParts};
+ghost use Rattle.words.specs.Depths.{OpensParts};
 
 use crate::fields::kind;
 use crate::shape::{last_binder, middle_binder, part_count};
-
-// sets the words from an index to another
-fn fill(words: &mut [u64], start: usize, end: usize, w: u64)
-    requires { (start ≤ end) × (end ≤ length words.old) }
-    ensures { Filled words.old words.new start end w }
-{
-    let mut i: usize = start;
-    while i < end {
-        words[i] = w;
-        i += 1;
-    }
-}
 
 // puts the depths of a node's parts in the place of its own, which is the last; answers how many there are then. Where there are
 // parts, three are written whether or not the node has as many: that is faster than asking.
@@ -33,8 +21,7 @@ pub fn open_parts(calls: &[u64], w: u64, depth: u64, pending: &mut [u64], last: 
     pending[last + 1] = depth + middle_binder(k);
     pending[last + 2] = depth;
     if 3 < n {
-        fill(pending, last + 3, last + n, depth);
-        return last + n;
+        pending[last + 3..last + n].fill(depth);
     }
     last + n
 }

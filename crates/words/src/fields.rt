@@ -53,17 +53,14 @@ pub fn result(w: u64) -> u64
 }
 
 // a call word's argument type at a place, 0 past the third
+#[tactic(auto, unfolding(crate::specs::Shapes::argument_of))]
 pub fn argument(w: u64, i: usize) -> u64
     ensures { result ≡ argument_of w i }
 {
-    if i == 0 {
-        return w / 1073741824 % 32768;
+    match i {
+        0 => w / 1073741824 % 32768,
+        1 => w / 32768 % 32768,
+        2 => w % 32768,
+        _ => 0,
     }
-    if i == 1 {
-        return w / 32768 % 32768;
-    }
-    if i == 2 {
-        return w % 32768;
-    }
-    0
 }

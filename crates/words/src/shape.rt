@@ -2,7 +2,7 @@
 ghost use Rattle.std.specs.Prelude.{◌≡◌, ◌≤◌, eqb};
 ghost use Rattle.syntax.specs.Kinds.{binders_at, binds_of};
 ghost use Rattle.syntax.specs.Tables.{arity as arity_of, known_arity};
-ghost use Rattle.syntax.specs.Parts.{part_count};
+ghost use Rattle.syntax.specs.Parts.{known_parts, part_count};
 ghost use Rattle.syntax.specs.Values.{counts};
 ghost use Rattle.words.specs.Shapes.{Shaping, Tabled, Owes, owed_by_kind, owed_by_count, value_parts, operand_count};
 ghost use Rattle.words.specs.Reach.{outer_count};
@@ -10,89 +10,67 @@ ghost use Rattle.words.specs.Reach.{outer_count};
 use crate::fields::{arguments, count, kind, number};
 
 // parts: how many, a call's aside; number, ty: whether these fields are used;
-// binds: whether it binds a variable; free: how many of its parts come before the binder
-#[derive(Drop)]
+// binder: if it binds a variable, how many of its parts come before the binder
+#[derive(Clone, Copy)]
 pub struct Shape {
     pub parts: usize,
     pub number: bool,
     pub ty: bool,
-    pub binds: bool,
-    pub free: usize,
-}
-
-fn shaped(parts: usize, number: bool, ty: bool, binds: bool, free: usize) -> Shape
-    ensures { result ≡ record { parts = parts; number = number; ty = ty; binds = binds; free = free } }
-{
-    Shape {
-        parts: parts,
-        number: number,
-        ty: ty,
-        binds: binds,
-        free: free,
-    }
+    pub binder: Option<usize>,
 }
 
 pub fn shape_of(k: u64) -> Shape
     ensures { Shaping k result }
 {
-    match k {
-        0..=1 => shaped(0, true, false, false, 0),
-        2 => shaped(1, false, true, true, 0),
-        3 => shaped(2, false, false, false, 0),
-        4 => shaped(2, false, false, true, 1),
-        5 => shaped(2, false, true, false, 0),
-        6..=7 => shaped(1, false, false, false, 0),
-        8..=9 => shaped(1, false, true, false, 0),
-        10 => shaped(3, false, false, true, 1),
-        11 => shaped(0, false, true, false, 0),
-        _ => shaped(0, false, false, false, 0),
+    let (parts, number, ty, binder) = match k {
+        0..=1 => (0, true, false, None),
+        2 => (1, false, true, Some(0)),
+        3 => (2, false, false, None),
+        4 => (2, false, false, Some(1)),
+        5 => (2, false, true, None),
+        6..=7 => (1, false, false, None),
+        8..=9 => (1, false, true, None),
+        10 => (3, false, false, Some(1)),
+        11 => (0, false, true, None),
+        _ => (0, false, false, None),
+    };
+    Shape {
+        parts,
+        number,
+        ty,
+        binder,
     }
 }
 
 // how many binders of a node its part j stands under: none or one
+#[tactic(auto, unfolding(syntax::specs::Kinds::binders_at))]
 pub fn binders(k: u64, j: usize) -> usize
     ensures { (result ≡ binders_at k j) × (result ≤ 1) }
 {
-    let s = shape_of(k);
-    if s.binds {
-        if j < s.free {
-            return 0;
-        }
-        return 1;
-    }
-    0
+    usize::from(shape_of(k).binder.is_some_and(|free| free <= j))
 }
 
 // how many of the n parts of a node its binder does not reach: the first ones
+#[tactic(auto, unfolding(crate::specs::Reach::outer_count))]
 pub fn outer_count(k: u64, n: usize) -> usize
     ensures { result ≡ outer_count k n }
 {
-    let s = shape_of(k);
-    if s.binds {
-        return s.free;
-    }
-    n
+    shape_of(k).binder.unwrap_or(n)
 }
 
 // how many of the n parts of a node are operands: those that its binder does not reach, but none of a let
+#[tactic(auto, unfolding(crate::specs::Shapes::operand_count, crate::specs::Reach::outer_count))]
 pub fn operand_count(k: u64, n: usize) -> usize
     ensures { result ≡ operand_count k n }
 {
-    if k == 4 {
-        return 0;
-    }
-    outer_count(k, n)
+    if k == 4 { 0 } else { outer_count(k, n) }
 }
 
 // whether a node's last part stands under its binder: 1 or 0
 pub fn last_binder(k: u64) -> u64
     ensures { (result ≡ counts (binds_of k)) × (result ≤ 1) }
 {
-    let s = shape_of(k);
-    if s.binds {
-        return 1;
-    }
-    0
+    u64::from(shape_of(k).binder.is_some())
 }
 
 // the same of the part before it: where a binder reaches all but the first of three, it does
@@ -100,12 +78,7 @@ pub fn middle_binder(k: u64) -> u64
     ensures { (result ≡ counts (eqb k 10)) × (result ≤ 1) }
 {
     let s = shape_of(k);
-    if s.binds {
-        if s.parts == 3 {
-            return 1;
-        }
-    }
-    0
+    u64::from(s.binder.is_some() && s.parts == 3)
 }
 
 // stands in a table for a number of parts that is not known: as many as there are words at most
@@ -139,27 +112,44 @@ pub fn value_parts() -> [u8; 16]
 pub fn arity(calls: &[u64], n: u64) -> usize
     ensures { (result ≡ arity_of calls.now n) × (result ≤ 15) }
 {
-    let i = n as usize;
-    if i < calls.len() {
-        return arguments(calls[i]) as usize;
-    }
-    0
+    calls.get(n as usize).map_or(0, |&w| arguments(w) as usize)
 }
 
 // the same where it is known, and else `many` or more: past the table, and where the count is malformed. `arities` is `argument_counts()`.
+#[tactic(auto, using(crate::proofs::PartCounts::owed_inside, crate::proofs::PartCounts::owed_past))]
 pub fn known_arity(calls: &[u64], arities: &[u16; 16], n: u64, many: usize) -> usize
     requires { Tabled owed_by_count arities.now × (many ≤ 8192) }
     ensures { Owes many (known_arity calls.now n) result × (result ≤ 8192) }
 {
-    let i = n as usize;
-    if i < calls.len() {
-        return arities[count(calls[i]) as usize] as usize;
+    match calls.get(n as usize) {
+        Some(&w) => usize::from(arities[count(w) as usize]),
+        None => many,
     }
-    many
+}
+
+// how many parts a word's node has if that is known, and else `many` or more. The tables are `part_counts()` and `argument_counts()`.
+#[tactic(auto, using(crate::proofs::PartCounts::owed_by_call, crate::proofs::PartCounts::owed_by_kind_lem))]
+pub fn known_parts(
+    calls: &[u64],
+    counts: &[u16; 16],
+    arities: &[u16; 16],
+    w: u64,
+    many: usize,
+) -> usize
+    requires { Tabled owed_by_kind counts.now × Tabled owed_by_count arities.now × (many ≤ 8192) }
+    ensures { Owes many (known_parts calls.now w) result × (result ≤ 8192) }
+{
+    let k = kind(w);
+    if k == 1 {
+        known_arity(calls, arities, number(w), many)
+    } else {
+        usize::from(counts[k as usize])
+    }
 }
 
 // how many parts a word's node has: a call's are in the calls' table, any other's in a number, a hexadecimal digit for each kind,
 // the last for kind 0; that is faster than the match
+#[tactic(auto, using(crate::proofs::PartCounts::of_call, crate::proofs::PartCounts::of_kind))]
 pub fn part_count(calls: &[u64], w: u64) -> usize
     ensures { (result ≡ part_count calls.now w) × (result ≤ 15) }
 {

@@ -12,4 +12,4 @@ pub record Passed (counts : List ℕ) (i : ℕ) (c : List ℕ) (k : ℕ) : Type 
   pub behind : i < k → c ≡ raised counts i
 
 abbrev pub invariant-loop-k : goal.invariant-loop-k
-invariant-loop-k l = Passed l.initial.c l.i l.c l.k
+invariant-loop-k l = Passed l.initial.raised l.i l.raised l.k
