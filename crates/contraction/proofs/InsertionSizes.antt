@@ -5,6 +5,7 @@ use mathlib.Core.Path.{◌≡◌, refl, sym, ◌∙◌, ap, ap₂, subst}
 use mathlib.Core.Bool.{Bool, true, false, ◌&&◌}
 use mathlib.Core.List.{List, ◌++◌}
 use lib.ListN.{length, get_or}
+use Rattle.std.specs.Prelude.{Option, Some, IfSome, IsSome}
 use Rattle.syntax.specs.Maybe.{is_some}
 use Rattle.syntax.specs.Term.{Term, Terms, done, arg, node}
 use Rattle.syntax.specs.Encoding.{encode_all, size}
@@ -25,7 +26,7 @@ use Rattle.words.proofs.Traversal.{front_of, from_length}
 use Rattle.words.proofs.PartsAt.{PartsAt, parts_of_lem, part_here, parts_past}
 use Rattle.words.proofs.Rows.{row_holds, row_behind}
 use Rattle.search.specs.Operands.{all_values, FirstComputation, FindsOperand}
-use Rattle.search.specs.declared.fits.FoundOperand.{FoundOperand}
+use Rattle.search.specs.declared.fits.Operand.{Operand}
 use Rattle.search.proofs.ValueByNode.{apart}
 use Rattle.contraction.specs.declared.plan.Plan.TheVariants.{Insert as InsertPlan}
 use Rattle.contraction.specs.Sizes.{StartsAt}
@@ -59,7 +60,12 @@ unfolding joined count part_size
 size_behind done ts p = refl
 size_behind (arg t fs) ts p = size_behind fs ts p
 
-module _ {calls words : List ℕ} {r : FoundOperand} where
+-- let insertion fits, so there is such a part
+pub operand_found : {calls words : List ℕ} {o : Option Operand} → FindsOperand calls words o → StartsRedex LetInsertion calls words → IsSome o
+unfolding fire
+operand_found f s = (f.told s.start.term s.start.rest s.start.holds).found_is ∙ ap is_some s.fires
+
+module _ {calls words : List ℕ} {r : Operand} where
   module _ {x : Term} {rest : List ℕ} (h : Holds calls words x rest) (c : FirstComputation x r) where
     -- the part that is bound, and those behind it
     operand_at : PartsAt calls words r.start (arg c.part c.later) rest
@@ -76,19 +82,19 @@ module _ {calls words : List ℕ} {r : FoundOperand} where
         omega (arith, (front_of h).parts, ap count c.parts, count_joined c.front (arg c.part c.later), c.index_is)
 
   -- a redex of let insertion at the front
-  module _ (f : FindsOperand calls words r) (s : StartsRedex LetInsertion calls words) where
-    found : r.found ≡ true
-    unfolding fire
-    found = (f.told s.start.term s.start.rest s.start.holds).found_is ∙ ap is_some s.fires
-
+  module _ {o : Option Operand} (f : FindsOperand calls words o) (found : o ≡ Some r) (s : StartsRedex LetInsertion calls words) where
     first : {x : Term} {rest : List ℕ} → Holds calls words x rest → FirstComputation x r
-    first {x} {rest} h = (f.told x rest h).first found
+    first {x} {rest} h = subst (λ (o : Option Operand). IfSome o (λ r. FirstComputation x r)) found (f.told x rest h).first
 
     pub operand_starts : StartsAt calls words r.start
     operand_starts =
         let h = s.start.holds in
         let b = operand_at h (first h) in
         record { inside = omega (arith, b.inside); start = record { term = (first h).part; rest = _; holds = part_here calls words b } }
+
+    -- it is one of the n parts
+    pub index_in : {n : ℕ} → n ≡ part_count calls (get_or words 0 0) → r.index + 1 ≤ n
+    index_in ne = let h = s.start.holds in omega (arith, ne, count_by_later h (first h))
 
     -- the part that is bound has m words
     module _ {m : ℕ} (z : Sized calls (from words r.start) m) where
@@ -143,9 +149,6 @@ module _ {calls words : List ℕ} {r : FoundOperand} where
       operand_inside = omega (arith, (later_at s.start.holds).inside)
 
       module _ {n : ℕ} (ne : n ≡ part_count calls (get_or words 0 0)) where
-        pub index_in : r.index + 1 ≤ n
-        index_in = let h = s.start.holds in omega (arith, ne, count_by_later h (first h))
-
         later_holds : {x : Term} {rest : List ℕ} (h : Holds calls words x rest)
             → HoldsAll calls (from words (r.start + m)) (n - 1 - r.index) (first h).later rest
         later_holds h = row_holds calls words (later_at h) (n - 1 - r.index) (omega (arith, ne, count_by_later h (first h)))

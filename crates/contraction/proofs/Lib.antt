@@ -5,4 +5,3 @@ pub mod NodeUnderBinder
 pub mod Contracta
 pub mod NamedPart
 pub mod InsertionSizes
-pub mod SameCase

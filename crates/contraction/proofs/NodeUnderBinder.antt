@@ -89,17 +89,18 @@ pub record Inserting (calls src old new : List ℕ) (at i s k n m o j : ℕ) : T
   pub room : at + 1 + length (encode_all (insert_parts k i 0 (node going.start.term).parts)) ≤ length old
   pub len : length new ≡ length old
 
-module _ (calls src old : List ℕ) (at i s k : ℕ) (ke : k ≡ kind_of (get_or src 0 0)) where
-  kind_is : {t : Term} {rest : List ℕ} → Holds calls src t rest → (node t).kind ≡ k
-  kind_is h = sym (front_of h).kind ∙ sym ke
+kind_is : {calls src : List ℕ} {k : ℕ} {t : Term} {rest : List ℕ} → k ≡ kind_of (get_or src 0 0) → Holds calls src t rest
+    → (node t).kind ≡ k
+kind_is e h = sym (front_of h).kind ∙ sym e
 
+module _ {calls src : List ℕ} (old : List ℕ) {at i s k : ℕ} (ke : k ≡ kind_of (get_or src 0 0)) where
   -- before the first part
-  pub insert_enter : (n w : ℕ) → NodeRoom calls src i s (length old) at → n ≡ part_count calls (get_or src 0 0)
+  pub insert_enter : (w : ℕ) {n : ℕ} → NodeRoom calls src i s (length old) at → n ≡ part_count calls (get_or src 0 0)
       → Inserting calls src (set old at w) (set old at w) at i s k n 1 1 0
   unfolding size
-  insert_enter n w r e =
+  insert_enter w {n} r e =
       let x = r.start.term in
-      let all = inserted_words i k x r.node r.inserted (kind_is r.start.holds) in
+      let all = inserted_words i k x r.node r.inserted (kind_is ke r.start.holds) in
       record {
         low = omega arith;
         going = enter calls src Q n r.start e start;
@@ -120,28 +121,29 @@ module _ (calls src old : List ℕ) (at i s k : ℕ) (ke : k ≡ kind_of (get_or
       }
 
   -- after the last part
-  pub insert_leave : (n m o j : ℕ) (new : List ℕ) → Inserting calls src (set old at (get_or src 0 0)) new at i s k n m o j → n ≤ j
+  pub insert_leave : {n m o j : ℕ} {new : List ℕ} → Inserting calls src (set old at (get_or src 0 0)) new at i s k n m o j → n ≤ j
       → InsertsNode calls src i old new at
   unfolding insert_parts encode
-  insert_leave n m o j new g ge = record {
+  insert_leave g ge = record {
     told = λ x z rest h e.
         let q = leave calls src g.going ge x rest h in
-        let all = inserted_words i k x z e (kind_is h) in
+        let all = inserted_words i k x z e (kind_is ke h) in
         (write_all q.1.writing).0 ∙ rw (all, add-one at, first_word h);
   }
 
 module _ {calls src old new : List ℕ} {at i s k n m o j : ℕ} (g : Inserting calls src old new at i s k n m o j) (lt : j < n)
-    (b : ℕ) (be : b ≡ binders_at k j) (here : Bool) (he : here ≡ eqb j i) where
-  part_is : (t : Term) → insert_part here b t ≡ insert_part (eqb j i) (binders_at k j) t
-  part_is t = ap₂ (λ (x : Bool) (c : ℕ). insert_part x c t) he be
+    {b : ℕ} (be : b ≡ binders_at k j) where
+  part_is : (t : Term) → insert_part (eqb j i) b t ≡ insert_part (eqb j i) (binders_at k j) t
+  part_is t = ap (λ (c : ℕ). insert_part (eqb j i) c t) be
 
   -- the part that the new variable stands for has s words
-  next_size : (part : Term) (later : Terms) → ((d : ℕ) → j + d ≡ i → s ≡ part_size (arg part later) d) → here ≡ true → s ≡ size part
+  next_size : (part : Term) (later : Terms) → ((d : ℕ) → j + d ≡ i → s ≡ part_size (arg part later) d) → eqb j i ≡ true
+      → s ≡ size part
   unfolding part_size
-  next_size part later f e = f 0 (omega (arith, eqb-true j i (sym he ∙ e)))
+  next_size part later f e = f 0 (omega (arith, eqb-true j i e))
 
   -- the next part has room
-  pub insert_room : PartRoom calls (from src m) here s (length new) (at + o) b
+  pub insert_room : PartRoom calls (from src m) (eqb j i) s (length new) (at + o) b
   unfolding insert_parts encode size
   insert_room =
       let u = upcoming calls src g.going lt in
@@ -154,7 +156,7 @@ module _ {calls src old new : List ℕ} {at i s k n m o j : ℕ} (g : Inserting 
         room = omega (arith, g.room, g.len, g.low, write_room (encode y) _ u.to_do.writing, ap size (part_is u.part));
       }
 
-  module _ (new' : List ℕ) (r : Moved) (a : InsertsPart calls (from src m) here new new' (at + o) b r) where
+  module _ {new' : List ℕ} {r : Moved} (a : InsertsPart calls (from src m) (eqb j i) new new' (at + o) b r) where
     inserted : Does calls src (InsertedTo old new at i s k j (o - 1)) (InsertedTo old new' at i s k (j + 1) (o + r.wrote - 1)) m r.read
     unfolding insert_parts encode size part_size
     inserted t rest h part later holds q =

@@ -35,6 +35,14 @@ pub data TwoNodeRule : Rule → ℕ → Type 0 where
   of_left : TwoNodeRule LeftCase 3
   of_right : TwoNodeRule RightCase 3
 
+two_parts : {r : Rule} {n : ℕ} → TwoNodeRule r n → 2 ≤ n
+two_parts of_let = omega arith
+two_parts of_apply = omega arith
+two_parts of_first = omega arith
+two_parts of_second = omega arith
+two_parts of_left = omega arith
+two_parts of_right = omega arith
+
 -- the rules whose redex is a let alone
 pub data LetRule : Rule → Type 0 where
   of_value : LetRule LetValue
@@ -53,7 +61,7 @@ module _ {calls words : List ℕ} where
   two_node_row of_right (f_right q) h = record { parts = _; rest = _; at = parts_open calls words (parts_of_lem calls words h); many = refl }
 
   -- the row of a redex at the front
-  pub redex_row : {r : Rule} {n : ℕ} → TwoNodeRule r n → StartsRedex r calls words → Row calls words 2 n
+  redex_row : {r : Rule} {n : ℕ} → TwoNodeRule r n → StartsRedex r calls words → Row calls words 2 n
   redex_row {r} i s = two_node_row i (fired r s.start.term s.contractum s.fires) s.start.holds
 
   -- of a let of a case, behind the subject's word
@@ -73,7 +81,7 @@ module _ {calls words : List ℕ} where
   bound_row of_value (f_value q) h = record { parts = _; rest = _; at = parts_of_lem calls words h; many = refl }
   bound_row of_drop (f_drop p q z) h = record { parts = _; rest = _; at = parts_of_lem calls words h; many = refl }
 
-  pub let_row : {r : Rule} → LetRule r → StartsRedex r calls words → Row calls words 1 2
+  let_row : {r : Rule} → LetRule r → StartsRedex r calls words → Row calls words 1 2
   let_row {r} o s = bound_row o (fired r s.start.term s.contractum s.fires) s.start.holds
 
   -- the first, the second and the third part of a row
@@ -90,6 +98,17 @@ module _ {calls words : List ℕ} where
   row_third {a = a} {b = b} r h s =
       let behind = row_next calls words r (omega (arith, h)) a s.first in
       row_first (row_next calls words behind (omega (arith, h)) b s.second) (omega (arith, h))
+
+  -- of a redex whose parts stand in such a row: its first two parts, and its third
+  pub two_starts : {r : Rule} {n : ℕ} → TwoNodeRule r n → StartsRedex r calls words → StartsTwo calls words 2
+  two_starts i s = row_two (redex_row i s) (two_parts i)
+
+  pub third_starts : {r : Rule} {a b : ℕ} → TwoNodeRule r 3 → StartsRedex r calls words → SizedTwo calls words 2 a b
+      → StartsAt calls words (2 + a + b)
+  third_starts i s z = row_third (redex_row i s) (omega arith) z
+
+  pub let_starts : {r : Rule} → LetRule r → StartsRedex r calls words → StartsTwo calls words 1
+  let_starts o s = row_two (let_row o s) (omega arith)
 
   -- where a part ends
   pub sized_inside : {i n : ℕ} → StartsAt calls words i → Sized calls (from words i) n → i + n ≤ length words

@@ -14,6 +14,7 @@ struct Moved {
 }
 
 // a part moves too, its variables from `cut` on raised, or the new variable stands for it; `size` is then how many words it has
+#[tactic(auto, using(crate::proofs::NodeUnderBinder::part_replaced, crate::proofs::NodeUnderBinder::part_moved))]
 fn insert_part(
     calls: &[u64],
     t: &[u64],
@@ -30,13 +31,14 @@ fn insert_part(
 {
     if here {
         dst[at] = 0;
-        return Moved {
+        Moved {
             read: size,
             wrote: 1,
-        };
+        }
+    } else {
+        let n = rename_into(calls, t, dst, at, cut, 1, pending);
+        Moved { read: n, wrote: n }
     }
-    let n = rename_into(calls, t, dst, at, cut, 1, pending);
-    Moved { read: n, wrote: n }
 }
 
 // the node at the front, with the new variable for the part of an index, which has `size` words
@@ -56,15 +58,21 @@ pub fn insert_node(
     dst[at] = w;
     let k = kind(w);
     let n = part_count(calls, w);
-    let mut m: usize = 1;
-    let mut o: usize = 1;
-    let mut j: usize = 0;
-    while j < n {
+    let mut read: usize = 1;
+    let mut wrote: usize = 1;
+    for j in 0..n {
         let cut = binders(k, j);
-        let here = j == index;
-        let part = insert_part(calls, &t[m..], here, size, dst, at + o, cut, pending);
-        m = m + part.read;
-        o = o + part.wrote;
-        j += 1;
+        let part = insert_part(
+            calls,
+            &t[read..],
+            j == index,
+            size,
+            dst,
+            at + wrote,
+            cut,
+            pending,
+        );
+        read += part.read;
+        wrote += part.wrote;
     }
 }

@@ -6,21 +6,39 @@ ghost use Rattle.contraction.specs.Plans.{StartsRedex, Measures, Uncovers, Acts}
 
 use crate::sizes::{body_with, size_from, substituted, two_sizes, uses_from};
 use reduction::Rule;
-use search::fits::first_computation;
+use search::fits::{Operand, first_computation};
 use words::ends::parts_size;
 use words::shape::part_count;
 
-// Substitute(body, value, size): where they start, and how many words the value has. Copy(start): one part stays. MoveLet(second, third):
-// where the inner and the outer body start; the inner bound part starts at 2. MoveCase(right, third): where the right branch and the outer
-// body start; the subject is the word at 2, the left branch starts at 3. Insert(index, start, size): which part is bound, where it starts,
-// how many words it has.
+// how what a redex becomes is put together, from parts that start at these indices
 #[derive(Drop)]
 pub enum Plan {
-    Substitute(usize, usize, usize),
-    Copy(usize),
-    MoveLet(usize, usize),
-    MoveCase(usize, usize),
-    Insert(usize, usize, usize),
+    // the body with the value, which has `size` words, for its variable
+    Substitute {
+        body: usize,
+        value: usize,
+        size: usize,
+    },
+    // one part as it is
+    Copy {
+        start: usize,
+    },
+    // of a let of a let, the inner and the outer body; the inner bound part starts at 2
+    MoveLet {
+        second: usize,
+        third: usize,
+    },
+    // of a let of a case, the right branch and the outer body; the subject is the word at 2, and the left branch starts at 3
+    MoveCase {
+        right: usize,
+        third: usize,
+    },
+    // the node, under a let that binds its part of that index, which has `size` words
+    Insert {
+        index: usize,
+        start: usize,
+        size: usize,
+    },
 }
 
 // how what the redex becomes is written, the words read and the words written
@@ -48,7 +66,11 @@ fn apply(calls: &[u64], t: &[u64], pending: &mut [u64]) -> Measured
     let value = 2 + body.end;
     let size = size_from(calls, t, value);
     Measured {
-        plan: Plan::Substitute(2, value, size),
+        plan: Plan::Substitute {
+            body: 2,
+            value,
+            size,
+        },
         read: value + size,
         wrote: substituted(body.end, body.uses, size),
     }
@@ -63,7 +85,11 @@ fn let_value(calls: &[u64], t: &[u64], pending: &mut [u64]) -> Measured
     let start = 1 + size;
     let body = body_with(calls, t, start, size, pending);
     Measured {
-        plan: Plan::Substitute(start, 1, size),
+        plan: Plan::Substitute {
+            body: start,
+            value: 1,
+            size,
+        },
         read: start + body.end,
         wrote: body.wrote,
     }
@@ -88,7 +114,11 @@ fn left_case(calls: &[u64], t: &[u64], pending: &mut [u64]) -> Measured
     let right = left + body.end;
     let other = size_from(calls, t, right);
     Measured {
-        plan: Plan::Substitute(left, 2, size),
+        plan: Plan::Substitute {
+            body: left,
+            value: 2,
+            size,
+        },
         read: right + other,
         wrote: body.wrote,
     }
@@ -104,7 +134,11 @@ fn right_case(calls: &[u64], t: &[u64], pending: &mut [u64]) -> Measured
     let right = left + parts.second;
     let body = body_with(calls, t, right, parts.first, pending);
     Measured {
-        plan: Plan::Substitute(right, 2, parts.first),
+        plan: Plan::Substitute {
+            body: right,
+            value: 2,
+            size: parts.first,
+        },
         read: right + body.end,
         wrote: body.wrote,
     }
@@ -117,7 +151,7 @@ fn first(calls: &[u64], t: &[u64]) -> Measured
 {
     let halves = two_sizes(calls, t, 2);
     Measured {
-        plan: Plan::Copy(2),
+        plan: Plan::Copy { start: 2 },
         read: 2 + halves.first + halves.second,
         wrote: halves.first,
     }
@@ -131,7 +165,7 @@ fn second(calls: &[u64], t: &[u64]) -> Measured
     let halves = two_sizes(calls, t, 2);
     let start = 2 + halves.first;
     Measured {
-        plan: Plan::Copy(start),
+        plan: Plan::Copy { start },
         read: start + halves.second,
         wrote: halves.second,
     }
@@ -147,7 +181,7 @@ fn let_of_let(calls: &[u64], t: &[u64]) -> Measured
     let third = second + parts.second;
     let end = third + size_from(calls, t, third);
     Measured {
-        plan: Plan::MoveLet(second, third),
+        plan: Plan::MoveLet { second, third },
         read: end,
         wrote: end,
     }
@@ -164,7 +198,7 @@ fn let_of_case(calls: &[u64], t: &[u64]) -> Measured
     let body = size_from(calls, t, third);
     let end = third + body;
     Measured {
-        plan: Plan::MoveCase(right, third),
+        plan: Plan::MoveCase { right, third },
         read: end,
         wrote: end + 1 + body,
     }
@@ -175,20 +209,20 @@ fn let_insertion(calls: &[u64], t: &[u64]) -> Measured
     requires { StartsRedex LetInsertion calls.now t.now × (length t.now ≤ 8192) }
     ensures { Measures LetInsertion calls.now t.now result }
 {
-    let operand = first_computation(calls, t);
-    let start = operand.start;
+    let Operand { index, start } = first_computation(calls, t).unwrap();
     let size = size_from(calls, t, start);
     let behind = start + size;
     let n = part_count(calls, t[0]);
-    let end = behind + parts_size(calls, &t[behind..], n - 1 - operand.index);
+    let end = behind + parts_size(calls, &t[behind..], n - 1 - index);
     Measured {
-        plan: Plan::Insert(operand.index, start, size),
+        plan: Plan::Insert { index, start, size },
         read: end,
         wrote: end + 2,
     }
 }
 
 // a redex of a rule: what is done with it
+#[tactic(auto, using(crate::specs::Plans::is_rewritten, crate::specs::Plans::is_lowered))]
 pub fn measure(rule: Rule, calls: &[u64], t: &[u64], pending: &mut [u64]) -> Action
     requires { StartsRedex rule calls.now t.now × (length t.now ≤ 8192) × (8194 ≤ length pending.old) }
     ensures { Acts rule calls.now t.now result }

@@ -45,10 +45,7 @@ pub fn two_sizes(calls: &[u64], t: &[u64], at: usize) -> TwoSizes
 {
     let first = size_from(calls, t, at);
     let second = size_from(calls, t, at + first);
-    TwoSizes {
-        first: first,
-        second: second,
-    }
+    TwoSizes { first, second }
 }
 
 // where the part that starts at an index ends, counted from there, and how often it uses the variable that its node binds
@@ -61,20 +58,19 @@ pub fn uses_from(calls: &[u64], t: &[u64], at: usize, pending: &mut [u64]) -> Us
 
 // the body that starts at an index, with a value of `size` words for the variable that its node binds. A value of one word leaves it as
 // long as it is, so uses are counted only for longer ones.
+#[tactic(auto, using(crate::proofs::RedexSizes::counted_body, crate::proofs::RedexSizes::word_body))]
 pub fn body_with(calls: &[u64], t: &[u64], at: usize, size: usize, pending: &mut [u64]) -> Body
     requires { StartsAt calls.now t.now at × (length t.now ≤ 8192) × (size ≤ 8192) × (8194 ≤ length pending.old) }
     ensures { BodyWith calls.now (from t.now at) size result }
 {
     if size == 1 {
         let end = size_from(calls, t, at);
-        return Body {
-            end: end,
-            wrote: end,
-        };
-    }
-    let body = uses_from(calls, t, at, pending);
-    Body {
-        end: body.end,
-        wrote: substituted(body.end, body.uses, size),
+        Body { end, wrote: end }
+    } else {
+        let Uses { end, uses } = uses_from(calls, t, at, pending);
+        Body {
+            end,
+            wrote: substituted(end, uses, size),
+        }
     }
 }

@@ -9,6 +9,12 @@ use binding::rename::rename_into;
 use binding::substitute::substitute_into;
 use words::moves::copy;
 
+// the word of a let, which has a kind and no other field
+const LET: u64 = 4 << 60;
+
+// the word of a case
+const CASE: u64 = 10 << 60;
+
 // a let that binds the part from `start` to `end`, over the body of another let that moves under it; answers its size
 fn let_over(
     calls: &[u64],
@@ -25,12 +31,13 @@ fn let_over(
     ensures { WritesLet calls.now t.now start end body dst.old dst.new at result }
 {
     let size = end - start;
-    dst[at] = 4611686018427387904;
+    dst[at] = LET;
     copy(t, start, size, dst, at + 1);
     let moved = rename_into(calls, &t[body..], dst, at + 1 + size, 1, 1, pending);
     1 + size + moved
 }
 
+// a body with a value for its variable
 fn substitute(
     calls: &[u64],
     t: &[u64],
@@ -61,7 +68,7 @@ fn move_let(
         × (8194 ≤ length pending.old) }
     ensures { WritesPlan calls.now t.now (MoveLet second third) dst.old dst.new }
 {
-    dst[0] = 4611686018427387904;
+    dst[0] = LET;
     copy(t, 2, second - 2, dst, 1);
     let_over(calls, t, second, third, third, dst, second - 1, pending);
 }
@@ -79,7 +86,7 @@ fn move_case(
         × (8194 ≤ length pending.old) }
     ensures { WritesPlan calls.now t.now (MoveCase right third) dst.old dst.new }
 {
-    dst[0] = 11529215046068469760;
+    dst[0] = CASE;
     dst[1] = t[2];
     let left = let_over(calls, t, 3, right, third, dst, 2, pending);
     let_over(calls, t, right, third, third, dst, 2 + left, pending);
@@ -99,7 +106,7 @@ fn insert_let(
         × (8194 ≤ length pending.old) }
     ensures { WritesPlan calls.now t.now (Insert index start size) dst.old dst.new }
 {
-    dst[0] = 4611686018427387904;
+    dst[0] = LET;
     copy(t, start, size, dst, 1);
     insert_node(calls, t, index, size, dst, 1 + size, pending);
 }
@@ -118,12 +125,14 @@ pub fn write(
     ensures { WritesPlan calls.now t.now plan dst.old dst.new }
 {
     match plan {
-        Plan::Substitute(body, value, size) => substitute(
+        Plan::Substitute { body, value, size } => substitute(
             calls, t, body, value, size, dst, pending,
         ),
-        Plan::Copy(start) => copy(t, start, wrote, dst, 0),
-        Plan::MoveLet(second, third) => move_let(calls, t, second, third, dst, pending),
-        Plan::MoveCase(right, third) => move_case(calls, t, right, third, dst, pending),
-        Plan::Insert(index, start, size) => insert_let(calls, t, index, start, size, dst, pending),
+        Plan::Copy { start } => copy(t, start, wrote, dst, 0),
+        Plan::MoveLet { second, third } => move_let(calls, t, second, third, dst, pending),
+        Plan::MoveCase { right, third } => move_case(calls, t, right, third, dst, pending),
+        Plan::Insert { index, start, size } => insert_let(
+            calls, t, index, start, size, dst, pending,
+        ),
     }
 }

@@ -1,54 +1,31 @@
 -- The answer of `is_normal` from that of the checks: a term that is accepted is typed, so the grammar says whether a rule fits.
-use Prim.Native.Nat.{ℕ, ◌≤◌}
-use native.Mathlib.Omega.{arith}
+use Prim.Native.Nat.{ℕ}
 use mathlib.Core.Path.{◌≡◌, sym, ◌∙◌, ap}
-use mathlib.Core.Bool.{Bool, false}
+use mathlib.Core.Bool.{Bool}
 use mathlib.Core.List.{List, []}
-use lib.ListN.{replicate, length-replicate}
+use Rattle.std.specs.Prelude.{Ok, Err}
 use Rattle.syntax.specs.Tables.{Tables}
 use Rattle.typing.specs.Refusals.{elaborate, other_limit}
-use Rattle.typing.proofs.Accepted.{Passed}
 use Rattle.reduction.specs.MayDrop.{may_drop}
-use Rattle.outcomes.specs.Check.{checked_of}
-use Rattle.outcomes.specs.IsNormal.{tested_of, is_normal_outcome}
-use Rattle.outcomes.specs.declared.Checked.{Checked}
-use Rattle.outcomes.specs.declared.Tested.{Tested}
+use Rattle.outcomes.specs.declared.Refusal.{Refusal}
+use Rattle.outcomes.specs.Check.{checked_of, check_answer}
+use Rattle.outcomes.specs.IsNormal.{Tested, tested_of, tested_answer, is_normal_outcome}
 use Rattle.theory.proofs.GrammarNormal.{grammar_is_normal}
-use Rattle.checker.proofs.Verdicts.{Accepts, accepted_of, refused_of, accepted_holds}
-use Rattle.search.specs.Marks.{Space}
-use Rattle.normal_form.specs.NormalTest.{is_normal_form, TestsNormal, Decides}
-use Rattle.normal_form.specs.declared.normal.Part.{Part}
+use Rattle.checker.proofs.Verdicts.{Accepts, refused_of}
+use Rattle.normal_form.specs.NormalTest.{Decides}
 
--- no binder is in scope yet: marks for as many as there can be words
-pub space_none : (l : ℕ) → l ≤ 8192 → Space 1 (replicate 8192 0) 0 l
-space_none l le = record {
-  deep = omega (arith, length-replicate {A = ℕ} 8192 0);
-  small = omega (arith, length-replicate {A = ℕ} 8192 0);
-  low = λ d h. absurd (omega arith);
-}
-
-pub decides : {calls words : List ℕ} {depth : ℕ} {old new : List ℕ} {r : Part} → TestsNormal is_normal_form calls words depth old new r
-    → Decides calls words r.ok
-decides a = record { told = λ t rest h. (a.told t rest h).ok_is }
-
-module _ (tables : Tables) (words : List ℕ) (r : Checked) (e : r ≡ checked_of (elaborate other_limit tables words)) where
+module _ (tables : Tables) (words : List ℕ) where
   -- refused by a check
-  pub refused_tested : (r.refusal ≡ 0 → ⊥) → ◌≡◌ {A = Tested} (record { refusal = r.refusal; normal = false })
-      (is_normal_outcome tables words)
+  pub refused_tested : (r : Refusal) → check_answer (Err r) ≡ checked_of (elaborate other_limit tables words)
+      → tested_answer (Err r) ≡ is_normal_outcome tables words
   unfolding is_normal_outcome
-  refused_tested z = ap (tested_of (may_drop tables.calls)) (sym (refused_of other_limit tables words r e z))
+  refused_tested r e = sym (ap (tested_of (may_drop tables.calls)) (refused_of other_limit tables words r e))
 
   -- accepted
-  module _ (z : r.refusal ≡ 0) where
-    accepts : Accepts (Passed other_limit tables words) (elaborate other_limit tables words) r.ty
-    accepts = accepted_of other_limit tables words r e z
-
-    pub accepted_tested : (b : Bool) → Decides tables.calls words b
-        → ◌≡◌ {A = Tested} (record { refusal = 0; normal = b }) (is_normal_outcome tables words)
-    unfolding is_normal_outcome
-    accepted_tested b d =
-        let a = accepts in
-        let x = a.typed in
-        let n = d.told x.term [] (accepted_holds other_limit tables words x a.passed)
-        ∙ grammar_is_normal (may_drop tables.calls) tables tables.inputs x.type x.term a.passed.type in
-        ap {B = Tested} (λ c. record { refusal = 0; normal = c }) n ∙ ap (tested_of (may_drop tables.calls)) (sym a.is)
+  pub accepted_tested : {A : ℕ} {b : Bool} → Accepts other_limit tables words A → Decides tables.calls words b
+      → tested_answer (Ok b) ≡ is_normal_outcome tables words
+  unfolding is_normal_outcome
+  accepted_tested a d =
+      let x = a.typed in
+      let n = d.told x.term [] a.holds ∙ grammar_is_normal (may_drop tables.calls) tables tables.inputs x.type x.term a.passed.type in
+      ap {B = Tested} (λ c. record { refusal = 0; normal = c }) n ∙ ap (tested_of (may_drop tables.calls)) (sym a.is)

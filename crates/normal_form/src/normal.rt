@@ -16,13 +16,6 @@ use words::acting::some_acts;
 use words::fields::{kind, number};
 use words::shape::{binders, part_count};
 
-// where a part ends, and whether it passed its test; the end is 0 if not
-#[derive(Drop)]
-struct Part {
-    pub end: usize,
-    pub ok: bool,
-}
-
 // what a part of an operation, a let or a case in normal form has to be
 #[derive(Drop)]
 enum Role {
@@ -37,10 +30,7 @@ enum Role {
 fn operation_kind(k: u64) -> bool
     ensures { result ≡ operation_kind k }
 {
-    match k {
-        1 | 3 | 6 | 7 => true,
-        _ => false,
-    }
+    matches!(k, 1 | 3 | 6 | 7)
 }
 
 // what the first part of a node has to be: a match, as only a call and a let differ from the rest
@@ -65,16 +55,15 @@ fn later_role(k: u64) -> Role
 }
 
 // what part j of a node of kind k has to be
+#[tactic(auto, unfolding(crate::specs::Roles::role_of))]
 fn role_of(k: u64, j: usize) -> Role
     ensures { result ≡ role_of k j }
 {
-    if j == 0 {
-        return first_role(k);
-    }
-    later_role(k)
+    if j == 0 { first_role(k) } else { later_role(k) }
 }
 
 // whether a part that begins with a node of kind h can be what it has to be
+#[tactic(auto, unfolding(crate::specs::Roles::suits))]
 fn admits(role: Role, h: u64) -> bool
     ensures { result ≡ suits role h }
 {
@@ -88,26 +77,23 @@ fn admits(role: Role, h: u64) -> bool
 
 // whether the variable that part j of a node of kind k binds has to be used, and if so whether it is. A let stays without a use if what it
 // binds, which begins with the word `bound`, may not be dropped.
+#[tactic(auto, unfolding(crate::specs::Roles::keeps_variable))]
 fn keeps(calls: &[u64], acting: bool, k: u64, j: usize, bound: u64, uses: u64) -> bool
     requires { acting ≡ some_acts calls.now }
     ensures { result ≡ keeps_variable k j (node_may_drop calls.now (kind_of bound) (number_of bound)) uses }
 {
-    if k == 4 {
-        if j == 0 {
-            return true;
-        }
-        if 1 <= uses {
-            return true;
-        }
-        let droppable = may_drop(calls, acting, bound);
-        return !droppable;
-    }
-    true
+    k != 4 || j == 0 || 1 <= uses || !may_drop(calls, acting, bound)
 }
 
-// whether the part at the front is a value in normal form, and where it ends
+// whether the part at the front is a value in normal form: if so, where it ends
 #[cycle(normal_test_normal_value_test)]
-fn normal_value_test(calls: &[u64], acting: bool, t: &[u64], used: &mut [u64], depth: usize) -> Part
+fn normal_value_test(
+    calls: &[u64],
+    acting: bool,
+    t: &[u64],
+    used: &mut [u64],
+    depth: usize,
+) -> Option<usize>
     requires { Starts calls.now t.now × Space 1 used.old depth (length t.now) × (acting ≡ some_acts calls.now) }
     ensures { TestsNormal is_normal_value calls.now t.now depth used.old used.new result }
 {
@@ -115,39 +101,32 @@ fn normal_value_test(calls: &[u64], acting: bool, t: &[u64], used: &mut [u64], d
     let k = kind(w);
     if k == 0 {
         mark(used, depth, number(w) as usize, 1);
-        return Part { end: 1, ok: true };
+        return Some(1);
     }
     if k == 2 {
         used[depth] = 0;
-        let body = normal_test(calls, acting, &t[1..], used, depth + 1);
-        if !body.ok {
-            return Part { end: 0, ok: false };
-        }
-        return Part {
-            end: 1 + body.end,
-            ok: true,
-        };
+        let body = normal_test(calls, acting, &t[1..], used, depth + 1)?;
+        return Some(1 + body);
     }
     if !value_kind(k) {
-        return Part { end: 0, ok: false };
+        return None;
     }
-    let n = part_count(calls, w);
-    let mut at: usize = 1;
-    let mut j: usize = 0;
-    while j < n {
-        let part = normal_value_test(calls, acting, &t[at..], used, depth);
-        if !part.ok {
-            return Part { end: 0, ok: false };
-        }
-        at = at + part.end;
-        j += 1;
+    let mut at = 1;
+    for _ in 0..part_count(calls, w) {
+        at += normal_value_test(calls, acting, &t[at..], used, depth)?;
     }
-    Part { end: at, ok: true }
+    Some(at)
 }
 
-// whether the part at the front is in normal form, and where it ends
+// whether the part at the front is in normal form: if so, where it ends
 #[cycle(normal_test_normal_value_test)]
-fn normal_test(calls: &[u64], acting: bool, t: &[u64], used: &mut [u64], depth: usize) -> Part
+fn normal_test(
+    calls: &[u64],
+    acting: bool,
+    t: &[u64],
+    used: &mut [u64],
+    depth: usize,
+) -> Option<usize>
     requires { Starts calls.now t.now × Space 1 used.old depth (length t.now) × (acting ≡ some_acts calls.now) }
     ensures { TestsNormal is_normal_form calls.now t.now depth used.old used.new result }
 {
@@ -156,26 +135,19 @@ fn normal_test(calls: &[u64], acting: bool, t: &[u64], used: &mut [u64], depth: 
     if value_kind(k) {
         return normal_value_test(calls, acting, t, used, depth);
     }
-    let n = part_count(calls, w);
-    let mut at: usize = 1;
-    let mut j: usize = 0;
-    while j < n {
+    let mut at = 1;
+    for j in 0..part_count(calls, w) {
         if !admits(role_of(k, j), kind(t[at])) {
-            return Part { end: 0, ok: false };
+            return None;
         }
         used[depth] = 0;
-        let inner = depth + binders(k, j);
-        let part = normal_test(calls, acting, &t[at..], used, inner);
-        if !part.ok {
-            return Part { end: 0, ok: false };
-        }
+        let part = normal_test(calls, acting, &t[at..], used, depth + binders(k, j))?;
         if !keeps(calls, acting, k, j, t[1], used[depth]) {
-            return Part { end: 0, ok: false };
+            return None;
         }
-        at = at + part.end;
-        j += 1;
+        at += part;
     }
-    Part { end: at, ok: true }
+    Some(at)
 }
 
 // whether the term at the front is in normal form
@@ -184,6 +156,5 @@ pub fn is_normal_form(calls: &[u64], t: &[u64]) -> bool
     ensures { Decides calls.now t.now result }
 {
     let mut used: [u64; OTHER_LIMIT] = [0; OTHER_LIMIT];
-    let part = normal_test(calls, some_acts(calls), t, &mut used, 0);
-    part.ok
+    normal_test(calls, some_acts(calls), t, &mut used, 0).is_some()
 }

@@ -19,13 +19,11 @@ use Rattle.reduction.specs.Reduction.{ceiling_met}
 use Rattle.reduction.specs.declared.Rule.{Rule}
 use Rattle.reduction.specs.declared.Phase.{Phase}
 use Rattle.reduction.specs.declared.Phase.TheVariants.{Insertion, Reduction, Dropping}
-use Rattle.reduction.specs.declared.Found.{Found}
-use Rattle.reduction.specs.declared.Found.TheVariants.{Redex, Nothing}
+use Rattle.reduction.specs.declared.Redex.{Redex}
 use Rattle.reduction.proofs.Clear.{step_at}
 use Rattle.reduction.proofs.SearchAnswer.{StepAt, redex_step, nothing_none}
 use Rattle.words.specs.Fronts.{from}
 use Rattle.words.proofs.Traversal.{from_length}
-use Rattle.search.specs.Searches.{moved_by}
 use Rattle.outcomes.specs.declared.Refusal.{Refusal}
 use Rattle.outcomes.specs.declared.Refusal.TheVariants.{Budget, Ceiling, Capacity}
 use Rattle.step.specs.Currents.{Gapped}
@@ -101,22 +99,18 @@ module _ {phase : Phase} {calls before : List ℕ} {start end : ℕ} where
     marks_small = omega (arith, r.limit, r.scratch);
   }
 
-  module _ {r : Found} (f : Finds phase calls (from before end) r) where
-    -- nothing is found
-    pub turned_stops : {left : ℕ} {counts ceilings : List ℕ} → r ≡ Nothing
-        → Turns phase calls before start end left counts ceilings before (Ok None)
-    turned_stops e = record {
-      told = λ t a.
-          let none_found = sym (ap (moved_by start) (sym e) ∙ f.told t start (search_at a)) in
-          stops (nothing_none (may_drop calls) phase t none_found) a.current;
-    }
+  -- nothing is found
+  pub turned_stops : {left : ℕ} {counts ceilings : List ℕ} → Finds phase calls (from before end) None
+      → Turns phase calls before start end left counts ceilings before (Ok None)
+  turned_stops f = record {
+    told = λ t a. stops (nothing_none (may_drop calls) phase t (sym (f.told t start (search_at a)))) a.current;
+  }
 
-    -- a redex is found
-    pub first_redex_lem : {rule : Rule} {ahead : ℕ} → r ≡ Redex rule ahead → FirstRedex phase calls before start end rule ahead
-    first_redex_lem {rule} {ahead} e = record {
-      step_of = λ t a.
-          redex_step (may_drop calls) phase t rule (start + ahead) (sym (ap (moved_by start) (sym e) ∙ f.told t start (search_at a)));
-    }
+  -- a redex is found
+  pub first_redex_lem : {r : Redex} → Finds phase calls (from before end) (Some r) → FirstRedex phase calls before start end r.rule r.place
+  first_redex_lem {r} f = record {
+    step_of = λ t a. redex_step (may_drop calls) phase t r.rule (start + r.place) (sym (f.told t start (search_at a)));
+  }
 
   module _ {rule : Rule} {ahead : ℕ} (r : FirstRedex phase calls before start end rule ahead) where
     -- the budget is used up
@@ -232,8 +226,8 @@ module _ {phase : Phase} {calls before : List ℕ} {start end : ℕ} where
       }
 
 -- the same of what the code has at hand there: the search's answer, the budget and the answer of `ceiling_met`
-pub found_met : {phase : Phase} {calls before : List ℕ} {start end : ℕ} {rule : Rule} {ahead left : ℕ} {counts ceilings after : List ℕ} {r : Found}
-    {b : Bool} {t : Term} → CurrentClear phase calls before start end t → Finds phase calls (from before end) r → r ≡ Redex rule ahead
-    → (left ≡ 0 → ⊥) → b ≡ ceiling_met ceilings rule counts → b ≡ true
+pub found_met : {phase : Phase} {calls before : List ℕ} {start end : ℕ} {r : Redex} {left : ℕ} {counts ceilings after : List ℕ} {b : Bool}
+    {t : Term} → CurrentClear phase calls before start end t → Finds phase calls (from before end) (Some r) → (left ≡ 0 → ⊥)
+    → b ≡ ceiling_met ceilings r.rule counts → b ≡ true
     → Turned phase calls after start end left counts ceilings (length before) t (Err Ceiling)
-found_met a f e n c u = (turned_met (first_redex_lem f e) (omega (arith, n)) (sym c ∙ u)).told _ a
+found_met a f n c u = (turned_met (first_redex_lem f) (omega (arith, n)) (sym c ∙ u)).told _ a

@@ -7,7 +7,7 @@ use crate::counts::ceiling_met;
 use crate::gap::seek;
 use crate::rewrite::rewrite;
 use outcomes::Refusal;
-use reduction::{Found, Phase, Rule};
+use reduction::{Phase, Rule};
 use search::find::find;
 use search::next_from::next_from;
 
@@ -39,10 +39,10 @@ pub fn take_turn(
     requires acting_value { acting ≡ some_acts calls.now }
     ensures { Turns phase calls.now current.old start end left counts ceilings current.new result }
 {
-    let found = find(phase, calls, acting, &current[end..], second);
-    let Found::Redex(rule, ahead) = found else {
+    let Some(redex) = find(phase, calls, acting, &current[end..], second) else {
         return Ok(None);
     };
+    let rule = redex.rule;
     let spent = left == 0;
     let met = ceiling_met(ceilings, rule, counts);
     if spent {
@@ -51,7 +51,7 @@ pub fn take_turn(
     if met {
         return Err(Refusal::Ceiling);
     }
-    let place = start + ahead;
+    let place = start + redex.place;
     let behind = seek(current, start, end, place);
     let next = rewrite(rule, calls, current, place, behind, second, pending)?;
     let from = next_from(phase, place);

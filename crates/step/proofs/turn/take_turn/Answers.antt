@@ -4,12 +4,10 @@
 -- there (`at_redex`). Where the ceiling decides, the budget is not spent, so 13 is answered only there. Where the redex is rewritten, its
 -- ceiling is not met either, so 11 is answered only there; and where the next term is in the buffer the gap can go to where the search goes
 -- on (`next_seekable`).
-use Rattle.std.proofs.Common.{◌≡◌, ℕ, ◌+◌, List, length, sym, ◌∙◌, arith, rules}
+use Rattle.std.proofs.Common.{Some, ◌≡◌, ℕ, ◌+◌, List, length, sym, ◌∙◌, arith, rules}
 use Rattle.std.proofs.lemmas.Result.{err_from_is_err_and}
-use Rattle.reduction.specs.declared.Rule.{Rule}
 use Rattle.reduction.specs.declared.Phase.{Phase}
-use Rattle.reduction.specs.declared.Found.{Found}
-use Rattle.reduction.specs.declared.Found.TheVariants.{Redex}
+use Rattle.reduction.specs.declared.Redex.{Redex}
 use Rattle.words.specs.Fronts.{from}
 use Rattle.search.specs.Finds.{Finds}
 use Rattle.step.specs.Gaps.{Seeks}
@@ -18,27 +16,27 @@ use Rattle.step.proofs.TurnIsStep.{place_small, redex_seekable, turn_rewritable,
 use Rattle.step.proofs.turn.take_turn.Goals as goal
 
 -- the gap is at the redex that the search found
-at_redex : {phase : Phase} {calls before : List ℕ} {start end : ℕ} {rule : Rule} {ahead : ℕ} {sought : List ℕ} {behind : ℕ} {r : Found}
-    → Finds phase calls (from before end) r → r ≡ Redex rule ahead → Seeks before start end (start + ahead) sought behind
-    → length sought ≡ length before → GapAtRedex phase calls before start end rule ahead sought behind
-at_redex f e s l = record { redex = first_redex_lem f e; seeks = s; same = l }
+at_redex : {phase : Phase} {calls before : List ℕ} {start end : ℕ} {sought : List ℕ} {behind : ℕ} {r : Redex}
+    → Finds phase calls (from before end) (Some r) → Seeks before start end (start + r.place) sought behind
+    → length sought ≡ length before → GapAtRedex phase calls before start end r.rule r.place sought behind
+at_redex f s l = record { redex = first_redex_lem f; seeks = s; same = l }
 
 pub returns-in_default : goal.returns-in_default
-returns-in_default c = turned_stops c.find-found.ensures c.in_default.is
+returns-in_default c = turned_stops c.in_default.ensures
 
 pub returns-then-spent : goal.returns-then-spent
-returns-then-spent c = turned_spent (first_redex_lem c.find-found.ensures c.in-Redex.is) c.if-spent.true
+returns-then-spent c = turned_spent (first_redex_lem c.in-Some.ensures) c.if-spent.true
 
 pub overflow_add-place : goal.overflow_add-place
-overflow_add-place c = omega (arith, place_small (first_redex_lem c.find-found.ensures c.in-Redex.is) c.requires.ready.0)
+overflow_add-place c = omega (arith, place_small (first_redex_lem c.in-Some.ensures) c.requires.ready.0)
 
 pub seek-behind-requires : goal.seek-behind-requires
-seek-behind-requires c = redex_seekable (first_redex_lem c.find-found.ensures c.in-Redex.is) c.requires.ready.0
+seek-behind-requires c = redex_seekable (first_redex_lem c.in-Some.ensures) c.requires.ready.0
 
 pub rewrite-requires : goal.rewrite-requires
 rewrite-requires c = (
   turn_rewritable
-      (at_redex c.find-found.ensures c.in-Redex.is c.seek-behind.ensures c.seek-behind.auto.words)
+      (at_redex c.in-Some.ensures c.seek-behind.ensures c.seek-behind.auto.words)
       c.requires.ready.0 _ (search rules),
   c.requires.ready.1,
 )
@@ -47,18 +45,18 @@ pub returns-in_err-next : goal.returns-in_err-next
 returns-in_err-next c =
     let p = err_from_is_err_and c.from_residual.result c.from_residual.ensures.1 in
     rw (p.1, p.2) (turned_full
-    (at_redex c.find-found.ensures c.in-Redex.is c.seek-behind.ensures c.seek-behind.auto.words)
+    (at_redex c.in-Some.ensures c.seek-behind.ensures c.seek-behind.auto.words)
     (omega (arith, c.if-spent.false)) (sym c.ceiling_met-met.ensures ∙ search) c.in_err-next.ensures)
 
 pub seek-rest-requires : goal.seek-rest-requires
 seek-rest-requires c =
     next_seekable
-    (at_redex c.find-found.ensures c.in-Redex.is c.seek-behind.ensures c.seek-behind.auto.words)
+    (at_redex c.in-Some.ensures c.seek-behind.ensures c.seek-behind.auto.words)
     c.in_ok-next.ensures c.requires.ready.0 c.next_from-from.ensures
 
 pub returns : goal.returns
 returns c =
     turned_goes
-    (at_redex c.find-found.ensures c.in-Redex.is c.seek-behind.ensures c.seek-behind.auto.words)
+    (at_redex c.in-Some.ensures c.seek-behind.ensures c.seek-behind.auto.words)
     c.in_ok-next.ensures (omega (arith, c.if-spent.false))
     (sym c.ceiling_met-met.ensures ∙ search) c.next_from-from.ensures c.seek-rest.ensures
