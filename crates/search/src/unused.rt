@@ -1,7 +1,6 @@
 // The search of phase 3: the first let that binds a computation that may be dropped and whose variable is not used, by one pass that
 // marks uses by depth.
 ghost use Rattle.std.specs.Prelude.{◌≡◌, ◌+◌, ◌≤◌, length};
-ghost use Rattle.syntax.specs.Tables.{some_acts};
 ghost use Rattle.words.specs.Fronts.{Starts};
 ghost use Rattle.search.specs.Unused.{has_let, MarkSpace, MarksBinder, LeastMark, Scans, FindsUnused};
 
@@ -9,6 +8,7 @@ use crate::marks::mark;
 use crate::may_drop::may_drop;
 use crate::value::value_test;
 use reduction::{Redex, Rule};
+use words::calls::Calls;
 use words::fields::{kind, number};
 use words::shape::{outer_count, part_count};
 
@@ -25,11 +25,11 @@ struct PartScan {
 }
 
 // the mark of the node's binder before any use: its place if it is a let that binds a computation that may be dropped
-fn open_mark(calls: &[u64], acting: bool, t: &[u64], place: usize) -> u64
-    requires { Starts calls.now t.now × (length t.now ≤ 8192) × (place ≤ 65536) × (acting ≡ some_acts calls.now) }
+fn open_mark(calls: &Calls, t: &[u64], place: usize) -> u64
+    requires { Starts calls.now t.now × (length t.now ≤ 8192) × (place ≤ 65536) }
     ensures { MarksBinder calls.now t.now place result }
 {
-    if kind(t[0]) == 4 && may_drop(calls, acting, t[1]) && value_test(calls, &t[1..]).is_none() {
+    if kind(t[0]) == 4 && may_drop(calls, t[1]) && value_test(calls.words(), &t[1..]).is_none() {
         place as u64
     } else {
         NO_PLACE
@@ -48,15 +48,8 @@ fn least_mark(used: &[u64], start: usize, end: usize, first: u64) -> u64
 
 // goes through the part at the front, which begins at the place `base`. `owed` parts are ahead, and then `later` ones under one binder
 // more, whose mark is `fresh`; a node that binds is gone into if it is the last one ahead, any other by a call of its own.
-fn scan_part(
-    calls: &[u64],
-    acting: bool,
-    t: &[u64],
-    used: &mut [u64],
-    depth: usize,
-    base: usize,
-) -> PartScan
-    requires starts { Starts calls.now t.now × MarkSpace used.old depth (length t.now) × (acting ≡ some_acts calls.now) }
+fn scan_part(calls: &Calls, t: &[u64], used: &mut [u64], depth: usize, base: usize) -> PartScan
+    requires starts { Starts calls.now t.now × MarkSpace used.old depth (length t.now) }
     requires t_len_bound { (length t.now ≤ 8192) × (base + length t.now ≤ 65536) }
     ensures { Scans calls.now t.now base depth used.old used.new result }
 {
@@ -80,18 +73,18 @@ fn scan_part(
                 at += 1;
                 owed -= 1;
             } else {
-                let n = part_count(calls, w);
+                let n = part_count(calls.words(), w);
                 let outer = outer_count(k, n);
                 if outer == n {
                     at += 1;
                     owed = owed - 1 + n;
                 } else if owed + later == 1 {
-                    fresh = open_mark(calls, acting, &t[at..], base + at);
+                    fresh = open_mark(calls, &t[at..], base + at);
                     at += 1;
                     owed = outer;
                     later = n - outer;
                 } else {
-                    let part = scan_part(calls, acting, &t[at..], used, under, base + at);
+                    let part = scan_part(calls, &t[at..], used, under, base + at);
                     first = first.min(part.first);
                     at += part.end;
                     owed -= 1;
@@ -113,15 +106,14 @@ fn has_let(t: &[u64]) -> bool
 }
 
 // the first let in the part at the front that can be dropped; uses are marked only where there is a let
-pub fn first_unused(calls: &[u64], acting: bool, t: &[u64], used: &mut [u64]) -> Option<Redex>
+pub fn first_unused(calls: &Calls, t: &[u64], used: &mut [u64]) -> Option<Redex>
     requires starts { Starts calls.now t.now × MarkSpace used.old 0 (length t.now) × (length t.now ≤ 8192) }
-    requires acting_value { acting ≡ some_acts calls.now }
     ensures { FindsUnused calls.now t.now result }
 {
     if !has_let(t) {
         return None;
     }
-    let first = scan_part(calls, acting, t, used, 0, 0).first;
+    let first = scan_part(calls, t, used, 0, 0).first;
     (first < NO_PLACE).then_some(Redex {
         rule: Rule::Drop,
         place: first as usize,

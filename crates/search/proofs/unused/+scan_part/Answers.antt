@@ -3,7 +3,7 @@
 -- without inner parts come into the row. A node with inner parts is gone into if nothing else is ahead, so that the binders marked here
 -- are those on one path; any other is gone through by a call, on fewer words. If nothing is ahead, the marks are final: the least place is
 -- the least of them and of what the calls found.
-use Rattle.std.proofs.Common.{ℕ, ◌≡◌, ◌+◌, ◌≤◌, List, length, arith, refl}
+use Rattle.std.proofs.Common.{ℕ, ◌≡◌, ◌+◌, ◌≤◌, List, length, arith, refl, ap, ◌∙◌}
 use Rattle.syntax.specs.Words.{kind_of}
 use Rattle.syntax.specs.Parts.{part_count}
 use Rattle.words.specs.Reach.{outer_count}
@@ -21,9 +21,9 @@ going : {calls words : List ℕ} {base depth : ℕ} {old cur : List ℕ} {owed l
     → Scanning calls words base depth old cur owed later under at fresh first × (at + (owed + later) ≤ length words)
 going s = (s, march_inside _ _ s.going)
 
-node_parts : {calls : List ℕ} {w k m o : ℕ} → k ≡ kind_of w → (k ≡ 0 → ⊥) → m ≡ part_count calls w → o ≡ outer_count k m
-    → NodeParts calls w k m o
-node_parts e z p q = record { kind_is = e; compound = z; parts_are = p; outers_are = q }
+node_parts : {calls table : List ℕ} {w k m o : ℕ} → k ≡ kind_of w → (k ≡ 0 → ⊥) → table ≡ calls → m ≡ part_count table w
+    → o ≡ outer_count k m → NodeParts calls w k m o
+node_parts {w = w} e z s p q = record { kind_is = e; compound = z; parts_are = p ∙ ap (λ ts. part_count ts w) s; outers_are = q }
 
 pub loop-owed-init : goal.loop-owed-init
 loop-owed-init t c = going (scan_begin _ _ _ _ _ c.requires.starts.0 c.requires.starts.1)
@@ -38,25 +38,24 @@ loop-owed-preserved-then-k-eq0 t c =
 
 pub loop-owed-preserved-then-outer-n : goal.loop-owed-preserved-then-outer-n
 loop-owed-preserved-then-outer-n t c = going (scan_flat c.loop-owed.invariant.0 (omega arith)
-    (node_parts c.kind-k.ensures c.if-k-eq0.false c.part_count-n.ensures.0 c.outer_count-outer.ensures) c.if-outer-n.true)
+    (node_parts c.kind-k.ensures c.if-k-eq0.false c.words.ensures c.part_count-n.ensures.0 c.outer_count-outer.ensures) c.if-outer-n.true)
 
 pub open_mark-fresh-requires : goal.open_mark-fresh-requires
 open_mark-fresh-requires t c = (
   scan_starts _ _ _ _ _ c.loop-owed.invariant.0 (omega arith),
   omega (arith, from_length c.args.t.now c.loop-owed.at),
   omega arith,
-  c.requires.starts.2,
 )
 
 pub overflow_sub-later : goal.overflow_sub-later
 overflow_sub-later t c =
     outer_few c.loop-owed.invariant.0 (omega arith)
-    (node_parts c.kind-k.ensures c.if-k-eq0.false c.part_count-n.ensures.0 c.outer_count-outer.ensures)
+    (node_parts c.kind-k.ensures c.if-k-eq0.false c.words.ensures c.part_count-n.ensures.0 c.outer_count-outer.ensures)
 
 pub loop-owed-preserved-then-owed-later-eq1 : goal.loop-owed-preserved-then-owed-later-eq1
 loop-owed-preserved-then-owed-later-eq1 t c =
     going (scan_enter c.loop-owed.invariant.0 (omega arith)
-    (node_parts c.kind-k.ensures c.if-k-eq0.false c.part_count-n.ensures.0 c.outer_count-outer.ensures)
+    (node_parts c.kind-k.ensures c.if-k-eq0.false c.words.ensures c.part_count-n.ensures.0 c.outer_count-outer.ensures)
     _ c.if-outer-n.false c.if-owed-later-eq1.true c.open_mark-fresh.ensures)
 
 pub scan_part-part-requires : goal.scan_part-part-requires
@@ -66,7 +65,7 @@ scan_part-part-requires t c =
     omega (arith, from_length c.args.t.now c.loop-owed.at) in (
       omega (arith, s.further c.if-owed-later-eq1.false),
       (
-        (scan_starts _ _ _ _ _ s (omega arith), scan_room _ _ _ _ _ s (omega arith) c.requires.starts.1, c.requires.starts.2),
+        (scan_starts _ _ _ _ _ s (omega arith), scan_room _ _ _ _ _ s (omega arith) c.requires.starts.1),
         (omega arith, omega arith),
       ),
     )

@@ -15,20 +15,22 @@ bounds-t-1 c =
 
 pub value_test-requires : goal.value_test-requires
 value_test-requires c = (
-  bound_starts _ _ c.requires.0 (sym c.kind.ensures ∙ c.if-kind-eq4.true),
+  rw c.words.ensures (bound_starts _ _ c.requires.0 (sym c.kind.ensures ∙ c.if-kind-eq4.true)),
   omega (arith, from_length c.args.t.now 1),
 )
 
 pub returns-then-is_none : goal.returns-then-is_none
 returns-then-is_none c =
-    opens_let _ _ _ c.requires.2 (sym c.kind.ensures ∙ c.if-kind-eq4.true) _ c.may_drop.ensures c.if-may_drop.true c.value_test.ensures
+    opens_let _ _ _ c.requires.2 (sym c.kind.ensures ∙ c.if-kind-eq4.true) _ c.may_drop.ensures c.if-may_drop.true {r = c.value_test.result}
+    (rw (← c.words.ensures) c.value_test.ensures)
     (search rules)
 
 pub returns-else-kind-eq4 : goal.returns-else-kind-eq4
 returns-else-kind-eq4 c =
     elim c.else-kind-eq4.branch [
       | else-kind-eq4-via-then-kind-eq4+then-may_drop+else-is_none w ↦
-          opens_value _ _ _ c.requires.2 (sym c.kind.ensures ∙ w.if-kind-eq4.true) _ w.may_drop.ensures w.if-may_drop.true w.value_test.ensures
+          opens_value _ _ _ c.requires.2 (sym c.kind.ensures ∙ w.if-kind-eq4.true) _ w.may_drop.ensures w.if-may_drop.true {r = w.value_test.result}
+          (rw (← w.words.ensures) w.value_test.ensures)
           (search rules)
       | else-kind-eq4-via-then-kind-eq4+else-may_drop w ↦
           opens_kept _ _ _ c.requires.2 (sym c.kind.ensures ∙ w.if-kind-eq4.true) _ w.may_drop.ensures w.if-may_drop.false
