@@ -30,7 +30,6 @@ stretch words start n = take (start + n - start) (drop start words)
 pub record Putting (calls words : List ℕ) (body value n len : ℕ) : Type 0 where
   pub body_in : body ≤ length words
   pub value_in : value + n ≤ length words
-  pub value_length : length (stretch words value n) ≡ n
   pub room : (space : ℕ) → length words + 2 ≤ space → RoomFor calls (from words body) (stretch words value n) len 0 0 space
 
 pub record Copying (calls words : List ℕ) (start n len : ℕ) : Type 0 where
@@ -71,7 +70,6 @@ module _ {calls words : List ℕ} where
         record {
           body_in = omega (arith, held_inside words body hb);
           value_in = omega (arith, ve, held_inside words value hv);
-          value_length = long;
           room = λ space e. record {
             start = held_starts hb;
             whole = whole words value n hv ve;
