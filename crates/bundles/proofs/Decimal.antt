@@ -1,90 +1,32 @@
--- Decimal digits: how many there are, by dividing by ten until a digit is left.
-use Prim.Native.Nat.{ℕ, zero, suc, ◌+◌, ◌-◌, ◌*◌, ◌/◌, ◌%◌, ◌^◌, ◌≤◌, ◌<◌}
-use native.Mathlib.Omega.{arith}
-use native.Mathlib.Nat.{pow-suc}
-use native.Mathlib.Numerals.{add-one}
-use mathlib.Core.Path.{◌≡◌, refl, ap}
-use mathlib.Core.List.{List, [], ◌∷◌}
-use lib.ListN.{length}
+-- Decimal digits are those that the library writes.
+use Rattle.std.proofs.Common.{◌≡◌, ℕ, suc, ◌+◌, ◌-◌, ◌/◌, ◌%◌, ◌^◌, ◌<◌, ◌≤◌, List, [], ◌∷◌, length, ◌∙◌, append-nil, arith, le-leb}
+use Rattle.std.proofs.lemmas.Fmt.{PrependsLastDigit, decimal_from_prepends, length-decimal-le}
+use Rattle.std.specs.Fmt.{decimal as written}
 use Rattle.outcomes.specs.Listing.{digit, decimal_then, decimal}
-use Rattle.bundles.specs.Digits.{last_digits}
 
--- the last digit, and those before it
-then_last : (f n : ℕ) (rest : List ℕ) → n / 10 ≡ 0 → decimal_then (suc f) n rest ≡ digit (n % 10) ∷ rest
+pub digit_is : (d : ℕ) → d < 10 → digit d ≡ 48 + d
+digit_is d h = rw (le-leb d 9 (omega arith))
+
+one_digit : (more n : ℕ) (rest : List ℕ) → n < 10 → decimal_then (suc more) n rest ≡ (48 + n) ∷ rest
 unfolding decimal_then
-then_last f n rest e = rw (e, decimal_then)
+one_digit more n rest h =
+    let e : n / 10 ≡ 0 = omega arith in
+    let m : n % 10 ≡ n = omega arith in
+    rw (e, decimal_then, m, digit_is n h)
 
-then_more : (f n m : ℕ) (rest : List ℕ) → n / 10 ≡ suc m → decimal_then (suc f) n rest ≡ decimal_then f (n / 10) (digit (n % 10) ∷ rest)
+more_digits : (more n : ℕ) (rest : List ℕ) → 10 ≤ n → decimal_then (suc more) n rest ≡ decimal_then more (n / 10) ((48 + n % 10) ∷ rest)
 unfolding decimal_then
-then_more f n m rest e = rw (e, decimal_then) (ap (λ (q : ℕ). decimal_then f q (digit (n % 10) ∷ rest)) e)
-
--- how many digits
-abbrev pub width : ℕ → ℕ → ℕ
-width f n = length (decimal_then f n [])
-
-length_step : (f n q : ℕ) (rest : List ℕ) → n / 10 ≡ q
-    → ((more : List ℕ) → length (decimal_then f (n / 10) more) ≡ width f (n / 10) + length more)
-    → length (decimal_then (suc f) n rest) ≡ width (suc f) n + length rest
-length_step f n zero rest e ih = rw (then_last f n rest e, then_last f n [] e) (omega arith)
-length_step f n (suc m) rest e ih = rw (then_more f n m rest e, then_more f n m [] e)
-    (omega (arith, ih (digit (n % 10) ∷ rest), ih (digit (n % 10) ∷ [])))
-
-length_then : (f n : ℕ) (rest : List ℕ) → length (decimal_then f n rest) ≡ width f n + length rest
-unfolding decimal_then
-length_then zero n rest = omega arith
-length_then (suc f) n rest = length_step f n (n / 10) rest refl (length_then f (n / 10))
-
--- one digit, and one digit more
-pub width_last : (f n : ℕ) → n ≤ 9 → width (suc f) n ≡ 1
-width_last f n h = let e : n / 10 ≡ 0 = omega arith in rw (then_last f n [] e)
-
-pub width_more : (f n : ℕ) → 9 < n → width (suc f) n ≡ width f (n / 10) + 1
-width_more f n h =
+more_digits more n rest h =
     let e : n / 10 ≡ suc (n / 10 - 1) = omega arith in
-    rw (then_more f n (n / 10 - 1) [] e) (length_then f (n / 10) (digit (n % 10) ∷ []))
+    rw (e, decimal_then) (rw (← e, digit_is (n % 10) (omega arith)))
 
--- decimal digits as a loop that divides finds them
-digits_step : (f n q : ℕ) (rest : List ℕ) → n / 10 ≡ q
-    → ((more : List ℕ) → decimal_then f (n / 10) more ≡ last_digits 10 (width f (n / 10)) (n / 10) more)
-    → decimal_then (suc f) n rest ≡ last_digits 10 (width (suc f) n) n rest
-unfolding last_digits
-digits_step f n zero rest e ih = rw (then_last f n rest e, width_last f n (omega arith))
-digits_step f n (suc m) rest e ih = rw (then_more f n m rest e, width_more f n (omega arith), add-one (width f (n / 10)))
-    (ih (digit (n % 10) ∷ rest))
+prepends : PrependsLastDigit decimal_then
+prepends = record { one = one_digit; more = more_digits }
 
-then_last_digits : (f n : ℕ) (rest : List ℕ) → decimal_then f n rest ≡ last_digits 10 (width f n) n rest
-unfolding decimal_then last_digits
-then_last_digits zero n rest = refl
-then_last_digits (suc f) n rest = digits_step f n (n / 10) rest refl (then_last_digits f (n / 10))
-
-pub decimal_is : (n : ℕ) → decimal n ≡ last_digits 10 (length (decimal n)) n []
+pub decimal_is : (n : ℕ) → n < 2 ^ 64 → decimal n ≡ written n
 unfolding decimal
-decimal_is n = then_last_digits 20 n []
+decimal_is n h = decimal_from_prepends decimal_then prepends 20 n [] h (length-decimal-le 20 n (omega arith) (omega arith) h) ∙ append-nil (written n)
 
--- the loop of `digit_count`: the digits counted, and those of what is left, which has one digit counted already
-pub record DigitsCounted (n count left : ℕ) : Type 0 where
-  pub fuel : ℕ
-  pub all : count + fuel ≡ 20
-  pub small : left < 10 ^ suc fuel
-  pub same : length (decimal n) + 1 ≡ count + width (suc fuel) left
-
-pub count_start : (n : ℕ) → n < 2 ^ 64 → DigitsCounted n 1 n
-unfolding decimal
-count_start n h = record { fuel = 19; all = refl; small = omega arith; same = omega arith }
-
-count_step : (n count left f : ℕ) → count + f ≡ 20 → left < 10 ^ suc f → length (decimal n) + 1 ≡ count + width (suc f) left → 9 < left
-    → DigitsCounted n (count + 1) (left / 10)
-count_step n count left zero a s e h = absurd (omega arith)
-count_step n count left (suc f) a s e h =
-    record {
-      fuel = f;
-      all = omega arith;
-      small = let t : left < 10 ^ suc f * 10 = rw (pow-suc 10 (suc f)) at s in omega arith;
-      same = omega (arith, width_more (suc f) left h);
-    }
-
-pub count_more : {n count left : ℕ} → DigitsCounted n count left → 9 < left → DigitsCounted n (count + 1) (left / 10)
-count_more {n} {count} {left} s h = count_step n count left s.fuel s.all s.small s.same h
-
-pub count_all : {n count left : ℕ} → DigitsCounted n count left → left ≤ 9 → (count ≡ length (decimal n)) × (count ≤ 20)
-count_all {left = left} s h = (omega (arith, s.same, width_last s.fuel left h), omega (arith, s.all))
+-- a number below 10 ^ k has at most k digits
+pub decimal_short : (k n : ℕ) → 0 < k → n < 10 ^ k → n < 2 ^ 64 → length (decimal n) ≤ k
+decimal_short k n p h l = rw (decimal_is n l) (length-decimal-le k n p h l)

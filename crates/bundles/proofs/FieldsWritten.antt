@@ -1,60 +1,62 @@
--- Numbers and what ends them, written one after the other.
-use Prim.Native.Nat.{ℕ, ◌+◌, ◌^◌, ◌≤◌, ◌<◌}
-use native.Mathlib.Omega.{arith}
-use mathlib.Core.Path.{◌≡◌, refl, sym, ◌∙◌, ap}
-use mathlib.Core.List.{List, [], ◌∷◌, ◌++◌, append-nil}
-use lib.ListN.{length, get_or, set, length-append}
-use lib.Seq.{sets}
+-- Bytes put into a text one stretch behind another.
+use Rattle.std.proofs.Common.{◌≡◌, ℕ, ◌+◌, ◌^◌, ◌≤◌, ◌<◌, List, [], ◌∷◌, ◌++◌, length, take, drop, set, sym, ◌∙◌, ap, arith, w64, append_assoc, length-append, take-append-drop}
+use Rattle.std.proofs.Math.Seq.{drop-drop}
+use Rattle.std.proofs.lemmas.List.Edits.{sets, sets-eq}
+use Rattle.std.specs.Fmt.{decimal as written}
+use Rattle.std.specs.Int.{to_be_bytes}
+use Rattle.hex.specs.Hex.{encode_with, lower_digits}
+use borrow.Rule.Slice.PartMut.{put_mid}
 use Rattle.words.proofs.Stretches.{sets_append}
-use Rattle.outcomes.specs.Listing.{decimal, hexadecimal, fields, newline}
-use Rattle.bundles.specs.Digits.{last_digits}
+use Rattle.outcomes.specs.Listing.{decimal, hexadecimal, newline}
 use Rattle.bundles.specs.BytesPut.{BytesPut}
-use Rattle.bundles.proofs.DigitsPut.{hexadecimal_is}
 use Rattle.bundles.proofs.Decimal.{decimal_is}
+use Rattle.bundles.proofs.Hexadecimal.{hexadecimal_is, length_hexadecimal}
 
--- n bytes fit into the text as it stands, whose length is a number of the machine
-pub record TextRoom (text : List ℕ) (n : ℕ) : Type 0 where
-  pub fits : n ≤ length text
-  pub small : length text < 2 ^ 64
+stretch_is : (xs old : List ℕ) (at : ℕ) → at + length xs ≤ length old → sets old at xs ≡ take at old ++ (xs ++ drop (at + length xs) old)
+stretch_is xs old at h = sets-eq xs old at h ∙ append_assoc (take at old) xs (drop (at + length xs) old)
+
+-- one stretch behind another
+pub puts_more : {xs old mid new : List ℕ} {at a p b : ℕ} (ys : List ℕ) → p ≡ at + a → BytesPut xs old mid at a → BytesPut ys mid new p b
+    → BytesPut (xs ++ ys) old new at (a + b)
+puts_more {xs} {old} {mid} {at = at} {a} {p} ys e f s = record {
+  new_is =
+      s.new_is ∙ ap (λ (m : List ℕ). sets m p ys) f.new_is ∙ ap (λ (i : ℕ). sets (sets old at xs) i ys) (omega (arith, f.size_is))
+      ∙ sym (sets_append old at xs ys);
+  size_is = omega (arith, f.size_is, s.size_is, length-append xs ys);
+}
 
 -- a byte behind a stretch
 set_behind : (old new xs : List ℕ) (at i b : ℕ) → new ≡ sets old at xs → i ≡ at + length xs → set new i b ≡ sets old at (xs ++ b ∷ [])
-set_behind old new xs at i b e p = ap (λ (l : List ℕ). set l i b) e ∙ rw (p) (sym (sets_append old at xs (b ∷ [])))
-
-pub field_put : (old new : List ℕ) (n end at count : ℕ) → count ≡ length (decimal n) → new ≡ sets old at (last_digits 10 count n [])
-    → BytesPut (decimal n ++ end ∷ []) old (set new (at + count) end) at (count + 1)
-field_put old new n end at count c e = record {
-  new_is =
-      set_behind old new (decimal n) at (at + count) end
-      (e ∙ ap (λ (k : ℕ). sets old at (last_digits 10 k n [])) c ∙ ap (sets old at) (sym (decimal_is n)))
-      (ap (λ (k : ℕ). at + k) c);
-  size_is = omega (arith, length-append (decimal n) (end ∷ []));
-}
-
-pub field_size : (n end : ℕ) {old new : List ℕ} {at size : ℕ} → BytesPut (decimal n ++ end ∷ []) old new at size
-    → size ≡ length (decimal n) + 1
-field_size n end p = p.size_is ∙ length-append (decimal n) (end ∷ [])
-
-pub line_size : (ns : List ℕ) {old new : List ℕ} {at size : ℕ} → BytesPut (fields ns ++ newline ∷ []) old new at size
-    → size ≡ length (fields ns) + 1
-line_size ns p = p.size_is ∙ length-append (fields ns) (newline ∷ [])
-
-pub length_hexadecimal : (w : ℕ) → length (hexadecimal 16 w) ≡ 16
-unfolding hexadecimal
-length_hexadecimal w = refl
-
-pub word_put : (old new : List ℕ) (w at : ℕ) → new ≡ sets old at (last_digits 16 16 w [])
-    → set new (at + 16) newline ≡ sets old at (hexadecimal 16 w ++ newline ∷ [])
-word_put old new w at e =
-    set_behind old new (hexadecimal 16 w) at (at + 16) newline
-    (e ∙ ap (sets old at) (sym (hexadecimal_is 16 w []) ∙ append-nil (hexadecimal 16 w)))
-    (ap (λ (k : ℕ). at + k) (sym (length_hexadecimal w)))
+set_behind old new xs at i b e p = ap (λ (l : List ℕ). set l i b) e ∙ rw p (sym (sets_append old at xs (b ∷ [])))
 
 -- three bytes at the front
-pub three_put : (old start : List ℕ) → length start ≡ 3
-    → set (set (set old 0 (get_or start 0 0)) 1 (get_or start 1 0)) 2 (get_or start 2 0) ≡ sets old 0 start
-three_put old [] h = absurd (omega arith)
-three_put old (a ∷ []) h = absurd (omega arith)
-three_put old (a ∷ b ∷ []) h = absurd (omega arith)
-three_put old (a ∷ b ∷ c ∷ []) h = refl
-three_put old (a ∷ b ∷ c ∷ d ∷ rest) h = absurd (omega arith)
+pub start_put : (start xs old : List ℕ) → xs ≡ start → length start ≡ 3 → 3 ≤ length old → BytesPut start old (xs ++ drop 3 old) 0 3
+start_put start xs old e l h = record {
+  new_is = let n : 0 + length start ≡ 3 = omega arith in rw (e, stretch_is start old 0 (omega arith), n);
+  size_is = sym l;
+}
+
+-- the digits of a number as the library writes them, which end before `at + count`, and a byte behind them
+pub field_put : (old new : List ℕ) (n end at count r : ℕ) → n < 2 ^ 64 → at + (length (decimal n) + 1) ≤ length old → count ≡ length (decimal n)
+    → r + length (written n) ≡ at + count → drop r new ≡ written n ++ drop (at + count) old → take r new ≡ take r old
+    → BytesPut (decimal n ++ end ∷ []) old (set new (at + count) end) at (count + 1)
+field_put old new n end at count r h room c re front before =
+    let e : written n ≡ decimal n = sym (decimal_is n h) in
+    let l : length (written n) ≡ length (decimal n) = ap length e in
+    let here : r ≡ at = omega arith in
+    let all : new ≡ sets old at (decimal n) =
+    sym (take-append-drop r new) ∙ rw (before, front, here, c, e) (sym (stretch_is (decimal n) old at (omega arith))) in
+    record {
+      new_is = set_behind old new (decimal n) at (at + count) end all (ap (λ (k : ℕ). at + k) c);
+      size_is = omega (arith, length-append (decimal n) (end ∷ []));
+    }
+
+-- sixteen digits in the place of as many bytes, and the line's end behind them
+pub word_put : (old xs : List ℕ) (w at k : ℕ) → k ≡ 16 → at + 16 ≤ length old → xs ≡ encode_with lower_digits (to_be_bytes w64 w)
+    → set (put_mid at k old xs) (at + 16) newline ≡ sets old at (hexadecimal 16 w ++ newline ∷ [])
+word_put old xs w at k e h x =
+    let digits = hexadecimal 16 w in
+    let l : length digits ≡ 16 = length_hexadecimal w in
+    let there = stretch_is digits old at (omega arith) in
+    let all : put_mid at k old xs ≡ sets old at digits = rw (x, hexadecimal_is w, e, drop-drop) (sym (rw l at there)) in
+    set_behind old (put_mid at k old xs) digits at (at + 16) newline all (omega arith)

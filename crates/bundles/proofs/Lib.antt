@@ -1,6 +1,6 @@
 pub mod Bytes
 pub mod Readable
-pub mod DigitsPut
+pub mod Hexadecimal
 pub mod Decimal
 pub mod FieldsWritten
 pub mod ListedFields

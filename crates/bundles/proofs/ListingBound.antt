@@ -1,43 +1,29 @@
 -- How long a listing gets: each field by the size of its number, each word a line of seventeen bytes.
-use Prim.Native.Nat.{ℕ, zero, suc, ◌*◌, ◌/◌, ◌^◌, ◌≤◌, ◌<◌}
+use Prim.Native.Nat.{ℕ, zero, suc, ◌*◌, ◌^◌, ◌≤◌, ◌<◌}
 use native.Mathlib.Omega.{arith}
-use native.Mathlib.Nat.{pow-suc}
 use mathlib.Core.Path.{◌≡◌, refl}
 use mathlib.Core.List.{List, [], ◌∷◌}
 use lib.ListN.{length, get_or, length-append}
 use Rattle.outcomes.specs.Text.{ascii}
 use Rattle.outcomes.specs.declared.Answer.{Answer}
-use Rattle.outcomes.specs.Listing.{decimal, decimal_then, lines, listing_of}
+use Rattle.outcomes.specs.Listing.{space, decimal, lines, listing_of}
 use Rattle.bundles.specs.FirstLine.{accepted_line}
-use Rattle.bundles.proofs.Decimal.{width, width_last, width_more}
-use Rattle.bundles.proofs.ListedFields.{size_of, fields_size}
+use Rattle.bundles.proofs.Decimal.{decimal_short}
+use Rattle.bundles.proofs.ListedFields.{spaced, fields_size}
 use Rattle.bundles.proofs.Lines.{length_lines}
 use Rattle.bundles.proofs.WholeListing.{length_refused, length_accepted}
 use Rattle.bundles.proofs.ListingOutcome.{listing_refused, listing_accepted}
 
--- a number below 10 ^ k has at most k digits, and at least the one
-width_step : (f k n q : ℕ) → n / 10 ≡ q → n < 10 ^ suc k → ((j : ℕ) → n / 10 < 10 ^ suc j → width f (n / 10) ≤ suc j)
-    → width (suc f) n ≤ suc k
-width_step f k n zero e h ih = omega (arith, width_last f n (omega arith))
-width_step f zero n (suc m) e h ih = absurd (omega arith)
-width_step f (suc k) n (suc m) e h ih =
-    let t : n < 10 ^ suc k * 10 = rw (pow-suc 10 (suc k)) at h in
-    omega (arith, width_more f n (omega arith), ih k (omega arith))
-
-width_short : (f k n : ℕ) → n < 10 ^ suc k → width f n ≤ suc k
-unfolding decimal_then
-width_short zero k n h = omega arith
-width_short (suc f) k n h = width_step f k n (n / 10) refl h (λ j. width_short f j (n / 10))
-
-decimal_short : (k n : ℕ) → n < 10 ^ suc k → length (decimal n) ≤ suc k
-unfolding decimal
-decimal_short k n h = width_short 20 k n h
-
 -- numbers of 32 bits have at most ten digits
-sizes_short : (ns : List ℕ) → ((k : ℕ) → get_or ns k 0 < 2 ^ 32) → size_of ns ≤ 11 * length ns
-unfolding size_of
+sizes_short : (ns : List ℕ) → ((k : ℕ) → get_or ns k 0 < 2 ^ 32) → length (spaced ns) ≤ 11 * length ns
 sizes_short [] h = omega arith
-sizes_short (n ∷ ns) h = omega (arith, decimal_short 9 n (omega (arith, h 0)), sizes_short ns (λ k. h (suc k)))
+sizes_short (n ∷ ns) h =
+    omega (
+      arith,
+      length-append (decimal n) (space ∷ spaced ns),
+      decimal_short 10 n (omega arith) (omega (arith, h 0)) (omega (arith, h 0)),
+      sizes_short ns (λ k. h (suc k)),
+    )
 
 -- a listing is never empty
 pub listing_some : (a : Answer) (ws : List ℕ) → 0 < length (listing_of a ws)
@@ -61,8 +47,8 @@ listing_fits a ws r t n w c h = by_refusal a.refusal refl where
         length-append (accepted_line a.ty a.length a.counts) (lines ws),
         length_lines ws,
         length_accepted a.counts some a.ty a.length,
-        decimal_short 9 a.ty (omega arith),
-        decimal_short 3 a.length (omega arith),
+        decimal_short 10 a.ty (omega arith) (omega arith) (omega arith),
+        decimal_short 4 a.length (omega arith) (omega arith) (omega arith),
         fields_size a.counts some,
         sizes_short a.counts h,
       ))
@@ -70,7 +56,7 @@ listing_fits a ws r t n w c h = by_refusal a.refusal refl where
       rw (listing_refused a ws (omega arith)) (omega (
         arith,
         length_refused a.counts some a.refusal,
-        decimal_short 9 a.refusal (omega arith),
+        decimal_short 10 a.refusal (omega arith) (omega arith) (omega arith),
         fields_size a.counts some,
         sizes_short a.counts h,
       ))

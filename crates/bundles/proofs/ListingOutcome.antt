@@ -4,6 +4,7 @@ use native.Mathlib.Omega.{arith}
 use mathlib.Core.Path.{◌≡◌, refl, sym, ◌∙◌, ap}
 use mathlib.Core.List.{List, ◌++◌, append_assoc}
 use lib.ListN.{length, take}
+use lib.Seq.{length-take-le}
 use borrow.Author.Tests.{le-leb, lt-leb}
 use Rattle.outcomes.specs.Text.{ascii}
 use Rattle.outcomes.specs.declared.Answer.{Answer}
@@ -43,12 +44,12 @@ module _ (a : Answer) where
         let l : words_listed a ≤ length output = omega (arith, none_listed a.refusal refl h) in
         e ∙ ap (written_to buffer) (sym (listing_refused (take a.length output) h)) ∙ sym (enough l)
 
-    pub outcome_accepted : (told : Written) → a.refusal ≤ 0 → a.length ≤ length output
-        → told ≡ written_to buffer (accepted_line a.ty a.length a.counts ++ lines (take a.length output))
-        → told ≡ listing_outcome a output buffer
-    outcome_accepted told h l e =
+    pub outcome_accepted : (words : List ℕ) (told : Written) → a.refusal ≤ 0 → a.length ≤ length output → words ≡ take a.length output
+        → told ≡ written_to buffer (accepted_line a.ty (length words) a.counts ++ lines words) → told ≡ listing_outcome a output buffer
+    outcome_accepted words told h l w e =
         let m : words_listed a ≤ length output = omega (arith, all_listed h) in
-        e ∙ ap (written_to buffer) (sym (listing_accepted (take a.length output) h)) ∙ sym (enough m)
+        let n : length words ≡ a.length = ap (λ (l : List ℕ). length l) w ∙ length-take-le a.length output l in
+        rw (n, w) at e ∙ ap (written_to buffer) (sym (listing_accepted (take a.length output) h)) ∙ sym (enough m)
 
     pub outcome_short : a.refusal ≤ 0 → length output < a.length
         → ◌≡◌ {A = Written} (record { length = 0; buffer = buffer }) (listing_outcome a output buffer)

@@ -1,77 +1,49 @@
--- The outcome of `read_bundle` by its five tests: the first that fails refuses, and where all hold the words are written.
-use Prim.Native.Nat.{ℕ, ◌+◌, ◌*◌, ◌%◌, ◌^◌, ◌≤◌, ◌<◌}
-use native.Mathlib.Omega.{arith}
-use mathlib.Core.Path.{◌≡◌}
-use mathlib.Core.Bool.{true, false, ◌&&◌}
-use mathlib.Core.List.{List}
-use lib.ListN.{length, drop}
-use lib.Dec.{leb, eqb}
-use borrow.Author.Tests.{le-leb, lt-leb, eq-eqb, ne_eqb}
+-- The outcome of `read_bundle`: the words are written if the bytes are a bundle that the slice has room for, and otherwise it refuses.
+use Rattle.std.proofs.lemmas.List.{take_all}
+use Rattle.std.proofs.Common.{take, length-drop, ◌-◌, length-take-le, ◌++◌, ◌⊎◌, inl, inr, ◌≡◌, ℕ, ◌+◌, ◌*◌, ◌%◌, ◌^◌, ◌≤◌, Bool, true, false, List, length, drop, ap, refl, arith}
+use Rattle.std.proofs.lemmas.Bool.Decides.{nat_tests}
 use Rattle.outcomes.specs.Buffers.{overwrite}
-use Rattle.outcomes.specs.declared.Lengths.{Lengths}
-use Rattle.outcomes.specs.ReadBundle.{lengths_of, total, header_of, readable, Reading, unreadable, words_after, words_of, read_bundle_outcome}
+use Rattle.bundles.proofs.Bytes.{length-words}
+use Rattle.outcomes.specs.ReadBundle.{lengths_of, total, header_of, readable, LengthsRead, Reading, unreadable, words_after, words_of, read_bundle_outcome}
 
--- the size is that of a bundle, and this is its header
-pub record Headed (bytes : List ℕ) (header : ℕ) : Type 0 where
+-- a bundle whose words fit into so many
+pub record IsBundle (bytes : List ℕ) (capacity : ℕ) : Type 0 where
   pub few : length bytes ≤ 65536
   pub some : 8 ≤ length bytes
-  pub header_is : header ≡ header_of bytes
+  pub low_bits : header_of bytes % 2 ^ 12 ≡ 0
+  pub length_is : length bytes ≡ 8 * (1 + total (lengths_of (header_of bytes)))
+  pub room : total (lengths_of (header_of bytes)) ≤ capacity
 
--- the header's low bits are zero, and n words are to follow
-pub record Totalled (bytes : List ℕ) (header n : ℕ) : Type 0 where
-  pub headed : Headed bytes header
-  pub low_zero : header % 2 ^ 12 ≤ 0
-  pub total_is : n ≡ total (lengths_of header)
+is_bundle : (bytes : List ℕ) (capacity : ℕ) → readable bytes capacity ≡ true → IsBundle bytes capacity
+unfolding readable
+is_bundle bytes capacity e = record {
+  few = grind (arith, nat_tests);
+  some = grind (arith, nat_tests);
+  low_bits = grind (arith, nat_tests);
+  length_is = grind (arith, nat_tests);
+  room = grind (arith, nat_tests);
+}
 
-module _ (bytes slice : List ℕ) where
-  -- these lengths and final words are the outcome
-  abbrev pub ReadingIs : Lengths → List ℕ → Type 0
-  ReadingIs l words = ◌≡◌ {A = Reading} (record { lengths = l; words = words }) (read_bundle_outcome bytes slice)
+is_readable : (bytes : List ℕ) (capacity : ℕ) → IsBundle bytes capacity → readable bytes capacity ≡ true
+unfolding readable
+is_readable bytes capacity b = grind (arith, nat_tests)
 
-  refused : (l : Lengths) → l ≡ unreadable → readable bytes (length slice) ≡ false → ReadingIs l slice
-  unfolding read_bundle_outcome
-  refused l e r = rw (r, read_bundle_outcome, e)
+abbrev refusal : List ℕ → Reading
+refusal slice = record { lengths = unreadable; words = slice }
 
-  pub too_long : (l : Lengths) → l ≡ unreadable → 65536 < length bytes → ReadingIs l slice
-  unfolding readable
-  too_long l e a = refused l e (rw (lt-leb (length bytes) 65536 a))
+pub refused_or : (bytes slice : List ℕ) → (read_bundle_outcome bytes slice ≡ refusal slice) ⊎ IsBundle bytes (length slice)
+unfolding read_bundle_outcome
+refused_or bytes slice = by_test (readable bytes (length slice)) refl where
+  by_test : (b : Bool) → readable bytes (length slice) ≡ b → (read_bundle_outcome bytes slice ≡ refusal slice) ⊎ IsBundle bytes (length slice)
+  by_test false e = inl (rw (e, read_bundle_outcome))
+  by_test true e = inr (is_bundle bytes (length slice) e)
 
-  pub too_short : (l : Lengths) → l ≡ unreadable → length bytes ≤ 65536 → length bytes < 8 → ReadingIs l slice
-  unfolding readable
-  too_short l e a b = refused l e (rw (le-leb (length bytes) 65536 a, lt-leb 8 (length bytes) b))
-
-  pub low_bits : {header : ℕ} (l : Lengths) → l ≡ unreadable → Headed bytes header → 0 < header % 2 ^ 12 → ReadingIs l slice
-  unfolding readable
-  low_bits {header} l e p c =
-      let d : header_of bytes % 2 ^ 12 ≡ 0 → ⊥ = λ z. let y : header % 2 ^ 12 ≡ 0 = rw p.header_is z in omega arith in
-      refused l e (rw (le-leb (length bytes) 65536 p.few, le-leb 8 (length bytes) p.some, ne_eqb (header_of bytes % 2 ^ 12) 0 d))
-
-  module _ {header n : ℕ} (p : Totalled bytes header n) where
-    -- two tests are left
-    tests_left : readable bytes (length slice) ≡ (eqb (length bytes) (8 * (1 + n)) && leb n (length slice))
-    unfolding readable
-    tests_left =
-        let h = p.headed in
-        let zero_bits : header_of bytes % 2 ^ 12 ≡ 0 = rw (← h.header_is) (omega (arith, p.low_zero)) in
-        rw (
-          le-leb (length bytes) 65536 h.few,
-          le-leb 8 (length bytes) h.some,
-          eq-eqb (header_of bytes % 2 ^ 12) 0 zero_bits,
-          ← h.header_is,
-          ← p.total_is,
-        )
-
-    pub wrong_length : (l : Lengths) → l ≡ unreadable → (length bytes ≡ 8 * (1 + n) → ⊥) → ReadingIs l slice
-    wrong_length l e d = refused l e (rw (tests_left, ne_eqb (length bytes) (8 * (1 + n)) d))
-
-    module _ (d : length bytes ≡ 8 * (1 + n)) where
-      pub no_room : (l : Lengths) → l ≡ unreadable → length slice < n → ReadingIs l slice
-      no_room l e r = refused l e (rw (tests_left, eq-eqb (length bytes) (8 * (1 + n)) d, lt-leb n (length slice) r))
-
-      pub all_read : (l : Lengths) (words : List ℕ) → l ≡ lengths_of header → n ≤ length slice
-          → words ≡ overwrite (words_of n (drop 8 bytes)) slice → ReadingIs l words
-      unfolding read_bundle_outcome words_after
-      all_read l words e r w =
-          let holds : readable bytes (length slice) ≡ true =
-          rw (tests_left, eq-eqb (length bytes) (8 * (1 + n)) d, le-leb n (length slice) r) in
-          rw (holds, read_bundle_outcome, w, e, ← p.headed.header_is, p.total_is)
+-- the words are copied to the front of the slice
+pub bundle_read : (bytes slice words : List ℕ) (l : LengthsRead) (n : ℕ) → IsBundle bytes (length slice) → l ≡ lengths_of (header_of bytes) → n ≡ total l
+    → words ≡ words_of (length (take n slice)) (take (length bytes - 8) (drop 8 bytes))
+    → ◌≡◌ {A = Reading} (record { lengths = l; words = words ++ drop n slice }) (read_bundle_outcome bytes slice)
+unfolding read_bundle_outcome words_after overwrite
+bundle_read bytes slice words l n b e t w =
+    let enough : n ≤ length slice = omega (arith, ap total e, b.room) in
+    let rest : take (length bytes - 8) (drop 8 bytes) ≡ drop 8 bytes = take_all (length bytes - 8) (drop 8 bytes) (omega (arith, length-drop 8 bytes)) in
+    rw (is_readable bytes (length slice) b, read_bundle_outcome, ← e, ← t, length-words n (drop 8 bytes), w, length-take-le n slice enough, rest)

@@ -2,18 +2,18 @@
 use Prim.Native.Nat.{ℕ, ◌+◌, ◌*◌, ◌≤◌, ◌<◌}
 use native.Mathlib.Omega.{arith}
 use native.Mathlib.Nat.{zero-add}
-use mathlib.Core.Path.{◌≡◌, refl, sym, ◌∙◌, ap}
+use mathlib.Core.Path.{◌≡◌, sym, ◌∙◌, ap}
 use mathlib.Core.List.{List, [], ◌∷◌, ◌++◌, append_assoc}
-use lib.ListN.{length, take, drop, length-append}
-use lib.Seq.{sets, sets-eq, length-take-le}
+use lib.ListN.{length, drop, length-append}
+use lib.Seq.{sets, sets-eq}
 use borrow.Author.Tests.{le-leb, lt-leb}
-use Rattle.words.proofs.Stretches.{sets_append}
 use Rattle.outcomes.specs.Text.{ascii}
 use Rattle.outcomes.specs.Buffers.{overwrite}
 use Rattle.outcomes.specs.Listing.{okay, nope, space, newline, decimal, fields, lines, Written, written_to}
 use Rattle.bundles.specs.FirstLine.{refused_line, accepted_line}
 use Rattle.bundles.specs.BytesPut.{BytesPut}
-use Rattle.bundles.proofs.ListedFields.{fields_cons}
+use Rattle.bundles.proofs.FieldsWritten.{puts_more}
+use Rattle.bundles.proofs.ListedFields.{field_length, line_length, fields_cons}
 use Rattle.bundles.proofs.Lines.{length_lines}
 
 module _ (counts : List ℕ) (some : 0 < length counts) where
@@ -36,17 +36,6 @@ module _ (counts : List ℕ) (some : 0 < length counts) where
   unfolding ascii
   length_accepted ty n = ap (λ (l : List ℕ). length l) (accepted_parts ty n) ∙ simp length-append (omega arith)
 
--- one stretch behind those at the front
-puts_more : {xs old mid : List ℕ} {a : ℕ} (ys new : List ℕ) (b : ℕ) → BytesPut xs old mid 0 a → BytesPut ys mid new a b
-    → BytesPut (xs ++ ys) old new 0 (a + b)
-puts_more {xs} {old} {mid} {a} ys new b p q = record {
-  new_is =
-      q.new_is ∙ ap (λ (m : List ℕ). sets m a ys) p.new_is
-      ∙ ap (λ (i : ℕ). sets (sets old 0 xs) i ys) (p.size_is ∙ sym (zero-add (length xs)))
-      ∙ sym (sets_append old 0 xs ys);
-  size_is = omega (arith, p.size_is, q.size_is, length-append xs ys);
-}
-
 -- what is told: how many bytes, and the text
 abbrev pub Tells : List ℕ → List ℕ → ℕ → List ℕ → Type 0
 Tells old bytes r new = ◌≡◌ {A = Written} (record { length = r; buffer = new }) (written_to old bytes)
@@ -55,62 +44,44 @@ pub no_room : (old bytes : List ℕ) → length old < length bytes → Tells old
 unfolding written_to
 no_room old bytes h = rw (lt-leb (length bytes) (length old) h, written_to)
 
-all_put : (old bytes new : List ℕ) (r : ℕ) → length bytes ≤ length old → BytesPut bytes old new 0 r → Tells old bytes r new
+pub all_put : (old bytes new : List ℕ) (r : ℕ) → length bytes ≤ length old → BytesPut bytes old new 0 r → Tells old bytes r new
 unfolding written_to overwrite
 all_put old bytes new r h p =
     let e : new ≡ bytes ++ drop (length bytes) old =
     p.new_is ∙ sets-eq bytes old 0 (omega arith) ∙ ap (λ (i : ℕ). bytes ++ drop i old) (zero-add (length bytes)) in
     rw (le-leb (length bytes) (length old) h, written_to, p.size_is, e)
 
--- the first line of a refused term: its size, and the parts written
-pub refused_size : (counts : List ℕ) (n v count size : ℕ) → 0 < length counts → v ≡ n → count ≡ length (decimal v)
-    → size ≡ length (fields counts) + 1 → 3 + (count + 1) + size ≡ length (refused_line n counts)
-refused_size counts n v count size some e ce se =
-    let l : length (decimal v) ≡ length (decimal n) = ap (λ (x : ℕ). length (decimal x)) e in
-    omega (arith, length_refused counts some n)
+module _ (counts : List ℕ) (some : 0 < length counts) where
+  -- the first line of a refused term, in its parts
+  pub refused_put : (n : ℕ) {old a b c : List ℕ} {r s : ℕ} → BytesPut nope old a 0 3 → BytesPut (decimal n ++ space ∷ []) a b 3 r
+      → BytesPut (fields counts ++ newline ∷ []) b c (3 + r) s → BytesPut (refused_line n counts) old c 0 (3 + r + s)
+  refused_put n p q u =
+      rw (refused_parts counts some n)
+      (puts_more (fields counts ++ newline ∷ []) (omega arith) (puts_more (decimal n ++ space ∷ []) (omega arith) p q) u)
 
-pub refused_put : (old counts a b c start : List ℕ) (n v r s : ℕ) → 0 < length counts → v ≡ n → length (refused_line n counts) ≤ length old
-    → start ≡ nope → a ≡ sets old 0 start → BytesPut (decimal v ++ space ∷ []) a b 3 r
-    → BytesPut (fields counts ++ newline ∷ []) b c (3 + r) s → Tells old (refused_line n counts) (3 + r + s) c
-unfolding ascii
-refused_put old counts a b c start n v r s some e h st ae p q =
-    let p0 : BytesPut nope old a 0 3 = record { new_is = ae ∙ ap (sets old 0) st; size_is = refl } in
-    let p1 : BytesPut (decimal n ++ space ∷ []) a b 3 r = rw e at p in
-    let p2 : BytesPut (refused_line n counts) old c 0 (3 + r + s) =
-    rw (refused_parts counts some n) (puts_more (fields counts ++ newline ∷ []) c s (puts_more (decimal n ++ space ∷ []) b r p0 p1) q) in
-    all_put old (refused_line n counts) c (3 + r + s) h p2
+  -- that of an accepted term
+  pub accepted_put : (ty n : ℕ) {old a b c d : List ℕ} {r s t : ℕ} → BytesPut okay old a 0 3 → BytesPut (decimal ty ++ space ∷ []) a b 3 r
+      → BytesPut (decimal n ++ space ∷ []) b c (3 + r) s → BytesPut (fields counts ++ newline ∷ []) c d (3 + r + s) t
+      → BytesPut (accepted_line ty n counts) old d 0 (3 + r + s + t)
+  accepted_put ty n p q u v =
+      rw (accepted_parts counts some ty n)
+      (puts_more (fields counts ++ newline ∷ []) (omega arith)
+      (puts_more (decimal n ++ space ∷ []) (omega arith) (puts_more (decimal ty ++ space ∷ []) (omega arith) p q) u) v)
 
--- the first line of an accepted term: its size, and the parts written
-pub accepted_size : (counts : List ℕ) (ty n a b size : ℕ) → 0 < length counts → a ≡ length (decimal ty) → b ≡ length (decimal n)
-    → size ≡ length (fields counts) + 1 → 3 + (a + 1) + (b + 1) + size ≡ length (accepted_line ty n counts)
-accepted_size counts ty n a b size some ae be se = omega (arith, length_accepted counts some ty n)
+-- the first line of an accepted term and the words after it: their size, and both written
+module _ (counts words : List ℕ) (ty : ℕ) where
+  abbrev first : List ℕ
+  first = accepted_line ty (length words) counts
 
-pub accepted_put : (old counts a b c d start : List ℕ) (ty n r s t : ℕ) → 0 < length counts → start ≡ okay → a ≡ sets old 0 start
-    → BytesPut (decimal ty ++ space ∷ []) a b 3 r → BytesPut (decimal n ++ space ∷ []) b c (3 + r) s
-    → BytesPut (fields counts ++ newline ∷ []) c d (3 + r + s) t → d ≡ sets old 0 (accepted_line ty n counts)
-unfolding ascii
-accepted_put old counts a b c d start ty n r s t some st ae p q u =
-    let p0 : BytesPut okay old a 0 3 = record { new_is = ae ∙ ap (sets old 0) st; size_is = refl } in
-    let p1 : BytesPut (accepted_line ty n counts) old d 0 (3 + r + s + t) =
-    rw (accepted_parts counts some ty n)
-    (puts_more (fields counts ++ newline ∷ []) d t
-    (puts_more (decimal n ++ space ∷ []) c s (puts_more (decimal ty ++ space ∷ []) b r p0 p) q) u) in
-    p1.new_is
+  abbrev pub accepted : List ℕ
+  accepted = accepted_line ty (length words) counts ++ lines words
 
--- it and the words after it: their size, and the words written
-module _ (counts words : List ℕ) (ty n size : ℕ) (enough : n ≤ length words) (e : size ≡ length (accepted_line ty n counts)) where
-  abbrev bytes : List ℕ
-  bytes = accepted_line ty n counts ++ lines (take n words)
+  pub listing_size : length accepted ≡ length first + 17 * length words
+  listing_size = length-append first (lines words) ∙ ap (λ k. length first + k) (length_lines words)
 
-  length-words : length (lines (take n words)) ≡ 17 * n
-  length-words = length_lines (take n words) ∙ ap (λ (k : ℕ). 17 * k) (length-take-le n words enough)
+  pub words_put : {old mid new : List ℕ} {size : ℕ} → size ≡ length first → mid ≡ sets old 0 first → new ≡ sets mid size (lines words)
+      → BytesPut accepted old new 0 (size + 17 * length words)
+  words_put s m e =
+      puts_more (lines words) (omega arith) (record { new_is = m; size_is = s }) (record { new_is = e; size_is = sym (length_lines words) })
 
-  pub listing_size : size + 17 * n ≡ length bytes
-  listing_size = omega (arith, length-append (accepted_line ty n counts) (lines (take n words)), length-words)
-
-  pub words_put : (old mid new : List ℕ) → length bytes ≤ length old → mid ≡ sets old 0 (accepted_line ty n counts)
-      → new ≡ sets mid size (lines (take n words)) → Tells old bytes (size + 17 * n) new
-  words_put old mid new h m l =
-      let front : BytesPut (accepted_line ty n counts) old mid 0 size = record { new_is = m; size_is = e } in
-      all_put old bytes new (size + 17 * n) h
-      (puts_more (lines (take n words)) new (17 * n) front (record { new_is = l; size_is = sym length-words }))
+pub ruleset lengths = (field_length, line_length, length_refused, length_accepted)

@@ -1,54 +1,33 @@
 // The bundle reader: words most significant byte first, a header of four lengths, then the tables.
-ghost use Rattle.std.specs.Prelude.{◌≡◌, ◌+◌, ◌*◌, ◌≤◌, ◌<◌, length, get_or, take, drop};
-ghost use Rattle.outcomes.specs.Buffers.{overwrite};
-ghost use Rattle.outcomes.specs.ReadBundle.{from_bytes, words_of, lengths_of, total, unreadable, read_bundle_outcome};
+ghost use Rattle.std.specs.Prelude.{◌≡◌, ◌+◌, ◌*◌, ◌≤◌, length, take, drop, Ok};
+ghost use Rattle.outcomes.specs.ReadBundle.{from_bytes, words_of, lengths_of, lengths_read, total, read_bundle_outcome};
 
-use outcomes::Lengths;
-
-fn wide(b: u8) -> u64
-    ensures { (result ≡ b) × (result < 256) }
-{
-    b as u64
-}
-
-// two bytes, the most significant first
-fn pair_at(bytes: &[u8], at: usize) -> u64
-    requires { at + 2 ≤ length bytes.now }
-    ensures { (result ≡ get_or bytes.now at 0 * 256 + get_or bytes.now (at + 1) 0) × (result < 65536) }
-{
-    wide(bytes[at]) * 256 + wide(bytes[at + 1])
-}
+use outcomes::{Lengths, Refusal};
 
 // the word of eight bytes, the most significant first
 pub fn word_at(bytes: &[u8], at: usize) -> u64
     requires { at + 8 ≤ length bytes.now }
     ensures { result ≡ from_bytes 0 (take 8 (drop at bytes.now)) }
 {
-    let a = pair_at(bytes, at);
-    let b = pair_at(bytes, at + 2);
-    let c = pair_at(bytes, at + 4);
-    let d = pair_at(bytes, at + 6);
-    ((a * 65536 + b) * 65536 + c) * 65536 + d
+    u64::from_be_bytes(<[u8; 8]>::try_from(&bytes[at..at + 8]).unwrap())
 }
 
-// writes the n words after the header to the front
-fn copy_words(bytes: &[u8], words: &mut [u64], n: usize)
-    requires { (8 * (1 + n) ≤ length bytes.now) × (n ≤ length words.old) }
-    ensures { words.new ≡ overwrite (words_of n (drop 8 bytes.now)) words.old }
+// the words of these bytes, as many as there is room for
+pub fn copy_words(bytes: &[u8], words: &mut [u64])
+    requires { 8 * length words.old ≤ length bytes.now }
+    ensures { words.new ≡ words_of (length words.old) bytes.now }
 {
-    let mut i: usize = 0;
-    while i < n {
-        words[i] = word_at(bytes, 8 * i + 8);
-        i += 1;
+    for (i, word) in words.iter_mut().enumerate() {
+        *word = word_at(bytes, 8 * i);
     }
 }
 
 // the four lengths of a header, 13 bits each
+#[tactic(auto, unfolding(outcomes::specs::ReadBundle::lengths_of))]
 fn lengths_of(header: u64) -> Lengths
-    ensures { (result ≡ lengths_of header) × (total result ≤ 32764) }
+    ensures { (lengths_read (Ok result) ≡ lengths_of header) × (total (lengths_read (Ok result)) ≤ 32764) }
 {
     Lengths {
-        refusal: 0,
         types: (header / 2251799813685248) as usize,
         calls: (header / 274877906944 % 8192) as usize,
         inputs: (header / 33554432 % 8192) as usize,
@@ -56,41 +35,24 @@ fn lengths_of(header: u64) -> Lengths
     }
 }
 
-fn refused() -> Lengths
-    ensures { result ≡ unreadable }
-{
-    Lengths {
-        refusal: 12,
-        types: 0,
-        calls: 0,
-        inputs: 0,
-        words: 0,
-    }
-}
-
-// the four lengths, and the words after the header at the slice's front; or 12, zeros and the slice unchanged
-pub fn read_bundle(bytes: &[u8], words: &mut [u64]) -> Lengths
-    ensures { record { lengths = result; words = words.new } ≡ read_bundle_outcome bytes.now words.old }
+// the four lengths, and the words after the header at the slice's front; or refusal 12 and the slice unchanged
+#[tactic(auto, using(crate::proofs::Readable::refused_or))]
+pub fn read_bundle(bytes: &[u8], words: &mut [u64]) -> Result<Lengths, Refusal>
+    ensures { record { lengths = lengths_read result; words = words.new } ≡ read_bundle_outcome bytes.now words.old }
 {
     let size = bytes.len();
-    if 65536 < size {
-        return refused();
-    }
-    if size < 8 {
-        return refused();
+    if size < 8 || 65536 < size {
+        return Err(Refusal::Bundle);
     }
     let header = word_at(bytes, 0);
     if 0 < header % 4096 {
-        return refused();
+        return Err(Refusal::Bundle);
     }
     let lengths = lengths_of(header);
     let n = lengths.types + (lengths.calls + (lengths.inputs + lengths.words));
-    if size != 8 * (1 + n) {
-        return refused();
+    if size != 8 * (1 + n) || words.len() < n {
+        return Err(Refusal::Bundle);
     }
-    if words.len() < n {
-        return refused();
-    }
-    copy_words(bytes, words, n);
-    lengths
+    copy_words(&bytes[8..], &mut words[..n]);
+    Ok(lengths)
 }

@@ -92,41 +92,6 @@ unfolding overwrite
 refusal_listed n output text told e = e ∙ front_listed (record { answer = unread n; words = [] }) output text refl
 
 module _ (l : Lengths) (ws text : List ℕ) (told : Written) where
-  -- where the calls, the inputs and the term start, and where it ends
-  abbrev calls_at : ℕ
-  calls_at = l.types
-
-  abbrev inputs_at : ℕ
-  inputs_at = calls_at + l.calls
-
-  abbrev term_at : ℕ
-  term_at = inputs_at + l.inputs
-
-  abbrev end : ℕ
-  end = term_at + l.words
-
-  part_is : (n i i' j : ℕ) → i ≡ i' → j ≡ i + n → take (j - i) (drop i ws) ≡ take n (drop i' ws)
-  part_is n i i' j e f = let g : j - i ≡ n = omega arith in rw (g, e)
-
-  -- the tables and the term are those parts of the words
-  pub parts_answered : told ≡ written_to text (listed (normalize_within max_capacity program_settings
-      (over (take (calls_at - 0) ws) (take (inputs_at - calls_at) (drop calls_at ws)) (take (term_at - inputs_at) (drop inputs_at ws)))
-      (take (end - term_at) (drop term_at ws))))
-      → told ≡ written_to text (listed (normalize_within max_capacity program_settings (tables_of l ws) (term_of l ws)))
-  unfolding tables_of term_of
-  parts_answered e =
-      e ∙ ap (λ (t : Tables). Answered t (take (end - term_at) (drop term_at ws)))
-      (same_tables (part_is l.types 0 0 calls_at refl (omega arith)) (part_is l.calls calls_at calls_at inputs_at refl refl)
-      (part_is l.inputs inputs_at inputs_at term_at refl refl))
-      ∙ ap (Answered (tables_of l ws)) (part_is l.words term_at (l.types + (l.calls + l.inputs)) end (omega arith) refl)
-    where
-      Answered : Tables → List ℕ → Written
-      Answered t w = written_to text (listed (normalize_within max_capacity program_settings t w))
-
-      same_tables : {t t' c c' i i' : List ℕ} → t ≡ t' → c ≡ c' → i ≡ i' → over t c i ≡ over t' c' i'
-      same_tables {t} {t'} {c} {c'} {i} {i'} p q r =
-          ap (λ (x : List ℕ). over x c i) p ∙ ap (λ (x : List ℕ). over t' x i) q ∙ ap (λ (x : List ℕ). over t' c' x) r
-
   -- what is written for a reading, by its refusal
   refused_response : (n : ℕ) → l.refusal ≡ n → (n ≡ 0 → ⊥)
       → listing_of (unread l.refusal) [] ≡ respond_to (record { lengths = l; words = ws })

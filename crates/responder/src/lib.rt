@@ -44,14 +44,13 @@ fn answer_to(types: &[u64], calls: &[u64], inputs: &[u64], term: &[u64], text: &
 fn refuse(refusal: u32, text: &mut [u8]) -> usize
     ensures { record { length = result; buffer = text.new } ≡ written_to text.old (listing_of (unread refusal) []) }
 {
-    let none: [u64; 1] = [0];
     let answer = Answer {
-        refusal: refusal,
+        refusal,
         ty: 0,
         length: 0,
         counts: [0; 10],
     };
-    listing(answer, &none, text)
+    listing(answer, &[], text)
 }
 
 // splits the words that are read into the tables and the term, and answers to them
@@ -61,18 +60,10 @@ fn answer_parts(words: &[u64], lengths: Lengths, text: &mut [u8]) -> usize
         ≡ written_to text.old (listed (normalize_within max_capacity program_settings
         (tables_of lengths words.now) (term_of lengths words.now))) }
 {
-    let types: usize = 0;
-    let calls = lengths.types;
-    let inputs = calls + lengths.calls;
-    let term = inputs + lengths.inputs;
-    let end = term + lengths.words;
-    answer_to(
-        &words[types..calls],
-        &words[calls..inputs],
-        &words[inputs..term],
-        &words[term..end],
-        text,
-    )
+    let (types, rest) = words.split_at(lengths.types);
+    let (calls, rest) = rest.split_at(lengths.calls);
+    let (inputs, rest) = rest.split_at(lengths.inputs);
+    answer_to(types, calls, inputs, &rest[..lengths.words], text)
 }
 
 // what the program writes for the bytes that it reads: how many bytes of the text, 0 if it is too short

@@ -4,7 +4,10 @@ use native.Mathlib.Omega.{arith}
 use mathlib.Core.Path.{◌≡◌, refl, sym, ◌∙◌, ap}
 use mathlib.Core.List.{List, [], append-nil}
 use lib.ListN.{length, drop}
-use Rattle.std.proofs.Common.{Option, Some, None}
+use Rattle.std.proofs.Common.{Option, Some, None, ◌⊎◌}
+use mathlib.Core.Logic.◌⊎◌.{inl, inr}
+use Rattle.reduction.specs.MayDrop.{may_drop}
+use Rattle.reduction.specs.Redex.{first_redex}
 use Rattle.syntax.specs.Term.{Term}
 use Rattle.syntax.specs.Encoding.{encode}
 use Rattle.reduction.specs.declared.Phase.{Phase}
@@ -30,11 +33,11 @@ module _ {phase : Phase} (ready : (calls : List ℕ) (t : Term) (i : ℕ) → Ph
   finds_first f = record { told = λ t i a. f.told t i (onward t i a) }
 
 -- what they take as known
-pub insertion_ready : (calls : List ℕ) (t : Term) (i : ℕ) → PhasePremise calls Insertion t i → Scannable calls Insertion t
-insertion_ready calls t i b = tt
-
-pub reduction_ready : (calls : List ℕ) (t : Term) (i : ℕ) → PhasePremise calls Reduction t i → Scannable calls Reduction t
-reduction_ready calls t i b = b
+pub scanned : (phase : Phase) → (phase ≡ Insertion) ⊎ (phase ≡ Reduction) → (calls : List ℕ) (t : Term) (i : ℕ)
+    → PhasePremise calls phase t i → Scannable calls phase t
+scanned Insertion e calls t i p = tt
+scanned Reduction e calls t i p = p
+scanned Dropping e calls t i p = elim e [ inl d ↦ absurd cc | inr d ↦ absurd cc ]
 
 -- what is found in the whole is found at its place
 at_front : (r : Option Redex) → moved_by 0 r ≡ r
@@ -43,21 +46,29 @@ at_front (Some r) =
     let e : 0 + r.place ≡ r.place = omega arith in ap (λ (p : ℕ). Some (record { rule = r.rule; place = p })) e
 
 -- phase 3
-module _ {calls rest : List ℕ} where
-  whole : {t : Term} {i : ℕ} → SearchAt Dropping calls rest i t → rest ≡ encode t
-  whole {t} a = a.is ∙ ap (λ (i : ℕ). drop i (encode t)) a.premise
+at_zero : (phase : Phase) (calls : List ℕ) (t : Term) (i : ℕ) → phase ≡ Dropping → PhasePremise calls phase t i → i ≡ 0
+at_zero Insertion calls t i e p = absurd cc
+at_zero Reduction calls t i e p = absurd cc
+at_zero Dropping calls t i e p = p
 
-  pub whole_starts : {marks : List ℕ} → Searchable Dropping calls rest marks → Starts calls rest
-  whole_starts s = record {
-    term = s.term;
-    rest = [];
-    holds = record { shaped = s.at.shaped; is = whole s.at ∙ sym (append-nil (encode s.term)) };
-  }
-
-  pub marks_open : {phase : Phase} {marks : List ℕ} → Searchable phase calls rest marks → MarkSpace marks 0 (length rest)
+module _ {phase : Phase} {calls rest : List ℕ} where
+  pub marks_open : {marks : List ℕ} → Searchable phase calls rest marks → MarkSpace marks 0 (length rest)
   marks_open s = record { deep = omega (arith, s.deep); small = s.marks_small; low = λ d l. absurd (omega (arith, l)) }
 
-  pub finds_unused : {r : Option Redex} → FindsUnused calls rest r → Finds Dropping calls rest r
-  finds_unused {r} f = record {
-    told = λ t i a. ap (λ (k : ℕ). moved_by k r) a.premise ∙ at_front r ∙ f.told t a.shaped (whole a);
-  }
+  module _ (e : phase ≡ Dropping) where
+    whole : {t : Term} {i : ℕ} → SearchAt phase calls rest i t → rest ≡ encode t
+    whole {t} {i} a = a.is ∙ ap (λ (k : ℕ). drop k (encode t)) (at_zero phase calls t i e a.premise)
+
+    pub whole_starts : {marks : List ℕ} → Searchable phase calls rest marks → Starts calls rest
+    whole_starts s = record {
+      term = s.term;
+      rest = [];
+      holds = record { shaped = s.at.shaped; is = whole s.at ∙ sym (append-nil (encode s.term)) };
+    }
+
+    pub finds_unused : {r : Option Redex} → FindsUnused calls rest r → Finds phase calls rest r
+    finds_unused {r} f = record {
+      told = λ t i a.
+          ap (λ (k : ℕ). moved_by k r) (at_zero phase calls t i e a.premise) ∙ at_front r ∙ f.told t a.shaped (whole a)
+          ∙ ap (λ (p : Phase). first_redex (may_drop calls) p t) (sym e);
+    }

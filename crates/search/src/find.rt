@@ -19,8 +19,7 @@ pub fn find(
     ensures { Finds phase calls.now rest.now result }
 {
     match phase {
-        Phase::Insertion => first_redex(phase, calls, rest),
-        Phase::Reduction => first_redex(phase, calls, rest),
+        Phase::Insertion | Phase::Reduction => first_redex(phase, calls, rest),
         Phase::Dropping => first_unused(calls, acting, rest, marks),
     }
 }

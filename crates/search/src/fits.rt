@@ -41,7 +41,7 @@ pub fn first_computation(calls: &[u64], t: &[u64]) -> Option<Operand>
 fn kind_at(t: &[u64], i: usize) -> u64
     ensures { result ≡ kind_of (get_or t.now i 0) }
 {
-    t.get(i).map_or(0, |w| kind(*w))
+    t.get(i).map_or(0, |&w| kind(w))
 }
 
 // the rule of phase 2 that fits a let, by the kind of its bound part and of that part's first part

@@ -8,7 +8,6 @@ pub fn mark(used: &mut [u64], depth: usize, number: usize, by: u64)
     ensures { Marked by (var number) depth used.old used.new }
 {
     if number < depth {
-        let d = depth - 1 - number;
-        used[d] = used[d] + by;
+        used[depth - 1 - number] += by;
     }
 }

@@ -9,17 +9,14 @@ use words::fields::{kind, number};
 
 // not an acting call, and not an application where some call of the table acts. Whether one does is asked of the table once, before any
 // search, and handed on as `acting`.
+#[tactic(auto, unfolding(crate::specs::NodeMayDrop::node_may_drop))]
 pub fn may_drop(calls: &[u64], acting: bool, w: u64) -> bool
     requires { acting ≡ some_acts calls.now }
     ensures { result ≡ node_may_drop calls.now (kind_of w) (number_of w) }
 {
-    let k = kind(w);
-    if k == 1 {
-        let acts = call_acts(calls, number(w));
-        return !acts;
+    match kind(w) {
+        1 => !call_acts(calls, number(w)),
+        3 => !acting,
+        _ => true,
     }
-    if k == 3 {
-        return !acting;
-    }
-    true
 }

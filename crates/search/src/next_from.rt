@@ -11,12 +11,7 @@ pub fn next_from(phase: Phase, place: usize) -> usize
 {
     match phase {
         Phase::Insertion => place,
-        Phase::Reduction => {
-            if place == 0 {
-                return 0;
-            }
-            place - 1
-        }
+        Phase::Reduction => place.saturating_sub(1),
         Phase::Dropping => 0,
     }
 }

@@ -10,10 +10,11 @@ use crate::may_drop::may_drop;
 use crate::value::value_test;
 use reduction::{Redex, Rule};
 use words::fields::{kind, number};
-use words::lesser::lesser;
 use words::shape::{outer_count, part_count};
 
 // past every place: the mark of a binder that cannot be dropped, and what each use adds to a mark
+// kept: a number and no Option, because marks are words of the caller's buffer and each use adds to one; with an Option for the place the
+// uses would have to be counted in another buffer
 const NO_PLACE: u64 = 65536;
 
 // where a part ends, and the least place in it of a let that can be dropped, or NO_PLACE
@@ -40,14 +41,9 @@ fn least_mark(used: &[u64], start: usize, end: usize, first: u64) -> u64
     requires { (start ≤ end) × (end ≤ length used.now) }
     ensures { LeastMark used.now start end first result }
 {
-    let mut least = first;
-    let mut d = start;
-    while d < end {
-        let next = lesser(least, used[d]);
-        least = next;
-        d += 1;
-    }
-    least
+    used[start..end]
+        .iter()
+        .fold(first, |least, &mark| least.min(mark))
 }
 
 // goes through the part at the front, which begins at the place `base`. `owed` parts are ahead, and then `later` ones under one binder
@@ -96,9 +92,8 @@ fn scan_part(
                     later = n - outer;
                 } else {
                     let part = scan_part(calls, acting, &t[at..], used, under, base + at);
-                    let least = lesser(first, part.first);
-                    first = least;
-                    at = at + part.end;
+                    first = first.min(part.first);
+                    at += part.end;
                     owed -= 1;
                 }
             }
@@ -114,14 +109,7 @@ fn scan_part(
 fn has_let(t: &[u64]) -> bool
     ensures { result ≡ has_let t.now }
 {
-    let mut i: usize = 0;
-    while i < t.len() {
-        if kind(t[i]) == 4 {
-            return true;
-        }
-        i += 1;
-    }
-    false
+    t.iter().any(|&w| kind(w) == 4)
 }
 
 // the first let in the part at the front that can be dropped; uses are marked only where there is a let

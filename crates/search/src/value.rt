@@ -27,7 +27,7 @@ pub fn value_test(calls: &[u64], t: &[u64]) -> Option<usize>
     let mut owed: usize = 1;
     let mut at: usize = 0;
     while 0 < owed {
-        let n = counts[kind(t[at]) as usize] as usize;
+        let n = usize::from(counts[kind(t[at]) as usize]);
         if n < FUNCTION {
             owed = owed - 1 + n;
             at += 1;
