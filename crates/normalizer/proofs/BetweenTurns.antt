@@ -7,6 +7,7 @@ use mathlib.Core.Path.{◌≡◌, refl, sym, ◌∙◌, ap}
 use mathlib.Core.List.{List}
 use mathlib.Core.Option.{some, none}
 use lib.ListN.{length}
+use Rattle.std.specs.Prelude.{Option, Some, None, Result, Ok, Err}
 use Rattle.syntax.specs.Tables.{Tables}
 use Rattle.syntax.specs.Term.{Term}
 use Rattle.syntax.specs.Encoding.{size}
@@ -18,13 +19,14 @@ use Rattle.reduction.specs.Redex.{Step, step}
 use Rattle.reduction.specs.Clear.{Clear}
 use Rattle.reduction.specs.declared.Settings.{Settings}
 use Rattle.reduction.specs.Reduction.{Counts, raise, Progress, stopped, reached, run_phase}
-use Rattle.reduction.specs.declared.Rule.{Rule}
 use Rattle.reduction.specs.declared.Phase.{Phase}
 use Rattle.reduction.specs.declared.Phase.TheVariants.{Insertion, Reduction, Dropping}
 use Rattle.reduction.proofs.Clear.{clear_zero}
 use Rattle.reduction.proofs.Path.{Follows, first_second, second_third}
 use Rattle.reduction.proofs.Remaining.{onwards, onwards_stopped, turn_stops, turn_spent, turn_met, turn_full, turn_goes}
 use Rattle.reduction.proofs.Remaining.{insertion_ends, reduction_ends}
+use Rattle.outcomes.specs.declared.Refusal.{Refusal}
+use Rattle.outcomes.specs.Refusal.{number_of}
 use Rattle.theory.proofs.Fields.{Fitting, shaped}
 use Rattle.theory.proofs.TypesKept.{infer_step}
 use Rattle.theory.proofs.Operands.{inserted, not_inserted}
@@ -35,8 +37,7 @@ use Rattle.step.specs.Currents.{Gapped, Current}
 use Rattle.step.specs.Gaps.{Seekable, Seeks}
 use Rattle.step.specs.Turns.{CurrentClear, Ready, Turned, stops, spent, met, full, goes, Turns}
 use Rattle.search.specs.NextFrom.{next_from}
-use Rattle.step.specs.declared.turn.Turn.{Turn}
-use Rattle.step.specs.declared.turn.Turn.TheVariants.{Stop, Refused, Step as Stepped}
+use Rattle.step.specs.declared.turn.Step.{Step as Stepped}
 use Rattle.step.proofs.GapMoved.{gapped_size, gapped_seekable, gapped_sought}
 
 -- the variables of the two loops
@@ -48,19 +49,17 @@ pub record State : Type 0 where
   pub left : ℕ
   pub counts : Counts
   pub second : List ℕ
-  pub refusal : ℕ
 
 -- after a step
-abbrev pub stepped : State → (words : List ℕ) (start end : ℕ) → Counts → (second : List ℕ) → State
-stepped s words start end counts second = record {
+abbrev pub stepped : State → (words : List ℕ) → Stepped → (second : List ℕ) → State
+stepped s words r second = record {
   phase = s.phase;
   words = words;
-  start = start;
-  end = end;
+  start = r.start;
+  end = r.end;
   left = s.left - 1;
-  counts = counts;
+  counts = raise r.rule s.counts;
   second = second;
-  refusal = s.refusal;
 }
 
 -- at the front, in another phase
@@ -73,8 +72,11 @@ at_front s phase words end second = record {
   left = s.left;
   counts = s.counts;
   second = second;
-  refusal = s.refusal;
 }
+
+-- what a turn answers: why it is refused, that the phase is over, or a step
+abbrev pub Turn : Type 0
+Turn = Result (Option Stepped) Refusal
 
 -- the turn that is taken in a state
 abbrev pub TurnFrom : (calls : List ℕ) → Settings → State → (after : List ℕ) → Turn → Type 0
@@ -151,11 +153,12 @@ module _ (tables : Tables) (capacity : ℕ) (settings : Settings) (whole : Progr
     stands_ready limit scratch = record { term = x.term; at = x.at; limit = limit; scratch = scratch }
 
     -- a turn that is refused
-    pub stands_refused : {after : List ℕ} (n : ℕ) → TurnFrom tables.calls settings s after (Refused n) → whole ≡ stopped n s.counts
-    stands_refused n turn = told (turn.told x.term x.at) x.long
+    pub stands_refused : {after : List ℕ} {why : Refusal} → TurnFrom tables.calls settings s after (Err why)
+        → whole ≡ stopped (number_of why) s.counts
+    stands_refused turn = told (turn.told x.term x.at) x.long
       where
-        told : {after : List ℕ} {n m : ℕ} → TurnedFrom tables.calls settings s after m x.term (Refused n)
-            → m ≡ capacity → whole ≡ stopped n s.counts
+        told : {after : List ℕ} {why : Refusal} {m : ℕ} → TurnedFrom tables.calls settings s after m x.term (Err why)
+            → m ≡ capacity → whole ≡ stopped (number_of why) s.counts
         told (spent st e z) l = sym (comes_to (turn_spent pure capacity settings s.phase s.left x.term s.counts st e z))
             ∙ onwards_stopped pure capacity settings s.phase 10 s.counts
         told (met st e h u) l = sym (comes_to (turn_met pure capacity settings s.phase s.left x.term s.counts st e h u))
@@ -165,14 +168,14 @@ module _ (tables : Tables) (capacity : ℕ) (settings : Settings) (whole : Progr
             ∙ onwards_stopped pure capacity settings s.phase 11 s.counts
 
     -- a turn that takes a step
-    pub stands_steps : {after : List ℕ} (rule : Rule) (from rest : ℕ) (second : List ℕ) → Fitting tables → capacity ≤ 8192
-        → length after ≡ capacity → TurnFrom tables.calls settings s after (Stepped rule from rest)
-        → (0 < s.left) × StandsFor (stepped s after from rest (raise rule s.counts) second)
-    stands_steps rule from rest second fit limit long turn = told long (turn.told x.term x.at)
+    pub stands_steps : {after : List ℕ} (r : Stepped) (second : List ℕ) → Fitting tables → capacity ≤ 8192
+        → length after ≡ capacity → TurnFrom tables.calls settings s after (Ok (Some r))
+        → (0 < s.left) × StandsFor (stepped s after r second)
+    stands_steps r second fit limit long turn = told long (turn.told x.term x.at)
       where
-        told : {after : List ℕ} {rule : Rule} {from rest n : ℕ} → length after ≡ capacity
-            → TurnedFrom tables.calls settings s after n x.term (Stepped rule from rest)
-            → (0 < s.left) × StandsFor (stepped s after from rest (raise rule s.counts) second)
+        told : {after : List ℕ} {r : Stepped} {n : ℕ} → length after ≡ capacity
+            → TurnedFrom tables.calls settings s after n x.term (Ok (Some r))
+            → (0 < s.left) × StandsFor (stepped s after r second)
         told long (goes st n e h u g) = (
           h,
           record {
@@ -196,11 +199,11 @@ module _ (tables : Tables) (capacity : ℕ) (settings : Settings) (whole : Progr
             fits = omega (arith, gapped_size g, g.ordered, g.inside, long)
 
     -- a turn that ends the phase
-    module _ {after : List ℕ} (turn : TurnFrom tables.calls settings s after Stop) where
+    module _ {after : List ℕ} (turn : TurnFrom tables.calls settings s after (Ok None)) where
       stops_at : (step pure s.phase x.term ≡ none) × Current tables.calls after s.start s.end x.term
       stops_at = told (turn.told x.term x.at)
         where
-          told : {after : List ℕ} {n : ℕ} → TurnedFrom tables.calls settings s after n x.term Stop
+          told : {after : List ℕ} {n : ℕ} → TurnedFrom tables.calls settings s after n x.term (Ok None)
               → (step pure s.phase x.term ≡ none) × Current tables.calls after s.start s.end x.term
           told (stops e c) = (e, c)
 

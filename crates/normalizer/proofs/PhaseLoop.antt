@@ -1,10 +1,11 @@
 -- The loop over the phases: a phase that is over is followed by the next at the same term, so it comes to what the whole comes to.
-use Prim.Native.Nat.{ℕ, suc, ◌≤◌}
+use Prim.Native.Nat.{ℕ, ◌≤◌}
 use native.Mathlib.Omega.{arith}
 use mathlib.Core.Path.{◌≡◌, refl, sym, ◌∙◌, ap, subst}
 use mathlib.Core.List.{List}
 use mathlib.Core.Option.{some, some-injective}
 use lib.ListN.{length}
+use Rattle.std.specs.Prelude.{None, Ok, Err}
 use Rattle.syntax.specs.Tables.{over}
 use Rattle.syntax.specs.Term.{Term}
 use Rattle.syntax.specs.Decoding.{decode}
@@ -12,23 +13,20 @@ use Rattle.syntax.proofs.Decoding.{decode-words}
 use Rattle.typing.specs.Infer.{infer}
 use Rattle.reduction.specs.MayDrop.{may_drop}
 use Rattle.reduction.specs.declared.Settings.{Settings}
-use Rattle.reduction.specs.Reduction.{zero_counts, stopped, reduce}
+use Rattle.reduction.specs.Reduction.{zero_counts, reduce}
 use Rattle.reduction.specs.declared.Phase.{Phase}
 use Rattle.reduction.specs.declared.Phase.TheVariants.{Insertion, Reduction, Dropping}
 use Rattle.reduction.proofs.Clear.{clear_zero}
 use Rattle.reduction.proofs.Path.{Follows}
 use Rattle.reduction.proofs.Remaining.{reduce_begins}
 use Rattle.reduction.proofs.CountsBounded.{zeros}
+use Rattle.outcomes.specs.declared.Refusal.{Refusal}
 use Rattle.theory.proofs.Fields.{fitting}
-use Rattle.step.specs.Currents.{Gapped, Current}
+use Rattle.step.specs.Currents.{Current}
 use Rattle.step.specs.Gaps.{Seeks}
-use Rattle.step.specs.Turns.{spent, met, full}
-use Rattle.step.specs.declared.turn.Turn.{Turn}
-use Rattle.step.specs.declared.turn.Turn.TheVariants.{Stop, Refused}
-use Rattle.normalizer.specs.Reductions.{Reducible, Reports, refusal, ended, Reduces}
-use Rattle.normalizer.specs.declared.reduce.Reduced.{Reduced}
+use Rattle.normalizer.specs.Reductions.{Reducible, Reduces}
 use Rattle.step.proofs.GapMoved.{gapped_size}
-use Rattle.normalizer.proofs.BetweenTurns.{State, at_front, TurnFrom, TurnedFrom, StandsFor, stands_refused, stands_onwards}
+use Rattle.normalizer.proofs.BetweenTurns.{State, at_front, TurnFrom, StandsFor, stands_refused, stands_onwards}
 use Rattle.normalizer.proofs.BetweenTurns.{stands_at_form}
 use Rattle.normalizer.proofs.StepLoop.{Arrives}
 
@@ -49,7 +47,6 @@ initial words begin settings second = record {
   left = settings.budget;
   counts = zero_counts;
   second = second;
-  refusal = 0;
 }
 
 -- there it stands for the whole of itself
@@ -89,7 +86,6 @@ arrives_initial {calls} {words} {second} {begin} {settings} h x =
       scratch = x.scratch;
       same = refl;
       same_second = refl;
-      none_yet = refl;
     }
 
 module _ {calls words second : List ℕ} {begin : ℕ} {settings : Settings} {b : State}
@@ -105,53 +101,33 @@ module _ {calls words second : List ℕ} {begin : ℕ} {settings : Settings} {b 
       (current_unique s.at.current c) s.typed))
 
   -- it is refused
-  pub refused_reduces : {after : List ℕ} {turn : Turn} {n : ℕ} {r : Reduced} → TurnFrom calls settings b after turn → turn ≡ Refused n
-      → r.refusal ≡ n → r.counts ≡ b.counts → Reduces calls words begin settings after r
-  refused_reduces {after} {turn} {n} {r} x te re ce = record {
-    told = λ t c.
-        let s = stands_now t c in
-        let k = number (refused_turn.told s.term s.at) in
-        subst (Reports after r) (sym (stands_refused _ _ _ _ s n refused_turn ∙ ap (λ (i : ℕ). stopped i b.counts) k.1))
-        (refusal (re ∙ k.1) ce);
-  }
-    where
-      refused_turn : TurnFrom calls settings b after (Refused n)
-      refused_turn = subst (λ (y : Turn). TurnFrom calls settings b after y) te x
-
-      number : {t : Term} {n m : ℕ} {after : List ℕ} → TurnedFrom calls settings b after m t (Refused n) → (k : ℕ) × (n ≡ suc k)
-      number (spent s e z) = (9, refl)
-      number (met s e h u) = (12, refl)
-      number (full s e h u l) = (10, refl)
+  pub refused_reduces : {after : List ℕ} {why : Refusal} → TurnFrom calls settings b after (Err why)
+      → Reduces calls words begin settings after (record { begin = Err why; counts = b.counts })
+  refused_reduces x = record { told = λ t c. stands_refused _ _ _ _ (stands_now t c) x }
 
   -- the phase is over
-  module _ {after front : List ℕ} {rest : ℕ} {turn : Turn} (x : TurnFrom calls settings b after turn) (te : turn ≡ Stop)
-      (k : Seeks after b.start b.end 0 front rest) (l : length front ≡ length b.words) where
-    stop_turn : TurnFrom calls settings b after Stop
-    stop_turn = subst (λ (y : Turn). TurnFrom calls settings b after y) te x
-
+  module _ {after front : List ℕ} {rest : ℕ} (x : TurnFrom calls settings b after (Ok None)) (k : Seeks after b.start b.end 0 front rest)
+      (l : length front ≡ length b.words) where
     pub phase_arrives : {second' : List ℕ} {phase : Phase} → length second' ≡ length b.second → Follows b.phase phase
         → Arrives calls settings (initial words begin settings second) (at_front b phase front rest second')
     phase_arrives {second'} m f = record {
       premise = v.premise;
       carries = λ types inputs capacity whole fit s.
           let t = v.carries types inputs capacity whole fit s in
-          stands_onwards _ _ _ _ t stop_turn k second' (l ∙ t.long) f;
+          stands_onwards _ _ _ _ t x k second' (l ∙ t.long) f;
       counts_fit = v.counts_fit;
       limit = omega (arith, l, v.limit);
       scratch = m ∙ v.scratch ∙ sym l;
       same = l ∙ v.same;
       same_second = m ∙ v.same_second;
-      none_yet = v.none_yet;
     }
 
     -- and it was the last
-    pub form_reduces : b.phase ≡ Dropping → {r : Reduced} → r.refusal ≡ b.refusal → r.counts ≡ b.counts → r.begin ≡ rest
-        → Reduces calls words begin settings front r
-    form_reduces e {r} re ce be = record {
+    pub form_reduces : b.phase ≡ Dropping → Reduces calls words begin settings front (record { begin = Ok rest; counts = b.counts })
+    form_reduces e = record {
       told = λ t c.
-          let w = stands_at_form _ _ _ _ (stands_now t c) stop_turn k e in
-          subst (Reports front r) (sym w.whole_is)
-          (ended (re ∙ v.none_yet) ce (subst (λ (n : ℕ). Gapped front 0 n w.term) (sym be) w.gapped));
+          let w = stands_at_form _ _ _ _ (stands_now t c) x k e in
+          record { left = b.left; term = w.term; gapped = w.gapped; is = w.whole_is };
     }
 
 -- how many phases come after a phase

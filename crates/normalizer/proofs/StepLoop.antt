@@ -2,19 +2,18 @@
 -- the loop over a phase's steps keeps it.
 use Prim.Native.Nat.{ℕ, ◌+◌, ◌≤◌, ◌<◌}
 use native.Mathlib.Omega.{arith}
-use mathlib.Core.Path.{◌≡◌, refl, sym, ◌∙◌, subst}
+use mathlib.Core.Path.{◌≡◌, refl, sym, ◌∙◌}
 use mathlib.Core.List.{List}
 use lib.ListN.{length, get_or}
+use Rattle.std.specs.Prelude.{Some, None, Ok}
 use Rattle.syntax.specs.Tables.{over}
 use Rattle.reduction.specs.declared.Settings.{Settings}
-use Rattle.reduction.specs.Reduction.{Counts, index, raise, Progress}
-use Rattle.reduction.specs.declared.Rule.{Rule}
+use Rattle.reduction.specs.Reduction.{Counts, index, Progress}
 use Rattle.reduction.proofs.CountsBounded.{raised}
 use Rattle.theory.proofs.Fields.{Fitting}
 use Rattle.step.specs.Gaps.{Seekable}
 use Rattle.step.specs.Turns.{Ready}
-use Rattle.step.specs.declared.turn.Turn.{Turn}
-use Rattle.step.specs.declared.turn.Turn.TheVariants.{Stop, Step as Stepped}
+use Rattle.step.specs.declared.turn.Step.{Step as Stepped}
 use Rattle.normalizer.proofs.BetweenTurns.{State, stepped, TurnFrom, StandsFor, stands_ready, stands_seekable, stands_steps}
 
 -- the counts and what is left of the budget stay within 32 bits
@@ -40,7 +39,6 @@ pub record Arrives (calls : List ℕ) (settings : Settings) (a b : State) : Type
   pub scratch : length b.second ≡ length b.words
   pub same : length b.words ≡ length a.words
   pub same_second : length b.second ≡ length a.second
-  pub none_yet : b.refusal ≡ 0
 
 module _ {calls : List ℕ} {settings : Settings} {a b : State} (v : Arrives calls settings a b) where
   now : StandsFor (over v.premise.types calls v.premise.inputs) v.premise.capacity settings v.premise.whole b
@@ -63,7 +61,6 @@ module _ {calls : List ℕ} {settings : Settings} {a b : State} (v : Arrives cal
     scratch = v.scratch;
     same = refl;
     same_second = refl;
-    none_yet = v.none_yet;
   }
 
   -- and goes on
@@ -77,44 +74,34 @@ module _ {calls : List ℕ} {settings : Settings} {a b : State} (v : Arrives cal
     scratch = w.scratch;
     same = w.same ∙ v.same;
     same_second = w.same_second ∙ v.same_second;
-    none_yet = w.none_yet;
   }
 
   pub turn_ready : Ready b.phase calls b.words b.start b.end b.second
   turn_ready = stands_ready _ _ _ _ now v.limit v.scratch
 
   -- the phase is over: the gap can go back
-  pub gap_seekable : {after : List ℕ} {r : Turn} (place : ℕ) → place ≤ b.start → TurnFrom calls settings b after r → r ≡ Stop
+  pub gap_seekable : {after : List ℕ} (place : ℕ) → place ≤ b.start → TurnFrom calls settings b after (Ok None)
       → Seekable after b.start b.end place
-  gap_seekable {after} place le x e = stands_seekable _ _ _ _ now (subst (λ (t : Turn). TurnFrom calls settings b after t) e x) place le
+  gap_seekable place le x = stands_seekable _ _ _ _ now x place le
 
-  module _ {after : List ℕ} {r : Turn} {rule : Rule} {from rest : ℕ} (l : length after ≡ length b.words)
-      (x : TurnFrom calls settings b after r) (e : r ≡ Stepped rule from rest) where
-    step_turn : TurnFrom calls settings b after (Stepped rule from rest)
-    step_turn = subst (λ (t : Turn). TurnFrom calls settings b after t) e x
-
+  module _ {after : List ℕ} {r : Stepped} (l : length after ≡ length b.words) (x : TurnFrom calls settings b after (Ok (Some r))) where
     -- a step is taken only while there is budget, so no count overflows
     pub budget_left : 0 < b.left
-    budget_left =
-        (stands_steps _ _ _ _ now rule from rest b.second v.premise.fit (omega (arith, v.limit, now.long)) (l ∙ now.long)
-        step_turn).0
+    budget_left = (stands_steps _ _ _ _ now r b.second v.premise.fit (omega (arith, v.limit, now.long)) (l ∙ now.long) x).0
 
     pub counts_below : (i : ℕ) → get_or b.counts i 0 < 4294967295
     counts_below i = omega (arith, budget_left, v.counts_fit i)
 
     -- the state after a step
-    pub step_arrives : (second : List ℕ) (counts : Counts) → length second ≡ length b.second → counts ≡ raise rule b.counts
-        → Arrives calls settings a (stepped b after from rest counts second)
-    step_arrives second counts k ce =
-        subst (λ (cs : Counts). Arrives calls settings a (stepped b after from rest cs second)) (sym ce) (record {
-          premise = v.premise;
-          carries = λ types inputs capacity whole fit s.
-              let t = v.carries types inputs capacity whole fit s in
-              (stands_steps _ _ _ _ t rule from rest second fit (omega (arith, v.limit, t.long)) (l ∙ t.long) step_turn).1;
-          counts_fit = λ i. omega (arith, budget_left, v.counts_fit i, raised b.counts (index rule) i);
-          limit = omega (arith, l, v.limit);
-          scratch = k ∙ v.scratch ∙ sym l;
-          same = l ∙ v.same;
-          same_second = k ∙ v.same_second;
-          none_yet = v.none_yet;
-        })
+    pub step_arrives : (second : List ℕ) → length second ≡ length b.second → Arrives calls settings a (stepped b after r second)
+    step_arrives second k = record {
+      premise = v.premise;
+      carries = λ types inputs capacity whole fit s.
+          let t = v.carries types inputs capacity whole fit s in
+          (stands_steps _ _ _ _ t r second fit (omega (arith, v.limit, t.long)) (l ∙ t.long) x).1;
+      counts_fit = λ i. omega (arith, budget_left, v.counts_fit i, raised b.counts (index r.rule) i);
+      limit = omega (arith, l, v.limit);
+      scratch = k ∙ v.scratch ∙ sym l;
+      same = l ∙ v.same;
+      same_second = k ∙ v.same_second;
+    }

@@ -1,5 +1,5 @@
 -- What the loop over phases and steps asks and says.
-use Rattle.std.specs.Prelude.{ℕ, suc, ◌≤◌, ◌≡◌, List, T, length}
+use Rattle.std.specs.Prelude.{ℕ, ◌≤◌, ◌≡◌, List, T, length, MatchResult}
 use Rattle.std.proofs.Math.Option.{some}
 use Rattle.syntax.specs.Tables.{over}
 use Rattle.syntax.specs.Term.{Term}
@@ -8,6 +8,7 @@ use Rattle.typing.specs.TableChecks.{lengths_fit, well_formed_calls}
 use Rattle.reduction.specs.MayDrop.{may_drop}
 use Rattle.reduction.specs.declared.Settings.{Settings}
 use Rattle.reduction.specs.Reduction.{Counts, Progress, stopped, reached, reduce}
+use Rattle.outcomes.specs.Refusal.{number_of}
 use Rattle.step.specs.Currents.{Gapped, Current}
 use Rattle.normalizer.specs.declared.reduce.Reduced.{Reduced}
 
@@ -30,11 +31,16 @@ pub record Reducible (calls words : List ℕ) (begin : ℕ) (second : List ℕ) 
   pub at_most : length words ≤ 8192
   pub scratch : length second ≡ length words
 
--- what a reduction came to, as it is answered, with the last term at the buffer's end
-pub data Reports (after : List ℕ) (r : Reduced) : Progress → Type 0 where
-  refusal : {n : ℕ} {counts : Counts} → r.refusal ≡ suc n → r.counts ≡ counts → Reports after r (stopped (suc n) counts)
-  ended : {left : ℕ} {u : Term} {counts : Counts} → r.refusal ≡ 0 → r.counts ≡ counts → Gapped after 0 r.begin u
-      → Reports after r (reached left u counts)
+-- the last term, with which the reduction ends, is at the buffer's end
+pub record Ends (after : List ℕ) (begin : ℕ) (counts : Counts) (p : Progress) : Type 0 where
+  pub left : ℕ
+  pub term : Term
+  pub gapped : Gapped after 0 begin term
+  pub is : p ≡ reached left term counts
+
+-- what a reduction came to, as it is answered: where the last term begins, or why it stopped
+abbrev pub Reports : (after : List ℕ) → Reduced → Progress → Type 0
+Reports after r p = MatchResult r.begin (λ begin. Ends after begin r.counts p) (λ why. p ≡ stopped (number_of why) r.counts)
 
 -- for whatever term is there; the capacity is the buffer's length
 pub record Reduces (calls before : List ℕ) (begin : ℕ) (settings : Settings) (after : List ℕ) (r : Reduced) : Type 0 where

@@ -1,25 +1,25 @@
 // The public call `normalize`.
 ghost use Rattle.std.specs.Prelude.{◌≡◌, length as length_of};
 ghost use Rattle.syntax.specs.Tables.{over};
+ghost use Rattle.outcomes.specs.Refusal.{number_of};
 ghost use Rattle.outcomes.specs.Contract.{Normalizes};
 ghost use Rattle.normalizer.specs.Answers.{FillsNormalized, Settleable, Settles};
 
-use crate::reduce::reduce;
+use crate::reduce::{Reduced, reduce};
 use checker::check::{NORMALIZE_LIMIT, check_within};
-use outcomes::Answer;
+use outcomes::{Answer, Refusal};
 use reduction::Settings;
-use words::lesser::lesser;
 use words::moves::{clear, copy};
 
 // a refusal, with the counts of the steps taken
-fn refused(refusal: u32, counts: [u32; 10]) -> Answer
-    ensures { result ≡ record { refusal = refusal; ty = 0; length = 0; counts = counts } }
+pub fn refused(refusal: Refusal, counts: [u32; 10]) -> Answer
+    ensures { result ≡ record { refusal = number_of refusal; ty = 0; length = 0; counts = counts } }
 {
     Answer {
-        refusal: refusal,
+        refusal: u32::from(refusal),
         ty: 0,
         length: 0,
-        counts: counts,
+        counts,
     }
 }
 
@@ -39,20 +39,19 @@ fn settle(
 {
     let begin = first.len() - term.len();
     copy(term, 0, term.len(), first, begin);
-    let reduced = reduce(calls, first, begin, settings, second);
-    let refusal = reduced.refusal;
-    let counts = reduced.counts;
-    if refusal != 0 {
-        return refused(refusal, counts);
-    }
-    let last = reduced.begin;
-    let length = first.len() - last;
-    copy(&first[last..], 0, length, output, 0);
-    Answer {
-        refusal: 0,
-        ty: ty,
-        length: length,
-        counts: counts,
+    let Reduced { begin, counts } = reduce(calls, first, begin, settings, second);
+    match begin {
+        Err(refusal) => refused(refusal, counts),
+        Ok(begin) => {
+            let length = first.len() - begin;
+            copy(&first[begin..], 0, length, output, 0);
+            Answer {
+                refusal: 0,
+                ty,
+                length,
+                counts,
+            }
+        }
     }
 }
 
@@ -71,21 +70,18 @@ fn run(
         term.now (record { output = output.old; scratch₁ = first.old; scratch₂ = second.old }) result
         output.new }
 {
-    let none: [u32; 10] = [0; 10];
-    let checked = check_within(NORMALIZE_LIMIT, types, calls, inputs, term);
-    let refusal = checked.refusal;
-    if refusal != 0 {
-        return refused(refusal, none);
-    }
-    let scratch = lesser(first.len() as u64, second.len() as u64);
-    let capacity = lesser(lesser(output.len() as u64, scratch), 8192) as usize;
+    let ty = match check_within(NORMALIZE_LIMIT, types, calls, inputs, term) {
+        Ok(ty) => ty,
+        Err(refusal) => return refused(refusal, [0; 10]),
+    };
+    let capacity = output.len().min(first.len()).min(second.len()).min(8192);
     if capacity < term.len() {
-        return refused(11, none);
+        return refused(Refusal::Capacity, [0; 10]);
     }
     settle(
         calls,
         term,
-        checked.ty,
+        ty,
         settings,
         output,
         &mut first[..capacity],

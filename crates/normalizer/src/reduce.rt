@@ -1,18 +1,18 @@
 // The loop over phases and steps.
 ghost use Rattle.normalizer.specs.Reductions.{Reducible, Reduces};
 
+use outcomes::Refusal;
 use reduction::{Phase, Settings};
 use step::counts::raise;
 use step::gap::seek;
-use step::turn::{Turn, take_turn};
+use step::turn::take_turn;
 use words::PENDING;
 use words::acting::some_acts;
 
-// refusal 0 and where the last term begins, or 10, 11 or 13; and the counts of the steps taken
+// where the last term begins, or why the reduction stopped; and the counts of the steps taken
 #[derive(Drop)]
 pub struct Reduced {
-    pub refusal: u32,
-    pub begin: usize,
+    pub begin: Result<usize, Refusal>,
     pub counts: [u32; 10],
 }
 
@@ -34,14 +34,13 @@ pub fn reduce(
     // space in which a step goes through the parts of its redex
     let mut pending: [u64; PENDING] = [0; PENDING];
     let mut counts: [u32; 10] = [0; 10];
-    let mut left: u32 = budget;
+    let mut left = budget;
     let mut phase = Phase::Insertion;
-    let mut refusal: u32 = 0;
-    let mut start: usize = 0;
-    let mut end: usize = begin;
-    'reduce: loop {
+    let mut start = 0;
+    let mut end = begin;
+    let begin = 'reduce: loop {
         loop {
-            let turn = take_turn(
+            match take_turn(
                 phase,
                 calls,
                 acting,
@@ -53,43 +52,27 @@ pub fn reduce(
                 ceilings,
                 second,
                 &mut pending,
-            );
-            match turn {
-                Turn::Stop => {
-                    break;
-                }
-                Turn::Refused(n) => {
-                    refusal = n;
-                    break 'reduce;
-                }
-                Turn::Step(rule, from, rest) => {
-                    let raised = raise(counts, rule);
+            ) {
+                Err(refusal) => break 'reduce Err(refusal),
+                Ok(None) => break,
+                Ok(Some(step)) => {
+                    // kept: a name between, since no proof is made where a call lays an array into a variable that has one
+                    let raised = raise(counts, step.rule);
                     counts = raised;
-                    left = left - 1;
-                    start = from;
-                    end = rest;
+                    left -= 1;
+                    start = step.start;
+                    end = step.end;
                 }
             }
         }
         // the next phase begins at the front
-        let front = seek(current, start, end, 0);
+        end = seek(current, start, end, 0);
         start = 0;
-        end = front;
-        match phase {
-            Phase::Insertion => {
-                phase = Phase::Reduction;
-            }
-            Phase::Reduction => {
-                phase = Phase::Dropping;
-            }
-            Phase::Dropping => {
-                break 'reduce;
-            }
-        }
-    }
-    Reduced {
-        refusal: refusal,
-        begin: end,
-        counts: counts,
-    }
+        phase = match phase {
+            Phase::Insertion => Phase::Reduction,
+            Phase::Reduction => Phase::Dropping,
+            Phase::Dropping => break 'reduce Ok(end),
+        };
+    };
+    Reduced { begin, counts }
 }

@@ -3,14 +3,13 @@ use mathlib.Core.Path.{◌≡◌, refl, sym, ◌∙◌, ap}
 use mathlib.Core.List.{List, [], ◌∷◌}
 use mathlib.Core.Bool.{Bool, true, false, cond}
 use mathlib.Core.Option.{Option, some, none, map}
-use Prim.Native.Nat.{ℕ, zero, suc, ◌+◌, ◌-◌, ◌≤◌, ◌<◌}
+use Prim.Native.Nat.{ℕ, zero, suc, ◌+◌, ◌-◌, ◌*◌, ◌≤◌, ◌<◌}
 use native.Mathlib.Omega.{arith}
-use native.Mathlib.Nat.{add-zero}
-use native.Mathlib.Numerals.{add-one}
+use native.Mathlib.Nat.{add-zero, sub_self}
 use lib.Dec.{leb}
-use lib.ListN.{length, get_or, drop, length-drop}
-use lib.Seq.{drop-cons, drop-length}
-use Rattle.syntax.specs.Maybe.{◌>>=◌}
+use lib.ListN.{length}
+use Rattle.std.proofs.Common.{Some, None}
+use Rattle.syntax.specs.Maybe.{◌>>=◌, option_of}
 use Rattle.syntax.specs.Kinds.{parts_of_kind}
 use Rattle.syntax.specs.Parts.{known_parts, extent}
 use Rattle.syntax.proofs.Parts.{longer, no_longer}
@@ -27,10 +26,6 @@ parts_le a k h = cond_le (leb k 0) 0 _ 15 (omega arith)
     (cond_le (leb k 2) 1 _ 15 (omega arith)
     (cond_le (leb k 5) 2 _ 15 (omega arith)
     (cond_le (leb k 9) 1 _ 15 (omega arith) (cond_le (leb k 10) 3 0 15 (omega arith) (omega arith))))))
-
-longer_suc : (i : ℕ) (o : Option ℕ) → longer i (map suc o) ≡ longer (i + 1) o
-longer_suc i none = refl
-longer_suc i (some n) = ap (λ (x : ℕ). some x) (omega arith)
 
 pub nothing_owed : (calls ws : List ℕ) → extent calls ws 0 ≡ some 0
 unfolding extent
@@ -49,41 +44,56 @@ too_many calls (w ∷ ws) (suc owed) h = go (known_parts calls w) (λ a. too_man
     go none ih = refl
     go (some a) ih = ap (map suc) (ih a)
 
-module _ (calls t : List ℕ) where
-  -- one word read: where the number of its parts is not known, more are owed than words are left
-  extent_word : (owed i r : ℕ) → 0 < owed → i < length t → Owes (length t) (known_parts calls (get_or t i 0)) r
-      → extent calls (drop i t) owed ≡ map suc (extent calls (drop (i + 1) t) (owed - 1 + r))
-  unfolding extent
-  extent_word zero i r p h q = absurd (omega arith)
-  extent_word (suc n) i r p h q = rw (add-one i, drop-cons t i 0 h) (go (drop (suc i) t) (known_parts calls (get_or t i 0)) few q)
-    where
-      few : length (drop (suc i) t) < length t
-      few = omega (arith, h, length-drop (suc i) t)
+-- one word read: where the number of its parts is not known, more are owed than words are left
+extent_word : (calls : List ℕ) (w : ℕ) (ws : List ℕ) (owed many r : ℕ) → 0 < owed → length ws < many → Owes many (known_parts calls w) r
+    → extent calls (w ∷ ws) owed ≡ map suc (extent calls ws (owed - 1 + r))
+unfolding extent
+extent_word calls w ws zero many r p h q = absurd (omega arith)
+extent_word calls w ws (suc n) many r p h q = go (known_parts calls w) q
+  where
+    go : (o : Option ℕ) → Owes many o r → (o >>= λ a. map suc (extent calls ws (a + n))) ≡ map suc (extent calls ws (suc n - 1 + r))
+    go none q = sym (ap (map suc) (too_many calls ws (suc n - 1 + r) (omega arith)))
+    go (some a) q = ap (λ (k : ℕ). map suc (extent calls ws k)) (omega arith)
 
-      go : (ws : List ℕ) (o : Option ℕ) → length ws < length t → Owes (length t) o r
-          → (o >>= λ a. map suc (extent calls ws (a + n))) ≡ map suc (extent calls ws (suc n - 1 + r))
-      go ws none f q = sym (ap (map suc) (too_many calls ws (suc n - 1 + r) (omega (arith, f, q))))
-      go ws (some a) f q = ap (λ (k : ℕ). map suc (extent calls ws k)) (omega (arith, q))
+-- what a loop over the words of n parts keeps: from the words ws that are left on, so many parts are owed
+pub record Owing (calls t : List ℕ) (n owed : ℕ) (ws : List ℕ) : Type 0 where
+  pub within : length ws ≤ length t
+  pub few : owed + 8192 * length ws ≤ 8192 * length t + n
+  pub same : extent calls t n ≡ longer (length t - length ws) (extent calls ws owed)
 
-  module _ (n : ℕ) where
-    -- what a loop over the words of n parts keeps: i words are read, and so many parts are owed from there on
-    abbrev pub Owing : ℕ → ℕ → Type 0
-    Owing owed i = extent calls t n ≡ longer i (extent calls (drop i t) owed)
+pub owing_start : (calls t : List ℕ) (n : ℕ) → Owing calls t n n t
+owing_start calls t n = record {
+  within = omega arith;
+  few = omega arith;
+  same = rw sub_self (no_longer (extent calls t n));
+}
 
-    pub owing_start : Owing n 0
-    owing_start = no_longer (extent calls t n)
+-- one word more
+longer_suc : (i j : ℕ) (o : Option ℕ) → i + 1 ≡ j → longer i (map suc o) ≡ longer j o
+longer_suc i j none e = refl
+longer_suc i j (some n) e = ap (λ (x : ℕ). some x) (omega arith)
 
-    pub owing_word : (owed i r : ℕ) → 0 < owed → i < length t → Owes (length t) (known_parts calls (get_or t i 0)) r → Owing owed i
-        → Owing (owed - 1 + r) (i + 1)
-    owing_word owed i r p h q e = e ∙ ap (longer i) (extent_word owed i r p h q)
-        ∙ longer_suc i (extent calls (drop (i + 1) t) (owed - 1 + r))
+module _ {calls t : List ℕ} {n owed : ℕ} {ws : List ℕ} (o : Owing calls t n owed ws) where
+  pub owing_word : (w : ℕ) (us : List ℕ) (r : ℕ) → ws ≡ w ∷ us → 0 < owed → Owes (length t) (known_parts calls w) r × (r ≤ 8192)
+      → Owing calls t n (owed - 1 + r) us
+  owing_word w us r e p (q, l) =
+      let k : length ws ≡ suc (length us) = ap length e in
+      let h : length us < length t = omega (arith, o.within) in record {
+        within = omega (arith, o.within);
+        few = omega (arith, o.few);
+        same = o.same
+            ∙ ap (longer (length t - length ws)) (ap (λ (l : List ℕ). extent calls l owed) e ∙ extent_word calls w us owed (length t) r p h q)
+            ∙ longer_suc _ _ (extent calls us (owed - 1 + r)) (omega (arith, o.within));
+      }
 
-    pub owing_short : (owed i : ℕ) → 0 < owed → i ≡ length t → Owing owed i → extent calls t n ≡ none
-    unfolding extent
-    owing_short zero i p h e = absurd (omega arith)
-    owing_short (suc n) i p h e = e ∙ ap (λ (j : ℕ). longer i (extent calls (drop j t) (suc n))) h
-        ∙ ap (λ (l : List ℕ). longer i (extent calls l (suc n))) (drop-length t)
+  pub owing_short : 0 < owed → length ws ≡ 0 → None ≡ option_of (extent calls t n)
+  owing_short p e = sym (ap option_of (o.same ∙ ap (longer (length t - length ws)) (too_many calls ws owed (omega arith))))
 
-    pub owing_done : (owed i : ℕ) → owed ≤ 0 → Owing owed i → extent calls t n ≡ some i
-    owing_done zero i p e = e ∙ ap (longer i) (nothing_owed calls (drop i t)) ∙ ap (λ (x : ℕ). some x) (add-zero i)
-    owing_done (suc n) i p e = absurd (omega arith)
+  pub owing_done : owed ≤ 0 → Some (length t - length ws) ≡ option_of (extent calls t n)
+  owing_done z =
+      let e : owed ≡ 0 = omega arith in
+      sym (ap option_of (o.same ∙ ap (longer (length t - length ws)) (ap (extent calls ws) e ∙ nothing_owed calls ws)
+      ∙ ap (λ (x : ℕ). some x) (add-zero (length t - length ws))))
+
+-- what such a loop needs
+pub ruleset owing = (owing_start, owing_word, owing_short, owing_done)

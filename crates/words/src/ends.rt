@@ -5,35 +5,25 @@ ghost use Rattle.syntax.specs.Maybe.{option_of};
 ghost use Rattle.words.specs.Ends.{Sized, SizedAll};
 ghost use Rattle.words.specs.Fronts.{Starts, StartsAll};
 
-use crate::fields::{kind, number};
-use crate::shape::{argument_counts, known_arity, part_counts};
+use crate::shape::{argument_counts, known_parts, part_counts};
 
 // where the first n parts end, by a loop over words that keeps how many parts are still owed. It ends when none is, or no word is left; a
 // word whose number of parts is not known owes more than the words behind it.
+#[tactic(auto, using(crate::proofs::Extents::owing))]
 fn parts_end(calls: &[u64], t: &[u64], n: usize) -> Option<usize>
     requires { (length t.now ≤ 8192) × (n ≤ 8192) }
     ensures { result ≡ option_of (extent calls.now t.now n) }
 {
     let counts = part_counts();
     let arities = argument_counts();
-    let words = t.len();
     let mut owed = n;
-    let mut i: usize = 0;
+    let mut rest = t;
     while 0 < owed {
-        if i == words {
-            return None;
-        }
-        let w = t[i];
-        let k = kind(w);
-        if k == 1 {
-            owed = owed - 1 + known_arity(calls, &arities, number(w), words);
-            i += 1;
-        } else {
-            owed = owed - 1 + counts[k as usize] as usize;
-            i += 1;
-        }
+        let (&w, behind) = rest.split_first()?;
+        rest = behind;
+        owed = owed - 1 + known_parts(calls, &counts, &arities, w, t.len());
     }
-    Some(i)
+    Some(t.len() - rest.len())
 }
 
 // where the part at the front ends, of any words; nowhere if no front of them is one term

@@ -2,7 +2,7 @@
 ghost use Rattle.std.specs.Prelude.{◌≡◌, ◌≤◌, eqb};
 ghost use Rattle.syntax.specs.Kinds.{binders_at, binds_of};
 ghost use Rattle.syntax.specs.Tables.{arity as arity_of, known_arity};
-ghost use Rattle.syntax.specs.Parts.{part_count};
+ghost use Rattle.syntax.specs.Parts.{known_parts, part_count};
 ghost use Rattle.syntax.specs.Values.{counts};
 ghost use Rattle.words.specs.Shapes.{Shaping, Tabled, Owes, owed_by_kind, owed_by_count, value_parts, operand_count};
 ghost use Rattle.words.specs.Reach.{outer_count};
@@ -124,6 +124,26 @@ pub fn known_arity(calls: &[u64], arities: &[u16; 16], n: u64, many: usize) -> u
     match calls.get(n as usize) {
         Some(&w) => usize::from(arities[count(w) as usize]),
         None => many,
+    }
+}
+
+// how many parts a word's node has if that is known, and else `many` or more. The tables are `part_counts()` and `argument_counts()`.
+#[tactic(auto, using(crate::proofs::PartCounts::owed_by_call, crate::proofs::PartCounts::owed_by_kind_lem))]
+pub fn known_parts(
+    calls: &[u64],
+    counts: &[u16; 16],
+    arities: &[u16; 16],
+    w: u64,
+    many: usize,
+) -> usize
+    requires { Tabled owed_by_kind counts.now × Tabled owed_by_count arities.now × (many ≤ 8192) }
+    ensures { Owes many (known_parts calls.now w) result × (result ≤ 8192) }
+{
+    let k = kind(w);
+    if k == 1 {
+        known_arity(calls, arities, number(w), many)
+    } else {
+        usize::from(counts[k as usize])
     }
 }
 

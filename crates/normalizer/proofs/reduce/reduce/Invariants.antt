@@ -9,8 +9,8 @@ use Rattle.normalizer.proofs.StepLoop.{Arrives}
 use Rattle.normalizer.proofs.PhaseLoop.{initial, phases_after}
 use Rattle.normalizer.proofs.reduce.reduce.Given as goal
 
-abbrev pub state : Phase → (words : List ℕ) (start end left : ℕ) → Counts → (second : List ℕ) (refusal : ℕ) → State
-state phase words start end left counts second refusal = record {
+abbrev pub state : Phase → (words : List ℕ) (start end left : ℕ) → Counts → (second : List ℕ) → State
+state phase words start end left counts second = record {
   phase = phase;
   words = words;
   start = start;
@@ -18,26 +18,25 @@ state phase words start end left counts second refusal = record {
   left = left;
   counts = counts;
   second = second;
-  refusal = refusal;
 }
 
 abbrev pub set : (budget : ℕ) (ceilings : List ℕ) → Settings
 set budget ceilings = record { budget = budget; ceilings = ceilings }
 
-abbrev pub invariant-loop-n : goal.invariant-loop-n
-invariant-loop-n l =
+abbrev pub invariant-loop-refusal : goal.invariant-loop-refusal
+invariant-loop-refusal l =
     Arrives l.calls (set l.budget l.ceilings)
-    (state l.phase l.initial.current l.initial.start l.initial.end l.initial.left l.initial.counts l.initial.second l.initial.refusal)
-    (state l.phase l.current l.start l.end l.left l.counts l.second l.refusal)
+    (state l.phase l.initial.current l.initial.start l.initial.end l.initial.left l.initial.counts l.initial.second)
+    (state l.phase l.current l.start l.end l.left l.counts l.second)
     × (length l.pending ≡ 8194)
 
-abbrev pub decreases-loop-n : goal.decreases-loop-n
-decreases-loop-n l = l.left
+abbrev pub decreases-loop-refusal : goal.decreases-loop-refusal
+decreases-loop-refusal l = l.left
 
 abbrev pub invariant-reduce : goal.invariant-reduce
 invariant-reduce l =
     Arrives l.calls (set l.budget l.ceilings) (initial l.initial.current l.begin (set l.budget l.ceilings) l.initial.second)
-    (state l.phase l.current l.start l.end l.left l.counts l.second l.refusal)
+    (state l.phase l.current l.start l.end l.left l.counts l.second)
     × (length l.pending ≡ 8194)
 
 abbrev pub decreases-reduce : goal.decreases-reduce
