@@ -2,7 +2,7 @@
 use mathlib.Core.Path.{◌≡◌, refl, sym, ◌∙◌, ap}
 use mathlib.Core.Bool.{Bool, true, false, cond}
 use mathlib.Core.List.{List, [], ◌∷◌}
-use Prim.Native.Nat.{ℕ, zero, suc, ◌+◌, ◌*◌, ◌≤◌, ◌<◌}
+use Prim.Native.Nat.{ℕ, zero, suc, ◌+◌, ◌-◌, ◌*◌, ◌/◌, ◌%◌, ◌≤◌, ◌<◌}
 use native.Mathlib.Omega.{arith}
 use lib.Dec.{ltb}
 use lib.ListN.{length, get_or, set}
@@ -116,3 +116,25 @@ module _ (calls inputs words : List ℕ) where
   kept_depth stack nodes (f ∷ fs) top depth (k, ks) =
       omega
       (arith, k.ends, k.deep, one_binder (kind_of (get_or words f.place 0)) f.part, kept_depth stack nodes fs f.base f.depth ks)
+
+  -- what the last word of the nodes says where a node is open: the innermost one is at a place of the words, and which part is being typed
+  pub record Head (nodes : List ℕ) (top depth : ℕ) : Type 0 where
+    pub place : get_or nodes (top - 1) 0 / 4 < length words
+    pub few : get_or nodes (top - 1) 0 % 4 ≤ 2
+    pub low : get_or nodes (top - 1) 0 % 4 + 1 ≤ top
+    pub binders : binders_at (kind_of (get_or words (get_or nodes (top - 1) 0 / 4) 0)) (get_or nodes (top - 1) 0 % 4) ≤ depth
+
+  pub kept_head : (stack nodes : List ℕ) (fs : List Open) (top depth : ℕ) → AllKept stack nodes fs top depth → 1 ≤ top → Head nodes top depth
+  unfolding AllKept
+  kept_head stack nodes [] top depth k l = absurd (omega (arith, k.0))
+  kept_head stack nodes (f ∷ fs) top depth (k, ks) l =
+      let last : get_or nodes (top - 1) 0 ≡ f.place * 4 + f.part =
+      ap (λ (n : ℕ). get_or nodes n 0) (omega (arith, k.ends)) ∙ k.head in
+      let place : get_or nodes (top - 1) 0 / 4 ≡ f.place = omega (arith, last, k.many, k.few) in
+      let part : get_or nodes (top - 1) 0 % 4 ≡ f.part = omega (arith, last, k.many, k.few) in
+      record {
+        place = omega (arith, place, k.inside);
+        few = omega (arith, part, k.many, k.few);
+        low = omega (arith, part, k.ends);
+        binders = rw (place, part) (omega (arith, k.deep));
+      }

@@ -21,6 +21,8 @@ not_there [] i h = refl
 not_there (x ∷ xs) zero h = absurd (omega arith)
 not_there (x ∷ xs) (suc i) h = not_there xs i (omega arith)
 
+pub ruleset at_index = (there, not_there)
+
 module _ (inputs stack : List ℕ) where
   pub bound_there : (d i : ℕ) → i < d → get_elem? (scope inputs stack d) i ≡ some (get_or stack (d - 1 - i) 0)
   unfolding scope
@@ -45,6 +47,8 @@ module _ (inputs stack : List ℕ) where
     where
       less : (d i : ℕ) → i - d ≡ suc i - suc d
       less d i = omega arith
+
+pub ruleset in_a_scope = (there, not_there, bound_there, free_there)
 
 -- a write at or past the depth does not change the scope
 pub scope_set : (inputs stack : List ℕ) (d n B : ℕ) → d ≤ n → scope inputs (set stack n B) d ≡ scope inputs stack d

@@ -1,17 +1,16 @@
 -- What the functions of the type check answer, from what the definitions say.
-use Rattle.std.specs.Prelude.{ℕ, zero, suc, ◌≡◌, Bool, false, cond, List, ◌∷◌, eqb, leb, get_or}
+use Rattle.std.specs.Prelude.{ℕ, zero, suc, ◌≡◌, Bool, false, cond, List, ◌∷◌, eqb, leb, get_or, Some, None}
+use Rattle.std.specs.declared.option.Option as code
 use Rattle.std.proofs.Math.Option.{Option, some, none}
-use Rattle.syntax.specs.Maybe.{given}
+use Rattle.syntax.specs.Maybe.{given, option_of}
 use Rattle.syntax.specs.Words.{kind_of, number_of}
 use Rattle.syntax.specs.Tables.{Tables}
 use Rattle.syntax.specs.Term.{Term}
 use Rattle.words.specs.Fronts.{Holds}
 use Rattle.typing.specs.Infer.{Context, infer}
 use Rattle.typing.specs.TermChecks.{scoped_at}
-use Rattle.checker.specs.declared.infer.PartStart.{PartStart}
-use Rattle.checker.specs.declared.infer.PartStart.TheVariants.{Has, Fails, Node}
-use Rattle.checker.specs.declared.node_type.Inferred.{Inferred}
-use Rattle.checker.specs.declared.node_type.Inferred.TheVariants.{Typed, Untyped}
+use Rattle.checker.specs.declared.infer.Start.{Start}
+use Rattle.checker.specs.declared.infer.Start.TheVariants.{Typed, Node}
 
 -- 7: whether the first part is all of the words
 abbrev pub whole_of : Option ℕ → ℕ → Bool
@@ -23,24 +22,19 @@ unfoldable pub scope : List ℕ → List ℕ → ℕ → Context
 scope inputs stack zero = inputs
 scope inputs stack (suc depth) = get_or stack depth 0 ∷ scope inputs stack depth
 
--- 9: a type, if there is one
-abbrev pub inferred_of : Option ℕ → Inferred
-inferred_of none = Untyped
-inferred_of (some A) = Typed A
-
 -- a part with no parts, from the type that it has
-abbrev pub known_of : Option ℕ → PartStart
-known_of none = Fails
-known_of (some A) = Has A
+abbrev pub known_of : Option ℕ → code.Option Start
+known_of none = None
+known_of (some A) = Some (Typed A)
 
 -- how a part of n parts starts, from the type that it has if n is zero
-unfoldable pub start_of : ℕ → Option ℕ → PartStart
-start_of n o = cond (eqb n 0) (known_of o) (cond (leb n 3) Node Fails)
+unfoldable pub start_of : ℕ → Option ℕ → code.Option Start
+start_of n o = cond (eqb n 0) (known_of o) (cond (leb n 3) (Some Node) None)
 
 -- for whatever term the words begin with: its type in a context
-abbrev pub Infers : Tables → Context → List ℕ → Inferred → Type 0
+abbrev pub Infers : Tables → Context → List ℕ → code.Option ℕ → Type 0
 Infers tables Γ words r =
-    (t : Term) (rest : List ℕ) → Holds tables.calls words t rest → r ≡ inferred_of (infer tables t Γ)
+    (t : Term) (rest : List ℕ) → Holds tables.calls words t rest → r ≡ option_of (infer tables t Γ)
 
 -- the number in a word that is a variable's
 abbrev pub variable_of : ℕ → Option ℕ

@@ -1,19 +1,12 @@
 -- Typing of one node from the types of its parts, as the code does it; law: `infer_node`.
 use Rattle.std.specs.Prelude.{ℕ, ◌+◌, ◌≡◌, cond, ◌&&◌, List, [], ◌∷◌, leb, eqb, get_or, set, take}
-use Rattle.std.proofs.Math.Option.{Option, some, none}
+use Rattle.std.proofs.Math.Option.{Option, some}
 use Rattle.std.proofs.Math.ListN.{get_elem?}
 use Rattle.syntax.specs.Maybe.{◌>>=◌, given}
 use Rattle.syntax.specs.Words.{left_of, right_of, kind_of, number_of, type_of}
 use Rattle.syntax.specs.Tables.{Tables, arrow, product, sum, unit_type, components, signature, arity}
 use Rattle.syntax.specs.Kinds.{uses_type, binders_at}
 use Rattle.typing.specs.Infer.{Context, equal}
-use Rattle.checker.specs.declared.node_type.Components.{Components}
-use Rattle.checker.specs.declared.node_type.Components.TheVariants.{Of, Missing}
-
--- the two fields of a type, as the code answers them
-abbrev pub components_of : Option (ℕ × ℕ) → Components
-components_of none = Missing
-components_of (some (X, Y)) = Of X Y
 
 -- the type of the variable that a node binds in its part j: a function's argument, a let's bound part, the halves of a sum.
 -- A is the node's type field, F the type of its first part.

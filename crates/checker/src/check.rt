@@ -7,7 +7,6 @@ ghost use Rattle.outcomes.specs.Check.{checked_of, check_answer, check_outcome};
 ghost use Rattle.checker.specs.Places.{Types};
 
 use crate::infer::infer;
-use crate::node_type::Inferred;
 use crate::scope::scoped;
 use crate::tables::{check_tables, lengths_fit};
 use crate::term_words::{is_whole, words_fit};
@@ -41,10 +40,7 @@ fn typed_in(
     if !scoped(calls, inputs.len(), term, stack) {
         return Err(Refusal::Scope);
     }
-    match infer(types, calls, inputs, stack, nodes, term) {
-        Inferred::Typed(a) => Ok(a),
-        Inferred::Untyped => Err(Refusal::Type),
-    }
+    infer(types, calls, inputs, stack, nodes, term).ok_or(Refusal::Type)
 }
 
 // the same in buffers of its own. A short term has short buffers: to clear those of the longest term takes longer than to check it.

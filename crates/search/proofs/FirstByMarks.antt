@@ -236,10 +236,15 @@ module _ {calls words old new : List ℕ} {r : PartScan} (a : Scans calls words 
   unfolding size
   short t w = omega (arith, small, ap (λ (l : List ℕ). length l) w)
 
+  pub finds_redex : r.first < 65536 → FindsUnused calls words (Some (redex Drop r.first))
+  finds_redex lt = record { told = λ t s w. first_unused a t s w (short t w) lt }
+
+  pub finds_nothing : 65536 ≤ r.first → FindsUnused calls words None
+  finds_nothing le = record { told = λ t s w. none_unused a t s w (short t w) le }
+
   pub finds_least : FindsUnused calls words (then_some (ltb r.first 65536) (redex Drop r.first))
-  finds_least = record { told = λ t s w. go t s w (ltb r.first 65536) refl }
+  finds_least = go (ltb r.first 65536) refl
     where
-      go : (t : Term) → Shaped calls t → words ≡ encode t → (b : Bool) → ltb r.first 65536 ≡ b
-          → then_some b (redex Drop r.first) ≡ first_redex (may_drop calls) Dropping t
-      go t s w true e = first_unused a t s w (short t w) (ltb-true _ _ e)
-      go t s w false e = none_unused a t s w (short t w) (ltb-false _ _ e)
+      go : (b : Bool) → ltb r.first 65536 ≡ b → FindsUnused calls words (then_some b (redex Drop r.first))
+      go true e = finds_redex (ltb-true _ _ e)
+      go false e = finds_nothing (ltb-false _ _ e)

@@ -94,6 +94,12 @@ module _ {calls words : List ℕ} {at owed : ℕ} (g : Marching calls words Valu
         };
   }
 
+  -- the next part has words
+  pub part_words : 1 ≤ owed → (l : ℕ) → Sized calls (from words at) l → 1 ≤ l
+  part_words lt l s =
+      let f = march_first calls words g lt in
+      omega (arith, s.told f.term f.rest f.holds, size_positive f.term)
+
   module _ (lt : 1 ≤ owed) {k : ℕ} (ke : k ≡ kind_of (get_or words at 0)) where
     -- a computation
     pub test_computation : value_kind k ≡ false → TestsValue calls words None
@@ -129,9 +135,3 @@ module _ {calls words : List ℕ} {at owed : ℕ} (g : Marching calls words Valu
         ∙ sym (values_joined (node t).parts v.later)
         ∙ ap (λ (x : Terms). all_values (joined x v.later)) (node_parts t)
         ∙ ap all_values (joined_assoc (outer t) (inner t) v.later)
-
-    -- which has words
-    pub function_words : (l : ℕ) → Sized calls (from words at) l → 1 ≤ l
-    function_words l s =
-        let f = march_first calls words g lt in
-        omega (arith, s.told f.term f.rest f.holds, size_positive f.term)

@@ -1,7 +1,7 @@
 -- Why `value_test` is right. The row of terms at the front holds values exactly if the row ahead does (`ValuesSoFar`), as every node passed
 -- is a value's: of a value's node that is no function the parts come into the row (`opened`), and a function is passed as a whole, whatever
 -- its body (`function`). A node of another kind shows that the row holds a computation (`no_value`); an empty row holds none.
-use borrow.Author.Tests.{eq-eqb, eqb-true, le-leb, leb-true, not-true}
+use borrow.Author.Tests.{eq-eqb, eqb-true, le-leb, not-true}
 use Rattle.std.proofs.Common.{ℕ, ◌≡◌, ◌+◌, ◌-◌, ◌≤◌, ◌<◌, true, false, not, eqb, leb, List, get_or, refl, sym, ◌∙◌, ap, arith}
 use Rattle.syntax.specs.Kinds.{parts_of_kind}
 use Rattle.reduction.specs.FitByKinds.{value_kind}
@@ -14,7 +14,7 @@ use Rattle.words.specs.Fronts.{from}
 use Rattle.search.specs.ValueTest.{TestsValue}
 use Rattle.syntax.specs.Words.{kind_of}
 use Rattle.std.proofs.Common.{None}
-use Rattle.search.proofs.ValueByNode.{ValuesSoFar, test_begin, test_end, test_computation, test_function, function_words, test_open}
+use Rattle.search.proofs.ValueByNode.{ValuesSoFar, test_begin, test_end, test_computation, test_function, part_words, test_open}
 use Rattle.search.proofs.value.value_test.Goals as goal
 
 -- a value's node that is no function, with so many parts
@@ -26,10 +26,6 @@ record ValueNode (k n : ℕ) : Type 0 where
 
 -- what the table says of a kind
 module _ {counts : List ℕ} (table : Tabled value_parts counts) {k : ℕ} (l : k < 16) where
-  bounded : get_or counts k 0 ≤ 5
-  unfolding value_kind
-  bounded = omega (arith, table.at_kind k l, leb-true (value_parts k) 5 (kinds_imply (λ j. true) (λ j. leb (value_parts j) 5) refl k l refl))
-
   opened : get_or counts k 0 ≤ 3 → ValueNode k (get_or counts k 0)
   unfolding value_kind
   opened few =
@@ -67,44 +63,31 @@ module _ {calls t counts : List ℕ} {at owed k n : ℕ} (table : Tabled value_p
   at_computation many = test_computation g lt ke (no_value table l (omega (arith, many, ne)))
 
 pub loop-owed-init : goal.loop-owed-init
-loop-owed-init c = record { table = c.value_parts-counts.ensures; going = test_begin c.requires.0 }
-
-pub bounds-t-at : goal.bounds-t-at
-bounds-t-at c = omega (arith, march_inside _ _ c.loop-owed.invariant.going)
-
-pub overflow_add-owed : goal.overflow_add-owed
-overflow_add-owed c = omega (arith, march_inside _ _ c.loop-owed.invariant.going)
-
-pub loop-owed-smaller-then-n-lt-FUNCTION : goal.loop-owed-smaller-then-n-lt-FUNCTION
-loop-owed-smaller-then-n-lt-FUNCTION c = omega (arith, march_inside _ _ c.loop-owed.invariant.going)
+loop-owed-init c =
+    let g = test_begin c.requires.0 in
+    record { table = c.value_parts-counts.ensures; going = g; inside = march_inside _ _ g }
 
 pub loop-owed-preserved-then-n-lt-FUNCTION : goal.loop-owed-preserved-then-n-lt-FUNCTION
 loop-owed-preserved-then-n-lt-FUNCTION c =
     let i = c.loop-owed.invariant in
-    record {
-      table = i.table;
-      going = past_node i.table i.going (omega arith) c.kind.ensures (omega (arith, c.type_inv.t c.loop-owed.at)) c.from-n.ensures (omega arith);
-    }
+    let g = past_node i.table i.going (omega arith) c.kind.ensures (omega (arith, c.type_inv.t c.loop-owed.at)) c.from-n.ensures (omega arith) in
+    record { table = i.table; going = g; inside = march_inside _ _ g }
 
 pub part_size-at-requires : goal.part_size-at-requires
 part_size-at-requires c = (
   march_first _ _ c.loop-owed.invariant.going (omega arith),
-  omega (arith, from_length c.args.t.now c.loop-owed.at, march_inside _ _ c.loop-owed.invariant.going),
+  omega (arith, from_length c.args.t.now c.loop-owed.at),
 )
 
 pub loop-owed-smaller : goal.loop-owed-smaller
-loop-owed-smaller c =
-    let g = c.loop-owed.invariant.going in
-    omega (arith, function_words g (omega arith) c.kind.ensures _ c.part_size-at.ensures, march_inside _ _ g)
+loop-owed-smaller c = omega (arith, part_words c.loop-owed.invariant.going (omega arith) _ c.part_size-at.ensures)
 
 pub loop-owed-preserved : goal.loop-owed-preserved
 loop-owed-preserved c =
     let i = c.loop-owed.invariant in
-    record {
-      table = i.table;
-      going = past_function i.table i.going (omega arith) c.kind.ensures (omega (arith, c.type_inv.t c.loop-owed.at)) c.from-n.ensures c.if-n-eq-FUNCTION.true
-          c.part_size-at.ensures;
-    }
+    let g = past_function i.table i.going (omega arith) c.kind.ensures (omega (arith, c.type_inv.t c.loop-owed.at)) c.from-n.ensures
+    c.if-n-eq-FUNCTION.true c.part_size-at.ensures in
+    record { table = i.table; going = g; inside = march_inside _ _ g }
 
 pub returns-else-n-eq-FUNCTION : goal.returns-else-n-eq-FUNCTION
 returns-else-n-eq-FUNCTION c =
