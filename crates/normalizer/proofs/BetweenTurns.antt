@@ -37,6 +37,7 @@ use Rattle.step.specs.Currents.{Gapped, Current}
 use Rattle.step.specs.Gaps.{Seekable, Seeks}
 use Rattle.step.specs.Turns.{CurrentClear, Ready, Turned, stops, spent, met, full, goes, Turns}
 use Rattle.search.specs.NextFrom.{next_from}
+use Rattle.step.specs.declared.gap.Gap.{Gap}
 use Rattle.step.specs.declared.turn.Step.{Step as Stepped}
 use Rattle.step.proofs.GapMoved.{gapped_size, gapped_seekable, gapped_sought}
 
@@ -44,8 +45,7 @@ use Rattle.step.proofs.GapMoved.{gapped_size, gapped_seekable, gapped_sought}
 pub record State : Type 0 where
   pub phase : Phase
   pub words : List ℕ
-  pub start : ℕ
-  pub end : ℕ
+  pub gap : Gap
   pub left : ℕ
   pub counts : Counts
   pub second : List ℕ
@@ -55,8 +55,7 @@ abbrev pub stepped : State → (words : List ℕ) → Stepped → (second : List
 stepped s words r second = record {
   phase = s.phase;
   words = words;
-  start = r.start;
-  end = r.end;
+  gap = r.gap;
   left = s.left - 1;
   counts = raise r.rule s.counts;
   second = second;
@@ -67,8 +66,7 @@ abbrev pub at_front : State → Phase → (words : List ℕ) (end : ℕ) (second
 at_front s phase words end second = record {
   phase = phase;
   words = words;
-  start = 0;
-  end = end;
+  gap = record { start = 0; end = end };
   left = s.left;
   counts = s.counts;
   second = second;
@@ -81,12 +79,12 @@ Turn = Result (Option Stepped) Refusal
 -- the turn that is taken in a state
 abbrev pub TurnFrom : (calls : List ℕ) → Settings → State → (after : List ℕ) → Turn → Type 0
 TurnFrom calls settings s after r =
-    Turns s.phase calls s.words s.start s.end s.left s.counts settings.ceilings after r
+    Turns s.phase calls s.words s.gap.start s.gap.end s.left s.counts settings.ceilings after r
 
 -- and its outcome at a term, within a capacity
 abbrev pub TurnedFrom : (calls : List ℕ) → Settings → State → (after : List ℕ) (capacity : ℕ) → Term → Turn → Type 0
 TurnedFrom calls settings s after capacity t r =
-    Turned s.phase calls after s.start s.end s.left s.counts settings.ceilings capacity t r
+    Turned s.phase calls after s.gap.start s.gap.end s.left s.counts settings.ceilings capacity t r
 
 -- after a step: what the phase takes as known still holds where the search goes on, and no redex stands before that place
 module _ (calls : List ℕ) where
@@ -126,7 +124,7 @@ module _ (tables : Tables) (capacity : ℕ) (settings : Settings) (whole : Progr
   pub record StandsFor (s : State) : Type 0 where
     pub term : Term
     pub type : ℕ
-    pub at : CurrentClear s.phase tables.calls s.words s.start s.end term
+    pub at : CurrentClear s.phase tables.calls s.words s.gap.start s.gap.end term
     pub typed : infer tables term tables.inputs ≡ some type
     pub long : length s.words ≡ capacity
     pub same : onwards pure capacity settings s.phase (run_phase pure capacity settings s.phase s.left term s.counts) ≡ whole
@@ -149,7 +147,7 @@ module _ (tables : Tables) (capacity : ℕ) (settings : Settings) (whole : Progr
     comes_to e = sym (ap (onwards pure capacity settings s.phase) e) ∙ x.same
 
     pub stands_ready : length s.words ≤ 8192 → length s.second ≡ length s.words
-        → Ready s.phase tables.calls s.words s.start s.end s.second
+        → Ready s.phase tables.calls s.words s.gap.start s.gap.end s.second
     stands_ready limit scratch = record { term = x.term; at = x.at; limit = limit; scratch = scratch }
 
     -- a turn that is refused
@@ -183,8 +181,8 @@ module _ (tables : Tables) (capacity : ℕ) (settings : Settings) (whole : Progr
             type = x.type;
             at = record {
               current = record { shaped = typed_shaped fit limit st.next x.type typed fits; gapped = g };
-              clear = clear_next tables.calls s.phase x.term st e s.start x.at.premise;
-              premise = premise_next tables.calls s.phase x.term st e s.start x.at.premise;
+              clear = clear_next tables.calls s.phase x.term st e s.gap.start x.at.premise;
+              premise = premise_next tables.calls s.phase x.term st e s.gap.start x.at.premise;
             };
             typed = typed;
             long = long;
@@ -200,23 +198,23 @@ module _ (tables : Tables) (capacity : ℕ) (settings : Settings) (whole : Progr
 
     -- a turn that ends the phase
     module _ {after : List ℕ} (turn : TurnFrom tables.calls settings s after (Ok None)) where
-      stops_at : (step pure s.phase x.term ≡ none) × Current tables.calls after s.start s.end x.term
+      stops_at : (step pure s.phase x.term ≡ none) × Current tables.calls after s.gap.start s.gap.end x.term
       stops_at = told (turn.told x.term x.at)
         where
           told : {after : List ℕ} {n : ℕ} → TurnedFrom tables.calls settings s after n x.term (Ok None)
-              → (step pure s.phase x.term ≡ none) × Current tables.calls after s.start s.end x.term
+              → (step pure s.phase x.term ≡ none) × Current tables.calls after s.gap.start s.gap.end x.term
           told (stops e c) = (e, c)
 
       over : onwards pure capacity settings s.phase (reached s.left x.term s.counts) ≡ whole
       over = comes_to (turn_stops pure capacity settings s.phase s.left x.term s.counts stops_at.0)
 
       -- the gap can go back to any place then
-      pub stands_seekable : (place : ℕ) → place ≤ s.start → Seekable after s.start s.end place
+      pub stands_seekable : (place : ℕ) → place ≤ s.gap.start → Seekable after s.gap.start s.gap.end place
       stands_seekable place le =
           let g = stops_at.1.gapped in
           gapped_seekable g place (omega (arith, le, gapped_size g))
 
-      module _ {front : List ℕ} {rest : ℕ} (k : Seeks after s.start s.end 0 front rest) where
+      module _ {front : List ℕ} {rest : ℕ} (k : Seeks after s.gap.start s.gap.end 0 front rest) where
         -- the next phase begins at the front
         pub stands_onwards : {phase : Phase} (second : List ℕ) → length front ≡ capacity → Follows s.phase phase
             → StandsFor (at_front s phase front rest second)

@@ -42,8 +42,7 @@ abbrev pub initial : (words : List ℕ) (begin : ℕ) → Settings → (second :
 initial words begin settings second = record {
   phase = Insertion;
   words = words;
-  start = 0;
-  end = begin;
+  gap = record { start = 0; end = begin };
   left = settings.budget;
   counts = zero_counts;
   second = second;
@@ -106,8 +105,8 @@ module _ {calls words second : List ℕ} {begin : ℕ} {settings : Settings} {b 
   refused_reduces x = record { told = λ t c. stands_refused _ _ _ _ (stands_now t c) x }
 
   -- the phase is over
-  module _ {after front : List ℕ} {rest : ℕ} (x : TurnFrom calls settings b after (Ok None)) (k : Seeks after b.start b.end 0 front rest)
-      (l : length front ≡ length b.words) where
+  module _ {after front : List ℕ} {rest : ℕ} (x : TurnFrom calls settings b after (Ok None))
+      (k : Seeks after b.gap.start b.gap.end 0 front rest) (l : length front ≡ length b.words) where
     pub phase_arrives : {second' : List ℕ} {phase : Phase} → length second' ≡ length b.second → Follows b.phase phase
         → Arrives calls settings (initial words begin settings second) (at_front b phase front rest second')
     phase_arrives {second'} m f = record {

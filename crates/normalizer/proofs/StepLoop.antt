@@ -76,12 +76,12 @@ module _ {calls : List ℕ} {settings : Settings} {a b : State} (v : Arrives cal
     same_second = w.same_second ∙ v.same_second;
   }
 
-  pub turn_ready : Ready b.phase calls b.words b.start b.end b.second
+  pub turn_ready : Ready b.phase calls b.words b.gap.start b.gap.end b.second
   turn_ready = stands_ready _ _ _ _ now v.limit v.scratch
 
   -- the phase is over: the gap can go back
-  pub gap_seekable : {after : List ℕ} (place : ℕ) → place ≤ b.start → TurnFrom calls settings b after (Ok None)
-      → Seekable after b.start b.end place
+  pub gap_seekable : {after : List ℕ} (place : ℕ) → place ≤ b.gap.start → TurnFrom calls settings b after (Ok None)
+      → Seekable after b.gap.start b.gap.end place
   gap_seekable place le x = stands_seekable _ _ _ _ now x place le
 
   module _ {after : List ℕ} {r : Stepped} (l : length after ≡ length b.words) (x : TurnFrom calls settings b after (Ok (Some r))) where

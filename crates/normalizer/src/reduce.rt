@@ -4,10 +4,10 @@ ghost use Rattle.normalizer.specs.Reductions.{Reducible, Reduces};
 use outcomes::Refusal;
 use reduction::{Phase, Settings};
 use step::counts::raise;
-use step::gap::seek;
+use step::gap::{Gap, seek};
 use step::turn::take_turn;
 use words::PENDING;
-use words::acting::some_acts;
+use words::calls::Calls;
 
 // where the last term begins, or why the reduction stopped; and the counts of the steps taken
 #[derive(Drop)]
@@ -27,8 +27,8 @@ pub fn reduce(
     requires { Reducible calls.now current.old begin second.old }
     ensures { Reduces calls.now current.old begin settings current.new result }
 {
-    // asked once, for every search
-    let acting = some_acts(calls);
+    // asked once, for every search: whether some call acts
+    let calls = Calls::new(calls);
     let budget = settings.budget;
     let ceilings = settings.ceilings;
     // space in which a step goes through the parts of its redex
@@ -36,17 +36,17 @@ pub fn reduce(
     let mut counts: [u32; 10] = [0; 10];
     let mut left = budget;
     let mut phase = Phase::Insertion;
-    let mut start = 0;
-    let mut end = begin;
+    let mut gap = Gap {
+        start: 0,
+        end: begin,
+    };
     let begin = 'reduce: loop {
         loop {
             match take_turn(
                 phase,
-                calls,
-                acting,
+                &calls,
                 current,
-                start,
-                end,
+                gap,
                 left,
                 counts,
                 ceilings,
@@ -60,18 +60,16 @@ pub fn reduce(
                     let raised = raise(counts, step.rule);
                     counts = raised;
                     left -= 1;
-                    start = step.start;
-                    end = step.end;
+                    gap = step.gap;
                 }
             }
         }
         // the next phase begins at the front
-        end = seek(current, start, end, 0);
-        start = 0;
+        gap = seek(current, gap, 0);
         phase = match phase {
             Phase::Insertion => Phase::Reduction,
             Phase::Reduction => Phase::Dropping,
-            Phase::Dropping => break 'reduce Ok(end),
+            Phase::Dropping => break 'reduce Ok(gap.end),
         };
     };
     Reduced { begin, counts }

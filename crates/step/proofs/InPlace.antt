@@ -83,7 +83,7 @@ module _ {rule : Rule} {calls words : List ℕ} {start end : ℕ} where
     pub rewrites_next : (second : List ℕ) {written after : List ℕ} {n : ℕ} → length written ≡ length second → length second ≡ length words
         → m.wrote ≤ end + m.read - start → n ≡ end + m.read - m.wrote
         → WritesPlan calls (from words end) m.plan second written → after ≡ paste words n written m.wrote
-        → RewritesRedex rule calls words start end after (Ok n)
+        → RewritesRedex rule calls words start end after (Ok (record { start = start; end = n }))
     unfolding size
     rewrites_next second {written} {after} {n} l s h ne w ae = record {
       told = λ t p y d.
@@ -120,7 +120,7 @@ module _ {rule : Rule} {calls words : List ℕ} {start end : ℕ} where
 
     -- lowered where it stands, it is what the redex becomes
     pub rewrites_lowered : {ys after : List ℕ} {next : ℕ} → next ≡ end + n → Lowers calls (from words next) ys
-        → after ≡ put_mid next (length words - next) words ys → RewritesRedex rule calls words start end after (Ok next)
+        → after ≡ put_mid next (length words - next) words ys → RewritesRedex rule calls words start end after (Ok (record { start = start; end = next }))
     unfolding size
     rewrites_lowered {ys} {after} {next} ne l ae = record {
       told = λ t p y d.

@@ -26,6 +26,7 @@ use Rattle.words.specs.Fronts.{from}
 use Rattle.outcomes.specs.declared.Refusal.{Refusal}
 use Rattle.outcomes.specs.declared.Refusal.TheVariants.{Budget, Ceiling}
 use Rattle.step.specs.Currents.{Gapped}
+use Rattle.step.specs.declared.gap.Gap.{Gap}
 use Rattle.step.specs.Gaps.{Seekable, Seeks}
 use Rattle.search.specs.Finds.{SearchAt, Finds}
 use Rattle.step.specs.Rewrites.{RedexAt, Rewritable, RewrittenTo, too_long, there, RewritesRedex}
@@ -66,15 +67,15 @@ inside_next pure phase t s e = below phase (place_inside t s e)
     below Reduction h = omega (arith, h)
     below Dropping h = omega arith
 
--- what the search finds: whatever term is current takes a step by the rule, at the place so many words ahead of the gap
-pub record FirstRedex (phase : Phase) (calls before : List ℕ) (start end : ℕ) (rule : Rule) (ahead : ℕ) : Type 0 where
-  pub step_of : (t : Term) → CurrentClear phase calls before start end t → StepAt (may_drop calls) phase t rule (start + ahead)
+-- what the search finds: whatever term is current takes a step by the rule, at the place
+pub record FirstRedex (phase : Phase) (calls before : List ℕ) (start end : ℕ) (rule : Rule) (place : ℕ) : Type 0 where
+  pub step_of : (t : Term) → CurrentClear phase calls before start end t → StepAt (may_drop calls) phase t rule place
 
 -- and the gap is there
-pub record GapAtRedex (phase : Phase) (calls before : List ℕ) (start end : ℕ) (rule : Rule) (ahead : ℕ) (sought : List ℕ) (behind : ℕ)
+pub record GapAtRedex (phase : Phase) (calls before : List ℕ) (start end : ℕ) (rule : Rule) (place : ℕ) (sought : List ℕ) (behind : ℕ)
     : Type 0 where
-  pub redex : FirstRedex phase calls before start end rule ahead
-  pub seeks : Seeks before start end (start + ahead) sought behind
+  pub redex : FirstRedex phase calls before start end rule place
+  pub seeks : Seeks before start end place sought behind
   pub same : length sought ≡ length before
 
 module _ {phase : Phase} {calls before : List ℕ} {start end : ℕ} where
@@ -95,12 +96,12 @@ module _ {phase : Phase} {calls before : List ℕ} {start end : ℕ} where
   }
 
   -- a redex is found
-  pub first_redex_lem : {r : Redex} → Finds phase calls (from before end) (Some r) → FirstRedex phase calls before start end r.rule r.place
+  pub first_redex_lem : {r : Redex} → Finds phase calls (from before end) (Some r) → FirstRedex phase calls before start end r.rule (start + r.place)
   first_redex_lem {r} f = record {
     step_of = λ t a. redex_step (may_drop calls) phase t r.rule (start + r.place) (sym (f.told t start (search_at a)));
   }
 
-  module _ {rule : Rule} {ahead : ℕ} (r : FirstRedex phase calls before start end rule ahead) where
+  module _ {rule : Rule} {place : ℕ} (r : FirstRedex phase calls before start end rule place) where
     -- the budget is used up
     pub turned_spent : {left : ℕ} {counts ceilings after : List ℕ} → left ≡ 0
         → Turns phase calls before start end left counts ceilings after (Err Budget)
@@ -117,26 +118,26 @@ module _ {phase : Phase} {calls before : List ℕ} {start end : ℕ} where
 
     -- the place is one of the term's
     module _ {second : List ℕ} (d : Ready phase calls before start end second) where
-      place_below : start + ahead < size d.term
+      place_below : place < size d.term
       place_below =
           let s = r.step_of d.term d.at in
           let x = step_at (may_drop calls) phase d.term s.taken s.is in
           omega (arith, index_below d.term s.taken.place x.position x.at, s.at)
 
-      pub place_small : start + ahead ≤ 8192
+      pub place_small : place ≤ 8192
       place_small = let g = d.at.current.gapped in omega (arith, place_below, gapped_size g, g.ordered, g.inside, d.limit)
 
-      pub redex_seekable : Seekable before start end (start + ahead)
-      redex_seekable = gapped_seekable d.at.current.gapped (start + ahead) (omega (arith, place_below))
+      pub redex_seekable : Seekable before start end place
+      redex_seekable = gapped_seekable d.at.current.gapped place (omega (arith, place_below))
 
-  module _ {rule : Rule} {ahead : ℕ} {sought : List ℕ} {behind : ℕ}
-      (g : GapAtRedex phase calls before start end rule ahead sought behind) where
-    step_of : (t : Term) → CurrentClear phase calls before start end t → StepAt (may_drop calls) phase t rule (start + ahead)
+  module _ {rule : Rule} {place : ℕ} {sought : List ℕ} {behind : ℕ}
+      (g : GapAtRedex phase calls before start end rule place sought behind) where
+    step_of : (t : Term) → CurrentClear phase calls before start end t → StepAt (may_drop calls) phase t rule place
     step_of = g.redex.step_of
 
     redex_behind : (t : Term) (a : CurrentClear phase calls before start end t)
         → let x = step_at (may_drop calls) phase t (step_of t a).taken (step_of t a).is in
-        RedexAt rule calls sought (start + ahead) behind t x.position x.contraction.contractum
+        RedexAt rule calls sought place behind t x.position x.contraction.contractum
     redex_behind t a =
         let s = step_of t a in
         let x = step_at (may_drop calls) phase t s.taken s.is in
@@ -149,7 +150,7 @@ module _ {phase : Phase} {calls before : List ℕ} {start end : ℕ} where
         }
 
     pub turn_rewritable : {second : List ℕ} → Ready phase calls before start end second → (second' : List ℕ)
-        → length second' ≡ length second → Rewritable rule calls sought (start + ahead) behind second'
+        → length second' ≡ length second → Rewritable rule calls sought place behind second'
     turn_rewritable d second' m = record {
       term = d.term;
       position = _;
@@ -160,57 +161,58 @@ module _ {phase : Phase} {calls before : List ℕ} {start end : ℕ} where
     }
 
     -- the redex is rewritten, or the next term is too long
-    rewritten_at : {after : List ℕ} (w : Result ℕ Refusal) → RewritesRedex rule calls sought (start + ahead) behind after w → (t : Term)
+    rewritten_at : {after : List ℕ} (w : Result Gap Refusal) → RewritesRedex rule calls sought place behind after w → (t : Term)
         → (a : CurrentClear phase calls before start end t)
-        → RewrittenTo (length sought) after (start + ahead) (step_of t a).taken.next w
+        → RewrittenTo (length sought) after place (step_of t a).taken.next w
     rewritten_at {after} w x t a =
         let s = step_of t a in
         let y = step_at (may_drop calls) phase t s.taken s.is in
-        subst (λ (u : Term). RewrittenTo (length sought) after (start + ahead) u w) (sym y.next) (x.told t _ _ (redex_behind t a))
+        subst (λ (u : Term). RewrittenTo (length sought) after place u w) (sym y.next) (x.told t _ _ (redex_behind t a))
 
     pub turned_full : {left : ℕ} {counts ceilings after : List ℕ} {e : Refusal} → 0 < left → ceiling_met ceilings rule counts ≡ false
-        → RewritesRedex rule calls sought (start + ahead) behind after (Err e)
+        → RewritesRedex rule calls sought place behind after (Err e)
         → Turns phase calls before start end left counts ceilings after (Err e)
     turned_full {left} {counts} {ceilings} {after} h u x = record { told = λ t a. go t a (rewritten_at (Err _) x t a) }
       where
         go : {e : Refusal} (t : Term) (a : CurrentClear phase calls before start end t)
-            → RewrittenTo (length sought) after (start + ahead) (step_of t a).taken.next (Err e)
+            → RewrittenTo (length sought) after place (step_of t a).taken.next (Err e)
             → Turned phase calls after start end left counts ceilings (length before) t (Err e)
         go t a (too_long m) =
             let s = step_of t a in
             full s.taken s.is h (ap (λ (i : Rule). ceiling_met ceilings i counts) s.by ∙ u) (omega (arith, m, g.same))
 
-    module _ {rewritten : List ℕ} {n : ℕ} (x : RewritesRedex rule calls sought (start + ahead) behind rewritten (Ok n)) where
+    module _ {rewritten : List ℕ} {n : Gap} (x : RewritesRedex rule calls sought place behind rewritten (Ok n)) where
       -- the next term is there
       next_there : (t : Term) (a : CurrentClear phase calls before start end t)
-          → Gapped rewritten (start + ahead) n (step_of t a).taken.next
+          → Gapped rewritten n.start n.end (step_of t a).taken.next
       next_there t a = go (rewritten_at (Ok n) x t a)
         where
-          go : {u : Term} {n : ℕ} → RewrittenTo (length sought) rewritten (start + ahead) u (Ok n) → Gapped rewritten (start + ahead) n u
+          go : {u : Term} {n : Gap} → RewrittenTo (length sought) rewritten place u (Ok n) → Gapped rewritten n.start n.end u
           go (there n g) = g
 
       -- and the gap goes to where the search goes on
-      pub next_seekable : {second : List ℕ} → Ready phase calls before start end second → {to : ℕ} → to ≡ next_from phase (start + ahead)
-          → Seekable rewritten (start + ahead) n to
+      pub next_seekable : {second : List ℕ} → Ready phase calls before start end second → {to : ℕ} → to ≡ next_from phase place
+          → Seekable rewritten n.start n.end to
       next_seekable d {to} e =
           let s = step_of d.term d.at in
           let i = inside_next (may_drop calls) phase d.term s.taken s.is in
           gapped_seekable (next_there d.term d.at) to (omega (arith, e, i, ap (next_from phase) s.at))
 
-      pub turned_goes : {left to rest : ℕ} {counts ceilings after : List ℕ} → 0 < left → ceiling_met ceilings rule counts ≡ false
-          → to ≡ next_from phase (start + ahead) → Seeks rewritten (start + ahead) n to after rest
-          → Turns phase calls before start end left counts ceilings after (Ok (Some (record { rule = rule; start = to; end = rest })))
+      pub turned_goes : {left to : ℕ} {rest : Gap} {counts ceilings after : List ℕ} → 0 < left → ceiling_met ceilings rule counts ≡ false
+          → to ≡ next_from phase place → (rest.start ≡ to) × Seeks rewritten n.start n.end to after rest.end
+          → Turns phase calls before start end left counts ceilings after (Ok (Some (record { rule = rule; gap = rest })))
       turned_goes {left} {to} {rest} {counts} {ceilings} {after} h u e k = record {
         told = λ t a.
             let s = step_of t a in
-            let q : next_from phase s.taken.place ≡ to = ap (next_from phase) s.at ∙ sym e in
-            let there = gapped_sought (next_there t a) k in
+            let q : next_from phase s.taken.place ≡ rest.start = ap (next_from phase) s.at ∙ sym e ∙ sym k.0 in
+            let there = gapped_sought (next_there t a) k.1 in
             let below = ap (λ (i : Rule). ceiling_met ceilings i counts) s.by ∙ u in
             let turned : Rule → ℕ → Type 0 =
             λ i j. Turned phase calls after start end left counts ceilings (length before) t
-            (Ok (Some (record { rule = i; start = j; end = rest }))) in
-            subst (λ (i : Rule). turned i to) s.by (subst (λ (i : ℕ). turned s.taken.rule i) q
-            (goes s.taken rest s.is h below (subst (λ (i : ℕ). Gapped after i rest s.taken.next) (sym q) there)));
+            (Ok (Some (record { rule = i; gap = record { start = j; end = rest.end } }))) in
+            subst (λ (i : Rule). turned i rest.start) s.by (subst (λ (i : ℕ). turned s.taken.rule i) q
+            (goes s.taken rest.end s.is h below
+            (subst (λ (i : ℕ). Gapped after i rest.end s.taken.next) (e ∙ sym (ap (next_from phase) s.at)) there)));
       }
 
 -- the same of what the code has at hand there: the search's answer, the budget and the answer of `ceiling_met`

@@ -11,6 +11,7 @@ use Rattle.reduction.specs.declared.Rule.{Rule}
 use Rattle.outcomes.specs.declared.Refusal.{Refusal}
 use Rattle.outcomes.specs.declared.Refusal.TheVariants.{Capacity}
 use Rattle.step.specs.Currents.{Gapped, Current}
+use Rattle.step.specs.declared.gap.Gap.{Gap}
 
 -- the subterm of the current term t that begins behind the gap is one that the rule makes y of
 pub record RedexAt (rule : Rule) (calls words : List ℕ) (start end : ℕ) (t : Term) (p : Position Term) (y : Term) : Type 0 where
@@ -28,11 +29,11 @@ pub record Rewritable (rule : Rule) (calls words : List ℕ) (start end : ℕ) (
   pub scratch : length second ≡ length words
 
 -- the next term u is too long for the buffer, or it is there, around a gap that begins where it did
-pub data RewrittenTo (capacity : ℕ) (after : List ℕ) (start : ℕ) (u : Term) : Result ℕ Refusal → Type 0 where
+pub data RewrittenTo (capacity : ℕ) (after : List ℕ) (start : ℕ) (u : Term) : Result Gap Refusal → Type 0 where
   too_long : capacity < size u → RewrittenTo capacity after start u (Err Capacity)
-  there : (n : ℕ) → Gapped after start n u → RewrittenTo capacity after start u (Ok n)
+  there : (n : ℕ) → Gapped after start n u → RewrittenTo capacity after start u (Ok (record { start = start; end = n }))
 
 -- for whatever redex is there
-pub record RewritesRedex (rule : Rule) (calls before : List ℕ) (start end : ℕ) (after : List ℕ) (r : Result ℕ Refusal) : Type 0 where
+pub record RewritesRedex (rule : Rule) (calls before : List ℕ) (start end : ℕ) (after : List ℕ) (r : Result Gap Refusal) : Type 0 where
   pub told : (t : Term) (p : Position Term) (y : Term) → RedexAt rule calls before start end t p y
       → RewrittenTo (length before) after start (p.plug y) r

@@ -43,7 +43,7 @@ pub data Turned (phase : Phase) (calls after : List ℕ) (start end left : ℕ) 
   goes : (s : Step) (n : ℕ) → step (may_drop calls) phase t ≡ some s → 0 < left → ceiling_met ceilings s.rule counts ≡ false
       → Gapped after (next_from phase s.place) n s.next
       → Turned phase calls after start end left counts ceilings capacity t
-      (Ok (Some (record { rule = s.rule; start = next_from phase s.place; end = n })))
+      (Ok (Some (record { rule = s.rule; gap = record { start = next_from phase s.place; end = n } })))
 
 -- for whatever term is current; the capacity is the buffer's length
 pub record Turns (phase : Phase) (calls before : List ℕ) (start end left : ℕ) (counts ceilings after : List ℕ)

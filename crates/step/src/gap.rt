@@ -1,15 +1,24 @@
 // A term in a buffer with a gap: its first words stand at the buffer's front, the others at its end.
+ghost use Rattle.std.specs.Prelude.{◌≡◌};
 ghost use Rattle.step.specs.Gaps.{Seekable, Seeks};
 
 use words::moves::move_words;
 
-// moves the gap, which is from `start` to `end`, to a place of the term; answers where it ends then. Only the words between move.
+// where the gap begins and where it ends
+#[derive(Clone, Copy)]
+pub struct Gap {
+    pub start: usize,
+    pub end: usize,
+}
+
+// moves the gap to a place of the term, and answers where it is then. Only the words between move.
 #[tactic(auto, using(crate::proofs::GapMoved::seeks_on, crate::proofs::GapMoved::seeks_back))]
-pub fn seek(words: &mut [u64], start: usize, end: usize, place: usize) -> usize
-    requires { Seekable words.old start end place }
-    ensures { Seeks words.old start end place words.new result }
+pub fn seek(words: &mut [u64], gap: Gap, place: usize) -> Gap
+    requires { Seekable words.old gap.start gap.end place }
+    ensures { (result.start ≡ place) × Seeks words.old gap.start gap.end place words.new result.end }
 {
-    if start < place {
+    let Gap { start, end } = gap;
+    let end = if start < place {
         let n = place - start;
         move_words(words, end, n, start);
         end + n
@@ -18,5 +27,6 @@ pub fn seek(words: &mut [u64], start: usize, end: usize, place: usize) -> usize
         let behind = end - n;
         move_words(words, place, n, behind);
         behind
-    }
+    };
+    Gap { start: place, end }
 }

@@ -7,10 +7,10 @@ use Rattle.normalizer.proofs.PhaseLoop.{arrives_initial, refused_reduces, phase_
 use Rattle.normalizer.proofs.reduce.reduce.Goals as goal
 
 pub reduce-init : goal.reduce-init
-reduce-init c = (arrives_initial (search rules) c.requires, refl)
+reduce-init c = (rw c.new-calls.ensures (arrives_initial (search rules) c.requires), refl)
 
-pub take_turn-requires-clause-ready : goal.take_turn-requires-clause-ready
-take_turn-requires-clause-ready c = (turn_ready c.loop-refusal.invariant.0, omega (arith, c.loop-refusal.invariant.1))
+pub take_turn-requires : goal.take_turn-requires
+take_turn-requires c = (turn_ready c.loop-refusal.invariant.0, omega (arith, c.loop-refusal.invariant.1))
 
 -- a turn that takes a step: the buffers are as long behind it as before
 pub raise-raised-requires : goal.raise-raised-requires
@@ -32,27 +32,28 @@ loop-refusal-preserved c = (
 
 -- a turn that is refused
 pub returns-in-Err : goal.returns-in-Err
-returns-in-Err c = refused_reduces (arrives_on c.reduce.invariant.0 c.loop-refusal.invariant.0) c.in-Err.ensures
+returns-in-Err c =
+    rw (← c.new-calls.ensures) (refused_reduces (arrives_on c.reduce.invariant.0 c.loop-refusal.invariant.0) c.in-Err.ensures)
 
 -- a turn that ends the phase, with the gap at the front
-pub seek-end-requires : goal.seek-end-requires
-seek-end-requires c = gap_seekable c.loop-refusal.invariant.0 _ (omega arith) (rw c.in-Ok-None.field-0-is at c.in-Ok-None.ensures)
+pub seek-gap-requires : goal.seek-gap-requires
+seek-gap-requires c = gap_seekable c.loop-refusal.invariant.0 _ (omega arith) (rw c.in-Ok-None.field-0-is at c.in-Ok-None.ensures)
 
 pub reduce-preserved-in-Insertion : goal.reduce-preserved-in-Insertion
 reduce-preserved-in-Insertion c = (
-  phase_arrives (arrives_on c.reduce.invariant.0 c.loop-refusal.invariant.0) (rw c.in-Ok-None.field-0-is at c.in-Ok-None.ensures) c.seek-end.ensures
-      (c.seek-end.auto.words ∙ c.take_turn.auto.current) c.take_turn.auto.second (rw c.in-Insertion.is first_second),
+  rw c.seek-gap.ensures.0 (phase_arrives (arrives_on c.reduce.invariant.0 c.loop-refusal.invariant.0) (rw c.in-Ok-None.field-0-is at c.in-Ok-None.ensures) c.seek-gap.ensures.1
+      (c.seek-gap.auto.words ∙ c.take_turn.auto.current) c.take_turn.auto.second (rw c.in-Insertion.is first_second)),
   c.take_turn.auto.pending ∙ c.loop-refusal.invariant.1,
 )
 
 pub reduce-preserved : goal.reduce-preserved
 reduce-preserved c = (
-  phase_arrives (arrives_on c.reduce.invariant.0 c.loop-refusal.invariant.0) (rw c.in-Ok-None.field-0-is at c.in-Ok-None.ensures) c.seek-end.ensures
-      (c.seek-end.auto.words ∙ c.take_turn.auto.current) c.take_turn.auto.second (rw c.in-Reduction.is second_third),
+  rw c.seek-gap.ensures.0 (phase_arrives (arrives_on c.reduce.invariant.0 c.loop-refusal.invariant.0) (rw c.in-Ok-None.field-0-is at c.in-Ok-None.ensures) c.seek-gap.ensures.1
+      (c.seek-gap.auto.words ∙ c.take_turn.auto.current) c.take_turn.auto.second (rw c.in-Reduction.is second_third)),
   c.take_turn.auto.pending ∙ c.loop-refusal.invariant.1,
 )
 
 pub returns-in-Dropping : goal.returns-in-Dropping
 returns-in-Dropping c =
-    form_reduces (arrives_on c.reduce.invariant.0 c.loop-refusal.invariant.0) (rw c.in-Ok-None.field-0-is at c.in-Ok-None.ensures) c.seek-end.ensures
-    (c.seek-end.auto.words ∙ c.take_turn.auto.current) c.in-Dropping.is
+    rw (← c.new-calls.ensures) (form_reduces (arrives_on c.reduce.invariant.0 c.loop-refusal.invariant.0) (rw c.in-Ok-None.field-0-is at c.in-Ok-None.ensures) c.seek-gap.ensures.1
+    (c.seek-gap.auto.words ∙ c.take_turn.auto.current) c.in-Dropping.is)

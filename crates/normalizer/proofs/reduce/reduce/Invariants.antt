@@ -4,17 +4,17 @@ use Rattle.std.proofs.Common.{◌≡◌, ℕ, List, length}
 use Rattle.reduction.specs.declared.Settings.{Settings}
 use Rattle.reduction.specs.declared.Phase.{Phase}
 use Rattle.reduction.specs.Reduction.{Counts}
+use Rattle.step.specs.declared.gap.Gap.{Gap}
 use Rattle.normalizer.proofs.BetweenTurns.{State}
 use Rattle.normalizer.proofs.StepLoop.{Arrives}
 use Rattle.normalizer.proofs.PhaseLoop.{initial, phases_after}
 use Rattle.normalizer.proofs.reduce.reduce.Given as goal
 
-abbrev pub state : Phase → (words : List ℕ) (start end left : ℕ) → Counts → (second : List ℕ) → State
-state phase words start end left counts second = record {
+abbrev pub state : Phase → (words : List ℕ) → Gap → (left : ℕ) → Counts → (second : List ℕ) → State
+state phase words gap left counts second = record {
   phase = phase;
   words = words;
-  start = start;
-  end = end;
+  gap = gap;
   left = left;
   counts = counts;
   second = second;
@@ -26,8 +26,8 @@ set budget ceilings = record { budget = budget; ceilings = ceilings }
 abbrev pub invariant-loop-refusal : goal.invariant-loop-refusal
 invariant-loop-refusal l =
     Arrives l.calls (set l.budget l.ceilings)
-    (state l.phase l.initial.current l.initial.start l.initial.end l.initial.left l.initial.counts l.initial.second)
-    (state l.phase l.current l.start l.end l.left l.counts l.second)
+    (state l.phase l.initial.current l.initial.gap l.initial.left l.initial.counts l.initial.second)
+    (state l.phase l.current l.gap l.left l.counts l.second)
     × (length l.pending ≡ 8194)
 
 abbrev pub decreases-loop-refusal : goal.decreases-loop-refusal
@@ -36,7 +36,7 @@ decreases-loop-refusal l = l.left
 abbrev pub invariant-reduce : goal.invariant-reduce
 invariant-reduce l =
     Arrives l.calls (set l.budget l.ceilings) (initial l.initial.current l.begin (set l.budget l.ceilings) l.initial.second)
-    (state l.phase l.current l.start l.end l.left l.counts l.second)
+    (state l.phase l.current l.gap l.left l.counts l.second)
     × (length l.pending ≡ 8194)
 
 abbrev pub decreases-reduce : goal.decreases-reduce

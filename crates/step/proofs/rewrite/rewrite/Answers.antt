@@ -17,7 +17,7 @@ use Rattle.step.proofs.rewrite.rewrite.Goals as goal
 
 pub measure-requires : goal.measure-requires
 measure-requires c =
-    (redex_starts c.requires.0, omega (arith, from_length c.args.current.now c.args.end, c.requires.0.limit), c.requires.1)
+    (redex_starts c.requires.0, omega (arith, from_length c.args.current.now c.args.gap.end, c.requires.0.limit), c.requires.1)
 
 -- a drop: the body stands behind the words that go
 body_in : {rule : Rule} {calls current second : List ℕ} {start end gone : ℕ} → Acts rule calls (from current end) (Lower gone)
@@ -38,7 +38,7 @@ slice_bounds-lower_part-start c = omega (arith, body_in c.in-Lower.ensures c.req
 
 pub lower_part-requires : goal.lower_part-requires
 lower_part-requires c =
-    let l = from_length c.args.current.now (c.args.end + c.in-Lower.gone) in (
+    let l = from_length c.args.current.now (c.args.gap.end + c.in-Lower.gone) in (
       body_starts (acts_lower c.in-Lower.ensures) c.requires.0,
       omega (arith, l, c.requires.0.limit),
       omega (arith, l, c.requires.0.limit, c.requires.1, c.measure.auto.pending),
@@ -52,27 +52,27 @@ pub overflow_add-behind : goal.overflow_add-behind
 overflow_add-behind c =
     omega (arith, read_inside (acts_rewrite c.in-Rewrite.ensures) c.requires.0, c.requires.0.limit)
 
-pub returns-then-behind-start : goal.returns-then-behind-start
-returns-then-behind-start c = rewrites_full (acts_rewrite c.in-Rewrite.ensures) c.if-behind-start.true
+pub returns-then-behind-gap : goal.returns-then-behind-gap
+returns-then-behind-gap c = rewrites_full (acts_rewrite c.in-Rewrite.ensures) c.if-behind-gap.true
 
 -- the next term is not too long
 pub write-requires : goal.write-requires
 write-requires c = (
-  plan_fits (acts_rewrite c.in-Rewrite.ensures) c.requires.0 refl (omega (arith, c.if-behind-start.false)),
-  omega (arith, from_length c.args.current.now c.args.end, c.requires.0.limit),
+  plan_fits (acts_rewrite c.in-Rewrite.ensures) c.requires.0 refl (omega (arith, c.if-behind-gap.false)),
+  omega (arith, from_length c.args.current.now c.args.gap.end, c.requires.0.limit),
   omega (arith, c.requires.1, c.measure.auto.pending),
 )
 
 pub copy-requires : goal.copy-requires
 copy-requires c =
     let m = acts_rewrite c.in-Rewrite.ensures in
-    let room : c.in-Rewrite.field-0.wrote ≤ c.args.end + c.in-Rewrite.field-0.read - c.args.start = omega (arith, c.if-behind-start.false) in
+    let room : c.in-Rewrite.field-0.wrote ≤ c.args.gap.end + c.in-Rewrite.field-0.read - c.args.gap.start = omega (arith, c.if-behind-gap.false) in
     let small : c.in-Rewrite.field-0.wrote ≤ length c.args.current.now = wrote_small m c.requires.0 room in (
       omega (arith, small, c.requires.0.scratch, c.write.auto.dst),
       omega (arith, room, read_inside m c.requires.0),
     )
 
-pub returns-else-behind-start : goal.returns-else-behind-start
-returns-else-behind-start c =
+pub returns-else-behind-gap : goal.returns-else-behind-gap
+returns-else-behind-gap c =
     rewrites_next (acts_rewrite c.in-Rewrite.ensures) c.args.second.now c.write.auto.dst c.requires.0.scratch
-    (omega (arith, c.if-behind-start.false)) refl c.write.ensures c.copy.ensures
+    (omega (arith, c.if-behind-gap.false)) refl c.write.ensures c.copy.ensures
