@@ -1,15 +1,27 @@
 // Whether a part is a value, and where it ends.
 ghost use Rattle.std.specs.Prelude.{◌≡◌, ◌≤◌, length};
 ghost use Rattle.words.specs.Fronts.{Starts};
+ghost use Rattle.words.specs.KindCodes.{code};
 ghost use Rattle.reduction.specs.FitByKinds.{value_kind};
 ghost use Rattle.search.specs.ValueTest.{TestsValue};
 
 use words::ends::part_size;
 use words::fields::kind;
+use words::kinds::Kind;
 use words::shape::{FUNCTION, shape_of, value_parts};
 
-// the kinds of values: the variable, and those that carry their type (function, pair, left and right injection, unit); the shape of a
-// kind tells which do
+// the kinds of values: the variable, and those that carry their type (function, pair, left and right injection, unit)
+#[tactic(auto, unfolding(reduction::specs::FitByKinds::value_kind))]
+pub fn is_value_kind(kind: Kind) -> bool
+    ensures { result ≡ value_kind (code kind) }
+{
+    matches!(
+        kind,
+        Kind::Variable | Kind::Function | Kind::Pair | Kind::Left | Kind::Right | Kind::Unit
+    )
+}
+
+// the same by a kind's number: the shape of a kind tells which carry their type
 #[tactic(auto, unfolding(reduction::specs::FitByKinds::value_kind))]
 pub fn value_kind(k: u64) -> bool
     ensures { result ≡ value_kind k }
