@@ -1,3 +1,4 @@
+pub mod PartsRead
 pub mod Bytes
 pub mod Readable
 pub mod Hexadecimal

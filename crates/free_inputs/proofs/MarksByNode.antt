@@ -7,8 +7,8 @@ use mathlib.Core.Path.{◌≡◌, refl, sym, ◌∙◌, ap, ap₂}
 use mathlib.Core.Bool.{Bool, true, false, ◌&&◌, ◌||◌, or-true, or-false}
 use mathlib.Core.List.{List}
 use lib.Dec.{eqb, ltb}
-use lib.ListN.{length, get_or, set, replicate, length-set}
-use lib.Seq.{get_or-set_same}
+use lib.ListN.{length, get_or, replicate}
+use Rattle.std.proofs.lemmas.List.{get_or-replicate, length-replicate}
 use borrow.Author.Tests.{lt-ltb}
 use Rattle.syntax.specs.Term.{Terms, done, arg, node}
 use Rattle.syntax.specs.Parts.{part_count}
@@ -19,7 +19,7 @@ use Rattle.words.specs.Joined.{joined}
 use Rattle.words.specs.Reach.{outer, inner}
 use Rattle.words.specs.Depths.{OpensParts}
 use Rattle.words.proofs.Reach.{uses_of_node}
-use Rattle.words.proofs.RowAtDepths.{Gathering, ahead, ahead_one, ahead_opened, Near, near_begin, near_next, opens_room}
+use Rattle.words.proofs.RowAtDepths.{Gathering, ahead, ahead_one, ahead_opened, Near, near_next, opens_room}
 use Rattle.words.proofs.Rows.{Marching, march_from, march_inside, march_fits, march_end, march_on, one_starts, one_holds}
 use Rattle.outcomes.specs.Marks.{mask, masks}
 use Rattle.outcomes.specs.FreeInputs.{reads}
@@ -58,17 +58,17 @@ pub record Scan (calls words p marks : List ℕ) (owed at : ℕ) : Type 0 where
   pub near : Near p owed (0 + at)
   pub going : Marching calls words (Reading p seen) 1 at owed
 
-pub scan_begin : {calls words : List ℕ} (p : List ℕ) → Starts calls words → length words + 2 ≤ length p
-    → Scan calls words (set p 0 0) (replicate 4 0) 1 0
+pub scan_begin : {calls words : List ℕ} (n : ℕ) → Starts calls words → length words + 2 ≤ n
+    → Scan calls words (replicate n 0) (replicate 4 0) 1 0
 unfolding uses uses_of masks mask
-scan_begin {calls} {words} p s sp = record {
+scan_begin {calls} {words} n s sp = record {
   seen = λ i. 0;
   marked = refl;
-  space = omega (arith, sp, length-set p 0 0);
-  near = near_begin p 0 (omega (arith, sp));
-  going = march_from calls words (Reading (set p 0 0) (λ i. 0)) 1 (one_starts s) λ ts e i.
-      let a : ahead (uses_of i) (set p 0 0) ts ≡ uses_all ts (0 + i) =
-      ahead_one (uses_of i) (set p 0 0) 0 ts e (get_or-set_same p 0 0 0 (omega (arith, sp))) in
+  space = omega (arith, sp, length-replicate {A = ℕ} n 0);
+  near = λ j l. omega (arith, get_or-replicate {A = ℕ} n j 0 0 (omega (arith, sp, l)));
+  going = march_from calls words (Reading (replicate n 0) (λ i. 0)) 1 (one_starts s) λ ts e i.
+      let a : ahead (uses_of i) (replicate n 0) ts ≡ uses_all ts (0 + i) =
+      ahead_one (uses_of i) (replicate n 0) 0 ts e (get_or-replicate n 0 0 0 (omega (arith, sp))) in
       omega (arith, a, ap (uses_all ts) (zero-add i));
 }
 

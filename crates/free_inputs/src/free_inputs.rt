@@ -11,23 +11,23 @@ use outcomes::FreeInputs;
 pub fn free_inputs(types: &[u64], calls: &[u64], inputs: &[u64], term: &[u64]) -> FreeInputs
     ensures { result ≡ free_inputs_outcome (over types.now calls.now inputs.now) term.now }
 {
-    let checked = check_within(OTHER_LIMIT, types, calls, inputs, term);
-    let refusal = checked.refusal;
-    if refusal != 0 {
-        return FreeInputs {
-            refusal: refusal,
+    match check_within(OTHER_LIMIT, types, calls, inputs, term) {
+        Err(refusal) => FreeInputs {
+            refusal: u32::from(refusal),
             marks: [0; 4],
             count: 0,
-        };
-    }
-    let marks = input_marks(calls, term);
-    let count = u64::count_ones(marks[0])
-        + u64::count_ones(marks[1])
-        + u64::count_ones(marks[2])
-        + u64::count_ones(marks[3]);
-    FreeInputs {
-        refusal: 0,
-        marks: marks,
-        count: count,
+        },
+        Ok(_) => {
+            let marks = input_marks(calls, term);
+            let count = marks[0].count_ones()
+                + marks[1].count_ones()
+                + marks[2].count_ones()
+                + marks[3].count_ones();
+            FreeInputs {
+                refusal: 0,
+                marks,
+                count,
+            }
+        }
     }
 }

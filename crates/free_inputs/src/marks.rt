@@ -12,53 +12,46 @@ use words::fields::{kind, number};
 const HIGHEST: u64 = 9223372036854775808;
 
 // marks the input that a word names under so many binders; a word that is no variable's, or names a binder, marks none
-fn mark_input(w: u64, under: u64, marks: &mut [u64])
-    requires { length marks.old ≡ 4 }
+#[tactic(auto, using(crate::proofs::OneMark::past_inputs, crate::proofs::OneMark::one_input))]
+fn mark_input(w: u64, under: u64, marks: &mut [u64; 4])
     ensures { MarksNamed w under marks.old marks.new }
 {
-    if kind(w) != 0 {
-        return;
-    }
-    let n = number(w);
-    if n < under {
-        return;
-    }
-    let i = n - under;
-    if i < 256 {
-        let k = (i / 64) as usize;
-        marks[k] = marks[k] | (HIGHEST >> (i % 64));
+    if kind(w) == 0 && under <= number(w) {
+        let i = number(w) - under;
+        if i < 256 {
+            marks[(i / 64) as usize] |= HIGHEST >> (i % 64);
+        }
     }
 }
 
-// the marks of the inputs that the first term reads; `pending` has the depths of the parts still to come
-fn marks_in(calls: &[u64], term: &[u64], pending: &mut [u64]) -> [u64; 4]
-    requires { Starts calls.now term.now × (length term.now ≤ 65536) × (length term.now + 2 ≤ length pending.old) }
+// the marks of the inputs that the first term reads; the depths of the parts still to come stand in a buffer of N words
+fn marks_in<const N: usize>(calls: &[u64], term: &[u64]) -> [u64; 4]
+    requires { Starts calls.now term.now × (length term.now + 2 ≤ N) × (N ≤ 65536) }
     ensures { MarksRead calls.now term.now result }
 {
-    let mut marks: [u64; 4] = [0; 4];
-    let mut owed: usize = 1;
-    let mut at: usize = 0;
-    pending[0] = 0;
+    let mut pending = [0; N];
+    let mut marks = [0; 4];
+    let mut owed = 1;
+    let mut at = 0;
     while 0 < owed {
         let w = term[at];
         let last = owed - 1;
         let under = pending[last];
         mark_input(w, under, &mut marks);
-        owed = open_parts(calls, w, under, pending, last);
+        owed = open_parts(calls, w, under, &mut pending, last);
         at += 1;
     }
     marks
 }
 
-// the same in a buffer of its own, a short one for a short term
+// the same. A short term has a short buffer: to clear that of the longest term takes longer than to go through it.
 pub fn input_marks(calls: &[u64], term: &[u64]) -> [u64; 4]
     requires { Starts calls.now term.now × (length term.now ≤ 8192) }
     ensures { MarksRead calls.now term.now result }
 {
     if term.len() + 2 <= SHORT {
-        let mut pending: [u64; SHORT] = [0; SHORT];
-        return marks_in(calls, term, &mut pending);
+        marks_in::<SHORT>(calls, term)
+    } else {
+        marks_in::<PENDING>(calls, term)
     }
-    let mut pending: [u64; PENDING] = [0; PENDING];
-    marks_in(calls, term, &mut pending)
 }

@@ -12,7 +12,7 @@ use reduction::Settings;
 use words::moves::{clear, copy};
 
 // a refusal, with the counts of the steps taken
-fn refused(refusal: Refusal, counts: [u32; 10]) -> Answer
+pub fn refused(refusal: Refusal, counts: [u32; 10]) -> Answer
     ensures { result ≡ record { refusal = number_of refusal; ty = 0; length = 0; counts = counts } }
 {
     Answer {

@@ -3,7 +3,7 @@
 use Prim.Native.Nat.{ℕ, zero, suc, ◌≤◌, ◌<◌}
 use native.Mathlib.Omega.{arith}
 use mathlib.Core.Path.{◌≡◌, refl}
-use mathlib.Core.Bool.{Bool, true, false}
+use mathlib.Core.Bool.{Bool}
 use mathlib.Core.List.{List, []}
 use lib.ListN.{length, get_or, replicate}
 use borrow.Author.Tests.{le-leb}
@@ -21,7 +21,7 @@ use Rattle.reduction.proofs.CountsBounded.{zeros, counts_of, ten_counts, count_b
 use Rattle.outcomes.specs.Buffers.{overwrite}
 use Rattle.outcomes.specs.Listing.{listing_of, written_to}
 use Rattle.outcomes.specs.Normalize.{Normalized, reduced_to, checked_to, normalize_within, max_capacity}
-use Rattle.outcomes.specs.ReadBundle.{Reading, read_bundle_outcome, readable, unreadable, lengths_of, header_of, words_after}
+use Rattle.outcomes.specs.ReadBundle.{Reading, read_bundle_outcome, lengths_of}
 use Rattle.outcomes.specs.Respond.{program_settings, bundle_words, tables_of, term_of, unread, listed, respond_to, response, respond_outcome}
 use Rattle.theory.proofs.KnownTypes.{type_below}
 use Rattle.bundles.proofs.ListingBound.{listing_some, listing_fits}
@@ -91,14 +91,7 @@ normalized_bounded tables words = checked_bounded (may_drop tables.calls) tables
 -- a reading is refused with 12 or not at all
 reading_refusal : (bytes slice : List ℕ) → (read_bundle_outcome bytes slice).lengths.refusal ≤ 12
 unfolding read_bundle_outcome lengths_of
-reading_refusal bytes slice = by_test (readable bytes (length slice))
-  where
-    by_test : (b : Bool) → ◌≤◌ (elim b as (λ _. Reading) [
-      | false ↦ record { lengths = unreadable; words = slice }
-      | true ↦ record { lengths = lengths_of (header_of bytes); words = overwrite (words_after bytes) slice }
-    ]).lengths.refusal 12
-    by_test false = omega arith
-    by_test true = omega arith
+reading_refusal bytes slice = grind arith
 
 -- what is written is the listing of an answer with bounded numbers
 record ListsAnswer (bytes : List ℕ) : Type 0 where

@@ -1,18 +1,19 @@
 // The public call `respond`: the bytes of a bundle in, the bytes of a listing out.
 #![tactic(auto)]
 
-ghost use Rattle.std.specs.Prelude.{◌≡◌, [], ◌≤◌, length};
+ghost use Rattle.std.specs.Prelude.{◌≡◌, [], ◌≤◌, length, Ok};
 ghost use Rattle.syntax.specs.Tables.{over};
 ghost use Rattle.outcomes.specs.Listing.{listing_of, written_to};
 ghost use Rattle.outcomes.specs.Normalize.{normalize_within, max_capacity};
-ghost use Rattle.outcomes.specs.ReadBundle.{total};
+ghost use Rattle.outcomes.specs.Refusal.{number_of};
+ghost use Rattle.outcomes.specs.ReadBundle.{total, lengths_read};
 ghost use Rattle.outcomes.specs.Respond.{program_settings, tables_of, term_of, unread, listed, respond_outcome};
 
 use bundles::listing::listing;
 use bundles::read::read_bundle;
-use normalizer::normalize::normalize;
+use normalizer::normalize::{normalize, refused};
 use normalizer::settings::no_ceilings;
-use outcomes::{Answer, Lengths};
+use outcomes::{Lengths, Refusal};
 
 // the most bytes that an answer takes
 pub const MOST_WRITTEN: usize = 139393;
@@ -24,9 +25,9 @@ fn answer_to(types: &[u64], calls: &[u64], inputs: &[u64], term: &[u64], text: &
         (over types.now calls.now inputs.now) term.now)) }
 {
     let settings = no_ceilings(1000000);
-    let mut output: [u64; 8192] = [0; 8192];
-    let mut first: [u64; 8192] = [0; 8192];
-    let mut second: [u64; 8192] = [0; 8192];
+    let mut output = [0; 8192];
+    let mut first = [0; 8192];
+    let mut second = [0; 8192];
     let answer = normalize(
         types,
         calls,
@@ -41,24 +42,19 @@ fn answer_to(types: &[u64], calls: &[u64], inputs: &[u64], term: &[u64], text: &
 }
 
 // lists a refusal, with counts of zero
-fn refuse(refusal: u32, text: &mut [u8]) -> usize
-    ensures { record { length = result; buffer = text.new } ≡ written_to text.old (listing_of (unread refusal) []) }
+fn refuse(refusal: Refusal, text: &mut [u8]) -> usize
+    ensures { record { length = result; buffer = text.new }
+        ≡ written_to text.old (listing_of (unread (number_of refusal)) []) }
 {
-    let answer = Answer {
-        refusal,
-        ty: 0,
-        length: 0,
-        counts: [0; 10],
-    };
-    listing(answer, &[], text)
+    listing(refused(refusal, [0; 10]), &[], text)
 }
 
 // splits the words that are read into the tables and the term, and answers to them
 fn answer_parts(words: &[u64], lengths: Lengths, text: &mut [u8]) -> usize
-    requires { total lengths ≤ length words.now }
+    requires { total (lengths_read (Ok lengths)) ≤ length words.now }
     ensures { record { length = result; buffer = text.new }
         ≡ written_to text.old (listed (normalize_within max_capacity program_settings
-        (tables_of lengths words.now) (term_of lengths words.now))) }
+        (tables_of (lengths_read (Ok lengths)) words.now) (term_of (lengths_read (Ok lengths)) words.now))) }
 {
     let (types, rest) = words.split_at(lengths.types);
     let (calls, rest) = rest.split_at(lengths.calls);
@@ -70,11 +66,9 @@ fn answer_parts(words: &[u64], lengths: Lengths, text: &mut [u8]) -> usize
 pub fn respond(bytes: &[u8], text: &mut [u8]) -> usize
     ensures { record { length = result; buffer = text.new } ≡ respond_outcome bytes.now text.old }
 {
-    let mut words: [u64; 8192] = [0; 8192];
-    let lengths = read_bundle(bytes, &mut words);
-    let refusal = lengths.refusal;
-    if refusal != 0 {
-        return refuse(refusal, text);
+    let mut words = [0; 8192];
+    match read_bundle(bytes, &mut words) {
+        Err(refusal) => refuse(refusal, text),
+        Ok(lengths) => answer_parts(&words, lengths, text),
     }
-    answer_parts(&words, lengths, text)
 }

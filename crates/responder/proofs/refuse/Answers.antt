@@ -3,4 +3,4 @@ use Rattle.responder.proofs.ListedAnswer.{refusal_listed}
 use Rattle.responder.proofs.refuse.Goals as goal
 
 pub returns : goal.returns
-returns c = refusal_listed _ _ _ _ c.listing.ensures
+returns c = refusal_listed _ _ _ _ (rw c.refused.ensures at c.listing.ensures)
