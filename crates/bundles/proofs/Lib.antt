@@ -1,3 +1,4 @@
+pub mod PartsRead
 pub mod Bytes
 pub mod Readable
 pub mod Hexadecimal
@@ -9,3 +10,4 @@ pub mod Lines
 pub mod WholeListing
 pub mod ListingOutcome
 pub mod ListingBound
+pub mod BytePairs

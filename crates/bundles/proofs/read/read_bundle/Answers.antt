@@ -10,7 +10,7 @@ returns c =
     bundle_read c.args.bytes.now c.args.words.now _ _ _ (record {
       few = omega arith;
       some = omega arith;
-      low_bits = grind arith;
+      low_bits = rw (← c.word_at-header.ensures) (omega arith);
       length_is = omega arith;
       room = omega arith;
     }) lengths (search rules) c.copy_words.ensures
