@@ -6,7 +6,8 @@ ghost use Rattle.free_inputs.specs.InputMarks.{MarksNamed, MarksRead};
 use checker::check::SHORT;
 use words::PENDING;
 use words::depths::open_parts;
-use words::fields::{kind, number};
+use words::fields::number;
+use words::kinds::Kind;
 
 // the mark of the first input of a word
 const HIGHEST: u64 = 9223372036854775808;
@@ -16,7 +17,7 @@ const HIGHEST: u64 = 9223372036854775808;
 fn mark_input(w: u64, under: u64, marks: &mut [u64; 4])
     ensures { MarksNamed w under marks.old marks.new }
 {
-    if kind(w) == 0 && under <= number(w) {
+    if Kind::of(w) == Kind::Variable && under <= number(w) {
         let i = number(w) - under;
         if i < 256 {
             marks[(i / 64) as usize] |= HIGHEST >> (i % 64);

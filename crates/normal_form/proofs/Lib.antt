@@ -1,3 +1,4 @@
+pub mod LeastKinds
 pub mod GrammarByParts
 pub mod TestedParts
 pub mod NormalTests
