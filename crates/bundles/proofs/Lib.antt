@@ -10,3 +10,4 @@ pub mod Lines
 pub mod WholeListing
 pub mod ListingOutcome
 pub mod ListingBound
+pub mod BytePairs
