@@ -1,6 +1,6 @@
 -- The turns of the inference, for whatever term the words begin with.
 use mathlib.Core.Path.{◌≡◌, refl, sym, ◌∙◌, ap, subst}
-use mathlib.Core.List.{List, []}
+use mathlib.Core.List.{List}
 use mathlib.Core.Logic.{inl, inr}
 use mathlib.Core.Option.{none}
 use Prim.Native.Nat.{ℕ, ◌+◌, ◌-◌, ◌*◌, ◌/◌, ◌%◌, ◌≤◌, ◌<◌}
@@ -18,7 +18,7 @@ use Rattle.syntax.specs.Parts.{part_count}
 use Rattle.words.specs.Fronts.{Holds, Starts, from}
 use Rattle.words.proofs.PartsAt.{first_from}
 use Rattle.typing.specs.Infer.{infer}
-use Rattle.checker.specs.Nodes.{node_type, call_type, leaf_type, types_to, Enters}
+use Rattle.checker.specs.Nodes.{node_type, leaf_type, types_to, Enters}
 use Rattle.checker.specs.Answers.{scope, start_of, Infers}
 use Rattle.checker.specs.declared.infer.Start.{Start}
 use Rattle.checker.specs.declared.infer.Start.TheVariants.{Typed, Node}
@@ -102,10 +102,9 @@ module _ {types calls inputs words : List ℕ} where
     abbrev Begins : code.Option Start → Type 0
     Begins r =
         r ≡ start_of (part_count calls (get_or (from words at) 0 0))
-        (leaf_type (over types calls []) (scope inputs stack depth) (get_or (from words at) 0 0))
+        (leaf_type (over types calls inputs) (scope inputs stack depth) (get_or (from words at) 0 0))
 
     answer : (r : code.Option Start) → Begins r → r ≡ start_of (part_count calls w) (leaf_type (over types calls inputs) (scope inputs stack depth) w)
-    unfolding leaf_type node_type call_type
     answer r e =
         e ∙ ap (λ (x : ℕ). start_of (part_count calls x) (leaf_type (over types calls inputs) (scope inputs stack depth) x))
         (first_from words at)
@@ -175,18 +174,13 @@ module _ {types calls inputs words : List ℕ} where
       -- no part is left, and what `type_from` answers
       module _ (no_more : part_count calls v ≤ j + 1) (noted : last < length nodes) where
         abbrev NodeType : code.Option ℕ → Type 0
-        NodeType r = r ≡ option_of (node_type (over types calls []) (kind_of v) (number_of v) (type_of v) (types_to (set nodes last A) (last - j) j))
-
-        answered : (r : code.Option ℕ) → NodeType r → r
-            ≡ option_of (node_type (over types calls inputs) (kind_of v) (number_of v) (type_of v) (types_to (set nodes last A) (last - j) j))
-        unfolding node_type call_type
-        answered r e = e
+        NodeType r = r ≡ option_of (node_type (over types calls inputs) (kind_of v) (number_of v) (type_of v) (types_to (set nodes last A) (last - j) j))
 
         pub turn_untyped : NodeType None → Infers (over types calls inputs) inputs words None
         turn_untyped e = untyped types calls inputs words λ t rest h.
             let head = get_or nodes last 0 in
             (give_last types calls inputs words stack nodes at top depth A t rest (g.stand t rest h) open' last place j refl
-            (halves head) (quarter head) (last - j) outside refl oe no_more noted).1 (none_told _ (answered None e))
+            (halves head) (quarter head) (last - j) outside refl oe no_more noted).1 (none_told _ e)
 
         pub turn_last : (B : ℕ) → NodeType (Some B) → Turn types calls inputs words stack (set nodes last A) at (last - j) outside (Some B)
         turn_last B e = has types calls inputs words (record {
@@ -195,5 +189,5 @@ module _ {types calls inputs words : List ℕ} where
           stand = λ t rest h.
               let head = get_or nodes last 0 in
               (give_last types calls inputs words stack nodes at top depth A t rest (g.stand t rest h) open' last place j refl
-              (halves head) (quarter head) (last - j) outside refl oe no_more noted).0 B (some_told _ B (answered _ e));
+              (halves head) (quarter head) (last - j) outside refl oe no_more noted).0 B (some_told _ B e);
         })

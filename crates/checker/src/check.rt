@@ -12,6 +12,7 @@ use crate::tables::{check_tables, lengths_fit};
 use crate::term_words::{is_whole, words_fit};
 use outcomes::Refusal;
 use words::PENDING;
+use words::tables::Tables;
 
 // the most term words that a call that normalizes takes
 pub const NORMALIZE_LIMIT: usize = 4096;
@@ -25,77 +26,64 @@ pub const SHORT: usize = 512;
 // places 8 and 9 of the term that the words begin with, and its type
 #[tactic(auto, unfolding(typing::specs::TermChecks::scoped))]
 fn typed_in(
-    types: &[u64],
-    calls: &[u64],
-    inputs: &[u64],
+    tables: &Tables,
     term: &[u64],
     stack: &mut [u64],
     nodes: &mut [u64],
 ) -> Result<u64, Refusal>
-    requires starts { Starts calls.now term.now }
-    requires lengths { (length inputs.now ≤ 256) × (length term.now ≤ other_limit) }
+    requires starts { Starts tables.now.calls term.now }
+    requires lengths { (length tables.now.inputs ≤ 256) × (length term.now ≤ other_limit) }
     requires room { (length term.now + 2 ≤ length stack.old) × (length term.now + 2 ≤ length nodes.old) }
-    ensures { Types (over types.now calls.now inputs.now) term.now (check_answer result) }
+    ensures { Types tables.now term.now (check_answer result) }
 {
-    if !scoped(calls, inputs.len(), term, stack) {
+    if !scoped(tables.calls, tables.inputs.len(), term, stack) {
         return Err(Refusal::Scope);
     }
-    infer(types, calls, inputs, stack, nodes, term).ok_or(Refusal::Type)
+    infer(tables, stack, nodes, term).ok_or(Refusal::Type)
 }
 
 // the same in buffers of its own, of so many words
-fn typed_with<const N: usize>(
-    types: &[u64],
-    calls: &[u64],
-    inputs: &[u64],
-    term: &[u64],
-) -> Result<u64, Refusal>
-    requires starts { Starts calls.now term.now }
-    requires lengths { (length inputs.now ≤ 256) × (length term.now ≤ other_limit) }
+fn typed_with<const N: usize>(tables: &Tables, term: &[u64]) -> Result<u64, Refusal>
+    requires starts { Starts tables.now.calls term.now }
+    requires lengths { (length tables.now.inputs ≤ 256) × (length term.now ≤ other_limit) }
     requires room { (length term.now + 2 ≤ N) × (N ≤ 65536) }
-    ensures { Types (over types.now calls.now inputs.now) term.now (check_answer result) }
+    ensures { Types tables.now term.now (check_answer result) }
 {
     let mut stack = [0; N];
     let mut nodes = [0; N];
-    typed_in(types, calls, inputs, term, &mut stack, &mut nodes)
+    typed_in(tables, term, &mut stack, &mut nodes)
 }
 
 // A short term has short buffers: to clear those of the longest term takes longer than to check it.
-fn typed(types: &[u64], calls: &[u64], inputs: &[u64], term: &[u64]) -> Result<u64, Refusal>
-    requires starts { Starts calls.now term.now }
-    requires lengths { (length inputs.now ≤ 256) × (length term.now ≤ other_limit) }
-    ensures { Types (over types.now calls.now inputs.now) term.now (check_answer result) }
+fn typed(tables: &Tables, term: &[u64]) -> Result<u64, Refusal>
+    requires starts { Starts tables.now.calls term.now }
+    requires lengths { (length tables.now.inputs ≤ 256) × (length term.now ≤ other_limit) }
+    ensures { Types tables.now term.now (check_answer result) }
 {
     if term.len() + 2 <= SHORT {
-        typed_with::<SHORT>(types, calls, inputs, term)
+        typed_with::<SHORT>(tables, term)
     } else {
-        typed_with::<PENDING>(types, calls, inputs, term)
+        typed_with::<PENDING>(tables, term)
     }
 }
 
 // the type check of a term of up to so many words: place by place
 #[tactic(auto, unfolding(typing::specs::Refusals::elaborate, typing::specs::TermChecks::well_formed_words))]
-pub fn check_within(
-    limit: usize,
-    types: &[u64],
-    calls: &[u64],
-    inputs: &[u64],
-    term: &[u64],
-) -> Result<u64, Refusal>
+pub fn check_within(limit: usize, tables: &Tables, term: &[u64]) -> Result<u64, Refusal>
     requires { limit ≤ other_limit }
-    ensures { check_answer result ≡ checked_of (elaborate limit (over types.now calls.now inputs.now) term.now) }
+    ensures { check_answer result ≡ checked_of (elaborate limit tables.now term.now) }
 {
-    if !lengths_fit(limit, types, calls, inputs, term) {
+    if !lengths_fit(limit, tables, term) {
         return Err(Refusal::Lengths);
     }
-    check_tables(types, calls, inputs)?;
-    if !words_fit(types, calls, term) {
+    check_tables(tables)?;
+    if !words_fit(tables, term) {
         return Err(Refusal::TermWord);
     }
-    if !is_whole(calls, term) {
+    if !is_whole(tables.calls, term) {
         return Err(Refusal::Parts);
     }
-    typed(types, calls, inputs, term)
+    typed(tables, term)
 }
 
 // the type check
@@ -103,5 +91,10 @@ pub fn check_within(
 pub fn check(types: &[u64], calls: &[u64], inputs: &[u64], term: &[u64]) -> Result<u64, Refusal>
     ensures { check_answer result ≡ check_outcome (over types.now calls.now inputs.now) term.now }
 {
-    check_within(OTHER_LIMIT, types, calls, inputs, term)
+    let tables = Tables {
+        types,
+        calls,
+        inputs,
+    };
+    check_within(OTHER_LIMIT, &tables, term)
 }

@@ -1,7 +1,6 @@
 // Types of terms: refusal 9.
-ghost use Rattle.std.specs.Prelude.{◌≡◌, [], ◌+◌, ◌≤◌, ◌<◌, length, get_or};
+ghost use Rattle.std.specs.Prelude.{◌≡◌, ◌+◌, ◌≤◌, ◌<◌, length, get_or};
 ghost use Rattle.std.proofs.Math.ListN.{get_elem?};
-ghost use Rattle.syntax.specs.Tables.{over};
 ghost use Rattle.syntax.specs.Parts.{part_count};
 ghost use Rattle.words.specs.Fronts.{Starts};
 ghost use Rattle.syntax.specs.Maybe.{option_of};
@@ -11,6 +10,7 @@ ghost use Rattle.checker.specs.Nodes.{leaf_type, Enters};
 use crate::node_type::{binder, node_type, type_from};
 use words::fields::{kind, number};
 use words::shape::{binders, part_count};
+use words::tables::Tables;
 
 // a variable's type: binders stand on the stack, the innermost on top, and the inputs come past them
 #[tactic(auto, using(crate::proofs::Lookups::in_a_scope))]
@@ -38,22 +38,14 @@ fn enter(types: &[u64], w: u64, j: usize, first: u64, stack: &mut [u64], depth: 
 // the type of a node that has no parts: a variable has it from the scope; a call with no arguments and a unit have it as any other node
 // has, with no types of parts to ask for
 #[tactic(auto, unfolding(crate::specs::Nodes::leaf_type))]
-fn leaf(
-    types: &[u64],
-    calls: &[u64],
-    inputs: &[u64],
-    stack: &[u64],
-    depth: usize,
-    w: u64,
-) -> Option<u64>
+fn leaf(tables: &Tables, stack: &[u64], depth: usize, w: u64) -> Option<u64>
     requires { depth ≤ length stack.now }
-    ensures { result ≡ option_of
-        (leaf_type (over types.now calls.now []) (scope inputs.now stack.now depth) w) }
+    ensures { result ≡ option_of (leaf_type tables.now (scope tables.now.inputs stack.now depth) w) }
 {
     if kind(w) == 0 {
-        return variable(inputs, stack, depth, number(w));
+        return variable(tables.inputs, stack, depth, number(w));
     }
-    node_type(types, calls, w, 0, 0, 0)
+    node_type(tables, w, 0, 0, 0)
 }
 
 // how a part starts: with its type if it has no parts itself, or else as a node to be opened
@@ -65,22 +57,14 @@ enum Start {
 
 // begins to type a part, which is a slice that starts in the middle of the term's words
 #[tactic(auto, unfolding(crate::specs::Answers::start_of))]
-fn begin(
-    types: &[u64],
-    calls: &[u64],
-    inputs: &[u64],
-    stack: &[u64],
-    depth: usize,
-    part: &[u64],
-) -> Option<Start>
+fn begin(tables: &Tables, stack: &[u64], depth: usize, part: &[u64]) -> Option<Start>
     requires { (depth ≤ length stack.now) × (1 ≤ length part.now) }
-    ensures { result ≡ start_of (part_count calls.now (get_or part.now 0 0))
-        (leaf_type (over types.now calls.now []) (scope inputs.now stack.now depth)
-        (get_or part.now 0 0)) }
+    ensures { result ≡ start_of (part_count tables.now.calls (get_or part.now 0 0))
+        (leaf_type tables.now (scope tables.now.inputs stack.now depth) (get_or part.now 0 0)) }
 {
     let w = part[0];
-    match part_count(calls, w) {
-        0 => Some(Start::Typed(leaf(types, calls, inputs, stack, depth, w)?)),
+    match part_count(tables.calls, w) {
+        0 => Some(Start::Typed(leaf(tables, stack, depth, w)?)),
         1..=3 => Some(Start::Node),
         _ => None,
     }
@@ -90,18 +74,11 @@ fn begin(
 // `nodes` has for each open node the types of its parts so far and then its head: four times its place in the words, and the number of the
 // part that is being typed. `stack` has the types of the binders in scope. Of `top` and `depth` words each is in use. Each way to the next
 // turn goes there by itself: where they met at the end of the loop, deep terms took a tenth longer.
-pub fn infer(
-    types: &[u64],
-    calls: &[u64],
-    inputs: &[u64],
-    stack: &mut [u64],
-    nodes: &mut [u64],
-    term: &[u64],
-) -> Option<u64>
+pub fn infer(tables: &Tables, stack: &mut [u64], nodes: &mut [u64], term: &[u64]) -> Option<u64>
     requires small { length term.now ≤ 65536 }
     requires room { (length term.now + 2 ≤ length stack.old) × (length term.now + 2 ≤ length nodes.old) }
-    requires starts { Starts calls.now term.now }
-    ensures { Infers (over types.now calls.now inputs.now) inputs.now term.now result }
+    requires starts { Starts tables.now.calls term.now }
+    ensures { Infers tables.now tables.now.inputs term.now result }
 {
     let mut at = 0;
     let mut top = 0;
@@ -109,7 +86,7 @@ pub fn infer(
     let mut typed = None;
     loop {
         let Some(a) = typed else {
-            match begin(types, calls, inputs, stack, depth, &term[at..])? {
+            match begin(tables, stack, depth, &term[at..])? {
                 Start::Typed(a) => {
                     typed = Some(a);
                     at += 1;
@@ -118,7 +95,7 @@ pub fn infer(
                 Start::Node => {
                     nodes[top] = at as u64 * 4;
                     top += 1;
-                    depth = enter(types, term[at], 0, 0, stack, depth);
+                    depth = enter(tables.types, term[at], 0, 0, stack, depth);
                     at += 1;
                     continue;
                 }
@@ -135,15 +112,15 @@ pub fn infer(
         let base = last - j;
         let outside = depth - binders(kind(w), j);
         nodes[last] = a;
-        if j + 1 < part_count(calls, w) {
+        if j + 1 < part_count(tables.calls, w) {
             let first = nodes[base];
             nodes[top] = head + 1;
             top += 1;
-            depth = enter(types, w, j + 1, first, stack, outside);
+            depth = enter(tables.types, w, j + 1, first, stack, outside);
             typed = None;
             continue;
         }
-        typed = Some(type_from(types, calls, w, nodes, base, j)?);
+        typed = Some(type_from(tables, w, nodes, base, j)?);
         top = base;
         depth = outside;
     }

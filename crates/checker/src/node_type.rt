@@ -8,6 +8,7 @@ ghost use Rattle.checker.specs.Nodes.{binder_type, form_of, judge as judge_of, c
 
 use words::fields::{argument, arguments, kind, number, result, ty};
 use words::shape::shape_of;
+use words::tables::Tables;
 
 // the two fields of type number a, if it is of the kind that is asked for
 #[tactic(auto, using(crate::proofs::Lookups::at_index))]
@@ -92,38 +93,30 @@ fn judge(k: u64, own: u64, a: u64, b: u64, c: u64, x: u64, y: u64) -> Option<u64
 
 // a node's type from its parts' types, variables apart
 #[tactic(auto, unfolding(crate::specs::Nodes::node_type, crate::specs::Nodes::call_type))]
-pub fn node_type(types: &[u64], calls: &[u64], w: u64, a: u64, b: u64, c: u64) -> Option<u64>
+pub fn node_type(tables: &Tables, w: u64, a: u64, b: u64, c: u64) -> Option<u64>
     ensures { result ≡ option_of
-        (node_type (over types.now calls.now []) (kind_of w) (number_of w) (type_of w) (a ∷ b ∷ c ∷ [])) }
+        (node_type tables.now (kind_of w) (number_of w) (type_of w) (a ∷ b ∷ c ∷ [])) }
 {
     let k = kind(w);
     if k == 1 {
-        return call_type(calls, number(w), a, b, c);
+        return call_type(tables.calls, number(w), a, b, c);
     }
     if k == 4 {
         return Some(b);
     }
     let own = ty(w);
     let subject = if shape_of(k).ty { own } else { a };
-    let (x, y) = parts_of_type(types, form(k), subject)?;
+    let (x, y) = parts_of_type(tables.types, form(k), subject)?;
     judge(k, own, a, b, c, x, y)
 }
 
 // a node's type from its parts' types, which stand from an index on, that of part j last
-pub fn type_from(
-    types: &[u64],
-    calls: &[u64],
-    w: u64,
-    nodes: &[u64],
-    base: usize,
-    j: usize,
-) -> Option<u64>
+pub fn type_from(tables: &Tables, w: u64, nodes: &[u64], base: usize, j: usize) -> Option<u64>
     requires { base + 2 < length nodes.now }
     ensures { result ≡ option_of
-        (node_type (over types.now calls.now []) (kind_of w) (number_of w) (type_of w)
-        (types_to nodes.now base j)) }
+        (node_type tables.now (kind_of w) (number_of w) (type_of w) (types_to nodes.now base j)) }
 {
     let second = if 1 <= j { nodes[base + 1] } else { 0 };
     let third = if 2 <= j { nodes[base + 2] } else { 0 };
-    node_type(types, calls, w, nodes[base], second, third)
+    node_type(tables, w, nodes[base], second, third)
 }

@@ -1,6 +1,5 @@
 // The tests on the tables: refusals 1 to 5.
-ghost use Rattle.std.specs.Prelude.{◌≡◌, not, [], eqb};
-ghost use Rattle.syntax.specs.Tables.{over};
+ghost use Rattle.std.specs.Prelude.{◌≡◌, not, eqb};
 ghost use Rattle.typing.specs.TableChecks.{every, lengths_fit, well_formed_type, well_formed_types, distinct as distinct_of, well_formed_call};
 ghost use Rattle.typing.specs.TableChecks.{well_formed_calls, well_formed_inputs};
 ghost use Rattle.typing.specs.TermChecks.{field_fits};
@@ -10,15 +9,16 @@ ghost use Rattle.checker.specs.Residues.{residue_of, Noted};
 
 use outcomes::Refusal;
 use words::fields::{argument, arguments, kind, number, result, ty};
+use words::tables::Tables;
 
 // 1: the lengths of the tables and of the term
 #[tactic(auto, unfolding(typing::specs::TableChecks::lengths_fit))]
-pub fn lengths_fit(limit: usize, types: &[u64], calls: &[u64], inputs: &[u64], term: &[u64]) -> bool
-    ensures { result ≡ lengths_fit limit (over types.now calls.now inputs.now) term.now }
+pub fn lengths_fit(limit: usize, tables: &Tables, term: &[u64]) -> bool
+    ensures { result ≡ lengths_fit limit tables.now term.now }
 {
-    types.len() <= 1024
-        && calls.len() <= 1024
-        && inputs.len() <= 256
+    tables.types.len() <= 1024
+        && tables.calls.len() <= 1024
+        && tables.inputs.len() <= 256
         && term.len() <= limit
         && 1 <= term.len()
 }
@@ -96,34 +96,40 @@ fn call_fits(types: usize, w: u64) -> bool
         && field_fits(2 < n, types, argument(w, 2))
 }
 
-fn calls_fit(types: &[u64], calls: &[u64]) -> bool
-    ensures { result ≡ well_formed_calls (over types.now calls.now []) }
+fn calls_fit(tables: &Tables) -> bool
+    ensures { result ≡ well_formed_calls tables.now }
 {
-    calls.iter().all(|w| call_fits(types.len(), *w))
+    tables
+        .calls
+        .iter()
+        .all(|w| call_fits(tables.types.len(), *w))
 }
 
 // 5: each input is a known type
-fn inputs_fit(types: &[u64], inputs: &[u64]) -> bool
-    ensures { result ≡ well_formed_inputs (over types.now [] inputs.now) }
+fn inputs_fit(tables: &Tables) -> bool
+    ensures { result ≡ well_formed_inputs tables.now }
 {
-    inputs.iter().all(|a| (*a as usize) < types.len())
+    tables
+        .inputs
+        .iter()
+        .all(|a| (*a as usize) < tables.types.len())
 }
 
 // 2 to 5: the first test that fails decides
 #[tactic(auto, unfolding(typing::specs::TableChecks::well_formed_calls, typing::specs::TableChecks::well_formed_inputs))]
-pub fn check_tables(types: &[u64], calls: &[u64], inputs: &[u64]) -> Result<(), Refusal>
-    ensures { refusal_in result ≡ refusal_number (tables_place (over types.now calls.now inputs.now)) }
+pub fn check_tables(tables: &Tables) -> Result<(), Refusal>
+    ensures { refusal_in result ≡ refusal_number (tables_place tables.now) }
 {
-    if !types_fit(types) {
+    if !types_fit(tables.types) {
         return Err(Refusal::TypeWord);
     }
-    if !distinct(types) {
+    if !distinct(tables.types) {
         return Err(Refusal::RepeatedType);
     }
-    if !calls_fit(types, calls) {
+    if !calls_fit(tables) {
         return Err(Refusal::CallWord);
     }
-    if !inputs_fit(types, inputs) {
+    if !inputs_fit(tables) {
         return Err(Refusal::InputType);
     }
     Ok(())

@@ -6,7 +6,7 @@ use Rattle.checker.proofs.InferTurns.{Turn}
 use Rattle.checker.proofs.infer.infer.Given as goal
 
 abbrev pub invariant-loop-typed : goal.invariant-loop-typed
-invariant-loop-typed l = Turn l.types l.calls l.inputs l.term l.stack l.nodes l.at l.top l.depth l.typed
+invariant-loop-typed l = Turn l.tables.types l.tables.calls l.tables.inputs l.term l.stack l.nodes l.at l.top l.depth l.typed
 
 abbrev weight : code.Option ℕ → ℕ
 weight None = 0

@@ -7,5 +7,5 @@ use Rattle.checker.proofs.tables.calls_fit.Goals as goal
 
 pub returns : goal.returns
 unfolding well_formed_calls
-returns c = all_from_yields_List _ _ _ _ c.all.ensures.ran (YieldsList-from_slice c.args.calls.now cc) (λ x b q k. search (rules, tests))
-    ∙ sym (every_by_list _ c.args.calls.now)
+returns c = all_from_yields_List _ _ _ _ c.all.ensures.ran (YieldsList-from_slice c.args.tables.now.calls cc) (λ x b q k. search (rules, tests))
+    ∙ sym (every_by_list _ c.args.tables.now.calls)

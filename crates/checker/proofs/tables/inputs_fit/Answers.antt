@@ -7,5 +7,5 @@ use Rattle.checker.proofs.tables.inputs_fit.Goals as goal
 
 pub returns : goal.returns
 unfolding well_formed_inputs
-returns c = all_from_yields_List _ _ _ _ c.all.ensures.ran (YieldsList-from_slice c.args.inputs.now cc) (λ x b q k. search (rules, tests))
-    ∙ sym (every_by_list _ c.args.inputs.now)
+returns c = all_from_yields_List _ _ _ _ c.all.ensures.ran (YieldsList-from_slice c.args.tables.now.inputs cc) (λ x b q k. search (rules, tests))
+    ∙ sym (every_by_list _ c.args.tables.now.inputs)
