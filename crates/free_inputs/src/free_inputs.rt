@@ -6,12 +6,18 @@ ghost use Rattle.outcomes.specs.FreeInputs.{free_inputs_outcome};
 use crate::marks::input_marks;
 use checker::check::{OTHER_LIMIT, check_within};
 use outcomes::FreeInputs;
+use words::tables::Tables;
 
 // refusals 1 to 9, or a mark for each input that some variable names, and how many are marked
 pub fn free_inputs(types: &[u64], calls: &[u64], inputs: &[u64], term: &[u64]) -> FreeInputs
     ensures { result ≡ free_inputs_outcome (over types.now calls.now inputs.now) term.now }
 {
-    match check_within(OTHER_LIMIT, types, calls, inputs, term) {
+    let tables = Tables {
+        types,
+        calls,
+        inputs,
+    };
+    match check_within(OTHER_LIMIT, &tables, term) {
         Err(refusal) => FreeInputs {
             refusal: u32::from(refusal),
             marks: [0; 4],

@@ -1,6 +1,6 @@
 -- To the roles the kinds past the last are all one: what they say of the least of a kind and 12 they say of the kind.
 use Rattle.std.specs.Prelude.{ℕ, Bool, ◌≡◌, min}
-use Rattle.std.proofs.Common.{rules, arith, refl, sym, ◌∙◌, ap}
+use Rattle.std.proofs.Common.{rules, refl, sym, ◌∙◌, ap}
 use Rattle.reduction.specs.FitByKinds.{value_kind}
 use Rattle.words.proofs.KindTests.{eqb-min}
 use Rattle.normal_form.specs.declared.normal.Role.{Role}

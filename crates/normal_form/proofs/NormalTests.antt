@@ -33,6 +33,10 @@ use Rattle.normal_form.proofs.GrammarByParts.{all_pass, first_may_drop, part_pas
 use Rattle.normal_form.proofs.GrammarByParts.{function_parts}
 use Rattle.normal_form.proofs.TestedParts.{Testing, test_enter, test_fails, test_next}
 
+-- the kind of the node at the front
+abbrev pub first_kind : List ℕ → ℕ
+first_kind words = kind_of (get_or words 0 0)
+
 -- whether a node's first part may be dropped, by the word behind the node's
 abbrev pub first_droppable : List ℕ → List ℕ → Bool
 first_droppable calls words = node_may_drop calls (kind_of (get_or words 1 0)) (number_of (get_or words 1 0))
@@ -45,9 +49,8 @@ first_shows {calls} {words} k (arg e ts) p = ap (λ (d : Bool). all_pass (part_p
     (sym (ap (λ (w : ℕ). node_may_drop calls (kind_of w) (number_of w)) (sym (first_from words 1))
     ∙ by_word calls (from words 1) e _ (part_here calls words p)))
 
-kind_is : {calls words : List ℕ} {k : ℕ} → k ≡ kind_of (get_or words 0 0) → {t : Term} {rest : List ℕ} → Holds calls words t rest
-    → (node t).kind ≡ k
-kind_is ke h = sym (front_of h).kind ∙ sym ke
+kind_is : {calls words : List ℕ} {t : Term} {rest : List ℕ} → Holds calls words t rest → (node t).kind ≡ first_kind words
+kind_is h = sym (front_of h).kind
 
 -- one test answers as another does
 as_other : (test other : Term → Bool) (t : Term) (depth : ℕ) (old new : List ℕ) (r : Option ℕ) → other t ≡ test t
@@ -55,14 +58,15 @@ as_other : (test other : Term → Bool) (t : Term) (depth : ℕ) (old new : List
 as_other test other t depth old new None e a = e ∙ a
 as_other test other t depth old new (Some end) e a = record { passes = e ∙ a.passes; end_is = a.end_is; marked = a.marked }
 
-module _ {calls words old : List ℕ} {depth k : ℕ} (s : Starts calls words) (ke : k ≡ kind_of (get_or words 0 0)) where
+module _ {calls words old : List ℕ} {depth : ℕ} (s : Starts calls words) where
   -- a variable
-  pub value_variable : {new : List ℕ} {number : ℕ} → k ≡ 0 → number ≡ number_of (get_or words 0 0) → Marked 1 (var number) depth old new
+  pub value_variable : {new : List ℕ} {number : ℕ} → first_kind words ≡ 0 → number ≡ number_of (get_or words 0 0)
+      → Marked 1 (var number) depth old new
       → TestsNormal is_normal_value calls words depth old new (Some 1)
   unfolding is_normal_value class
   value_variable {new} {number} z ne m = record {
     told = λ t rest h.
-        variable_at h (sym ke ∙ z) (λ x. NormalAnswer (is_normal_value calls) x depth old new (Some 1)) λ v e.
+        variable_at h z (λ x. NormalAnswer (is_normal_value calls) x depth old new (Some 1)) λ v e.
         record {
           passes = refl;
           end_is = sym (size_var v);
@@ -71,41 +75,49 @@ module _ {calls words old : List ℕ} {depth k : ℕ} (s : Starts calls words) (
   }
 
   -- a node that is not of the kind of a value
-  pub value_none : {new : List ℕ} → value_kind k ≡ false → TestsNormal is_normal_value calls words depth old new None
+  pub value_none : {new : List ℕ} → value_kind (first_kind words) ≡ false → TestsNormal is_normal_value calls words depth old new None
   value_none e = record {
-    told = λ t rest h. value_kind_lem calls t ∙ ap (λ (i : ℕ). value_kind i && is_normal_form calls t) (kind_is ke h)
+    told = λ t rest h. value_kind_lem calls t ∙ ap (λ (i : ℕ). value_kind i && is_normal_form calls t) (kind_is h)
         ∙ ap (λ (x : Bool). x && is_normal_form calls t) e;
   }
 
   -- a node of the kind of a value is in normal form exactly if it is a normal value
-  pub value_normal : {new : List ℕ} {r : Option ℕ} → value_kind k ≡ true → TestsNormal is_normal_value calls words depth old new r
+  pub value_normal : {new : List ℕ} {r : Option ℕ} → value_kind (first_kind words) ≡ true
+      → TestsNormal is_normal_value calls words depth old new r
       → TestsNormal is_normal_form calls words depth old new r
   value_normal {new} {r} e a = record {
     told = λ t rest h.
-        as_other (is_normal_value calls) (is_normal_form calls) t depth old new r (sym (value_kind_lem calls t ∙ ap (λ (i : ℕ). value_kind i && is_normal_form calls t) (kind_is ke h)
+        as_other (is_normal_value calls) (is_normal_form calls) t depth old new r
+        (sym (value_kind_lem calls t ∙ ap (λ (i : ℕ). value_kind i && is_normal_form calls t) (kind_is h)
         ∙ ap (λ (x : Bool). x && is_normal_form calls t) e)) (a.told t rest h);
   }
 
   -- before the parts of a function, of another value (a pair, an injection, a unit), of any other node
-  pub function_enter : k ≡ 2 → Testing is_normal_value (λ j. is_normal_form calls) calls words old depth k old 1 1 0
+  pub function_enter : first_kind words ≡ 2
+      → Testing is_normal_value (λ j. is_normal_form calls) calls words old depth (first_kind words) old 1 1 0
   unfolding part_count
-  function_enter e = test_enter is_normal_value (λ j. is_normal_form calls) calls words old depth k 1 s ke (λ z. omega arith)
-      (ap (parts_of_kind (arity calls (number_of (get_or words 0 0)))) (sym e ∙ ke)) λ t rest h f. function_parts calls t (f ∙ e)
+  function_enter e =
+      test_enter is_normal_value (λ j. is_normal_form calls) calls words old depth (first_kind words) 1 s refl (λ z. omega arith)
+      (ap (parts_of_kind (arity calls (number_of (get_or words 0 0)))) (sym e)) λ t rest h f. function_parts calls t (f ∙ e)
 
-  pub values_enter : {n : ℕ} → (k ≡ 0 → ⊥) → (k ≡ 2 → ⊥) → value_kind k ≡ true → n ≡ part_count calls (get_or words 0 0)
-      → Testing is_normal_value (λ j. is_normal_value calls) calls words old depth k old n 1 0
-  values_enter {n} z l e ne = test_enter is_normal_value (λ j. is_normal_value calls) calls words old depth k n s ke z ne λ t rest h f.
+  pub values_enter : {n : ℕ} → (first_kind words ≡ 0 → ⊥) → (first_kind words ≡ 2 → ⊥) → value_kind (first_kind words) ≡ true
+      → n ≡ part_count calls (get_or words 0 0)
+      → Testing is_normal_value (λ j. is_normal_value calls) calls words old depth (first_kind words) old n 1 0
+  values_enter {n} z l e ne =
+      test_enter is_normal_value (λ j. is_normal_value calls) calls words old depth (first_kind words) n s refl z ne λ t rest h f.
       value_parts_lem calls t (ap value_kind f ∙ e) (λ y. z (sym f ∙ y)) (λ y. l (sym f ∙ y))
 
-  pub normal_enter : {n : ℕ} → value_kind k ≡ false → n ≡ part_count calls (get_or words 0 0)
-      → Testing is_normal_form (part_passes calls k (first_droppable calls words)) calls words old depth k old n 1 0
+  pub normal_enter : {n : ℕ} → value_kind (first_kind words) ≡ false → n ≡ part_count calls (get_or words 0 0)
+      → Testing is_normal_form (part_passes calls (first_kind words) (first_droppable calls words)) calls words old depth
+      (first_kind words) old n 1 0
   unfolding value_kind
   normal_enter {n} e ne =
-      test_enter is_normal_form (part_passes calls k (first_droppable calls words)) calls words old depth k n s ke
+      test_enter is_normal_form (part_passes calls (first_kind words) (first_droppable calls words)) calls words old depth
+      (first_kind words) n s refl
       (λ z. true≢false (ap value_kind (sym z) ∙ e)) ne λ t rest h f.
       grammar_parts calls t (ap value_kind f ∙ e)
       ∙ ap (λ (i : ℕ). all_pass (part_passes calls i (first_may_drop calls (node t).parts)) 0 (node t).parts) f
-      ∙ first_shows k (node t).parts (parts_of_lem calls words h)
+      ∙ first_shows (first_kind words) (node t).parts (parts_of_lem calls words h)
 
 -- the variable's mark counts only where the part binds it
 keeps_mark : (k j : ℕ) (d : Bool) (m u : ℕ) → (binders_at k j ≡ 1 → m ≡ u) → keeps_variable k j d m ≡ keeps_variable k j d u
@@ -125,7 +137,8 @@ module _ {calls words old : List ℕ} {depth k : ℕ} {mid : List ℕ} {n at j :
   role_test : {part : Term} {rest : List ℕ} → Holds calls (from words at) part rest
       → suits (role_of k j) (node part).kind ≡ suits (role_of k j) (kind_of (get_or words at 0))
   role_test holds =
-      let w : get_or (from words at) 0 0 ≡ get_or words at 0 = ap (λ (l : List ℕ). get_or l 0 0) (tail_part words at) ∙ get_or-drop at words 0 0
+      let w : get_or (from words at) 0 0 ≡ get_or words at 0 =
+      ap (λ (l : List ℕ). get_or l 0 0) (tail_part words at) ∙ get_or-drop at words 0 0
       ∙ ap (λ (i : ℕ). get_or words i 0) (omega arith) in
       ap (suits (role_of k j)) (sym (front_of holds).kind ∙ ap kind_of w)
 

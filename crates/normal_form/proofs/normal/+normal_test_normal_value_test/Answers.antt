@@ -15,17 +15,18 @@ pub normal_test-bounds-t-0 : goal.normal_test-bounds-t-0
 normal_test-bounds-t-0 t c = not_empty c.requires.0
 
 pub normal_test-returns-then-is_value_kind : goal.normal_test-returns-then-is_value_kind
-normal_test-returns-then-is_value_kind t c = value_normal c.requires.0 refl (value_least _ c.of-k.ensures cc) c.normal_value_test.ensures
+normal_test-returns-then-is_value_kind t c = value_normal c.requires.0 (value_least _ c.of-k.ensures cc) c.normal_value_test.ensures
 
 -- an operation, a let or a case: part by part
 pub normal_test-loop-j-init : goal.normal_test-loop-j-init
-normal_test-loop-j-init t c = normal_enter c.requires.0 refl (value_least _ c.of-k.ensures cc) cc
+normal_test-loop-j-init t c = normal_enter c.requires.0 (value_least _ c.of-k.ensures cc) cc
 
 pub normal_test-bounds-t-at : goal.normal_test-bounds-t-at
 normal_test-bounds-t-at t c = part_inside c.loop-j.invariant c.loop-j-test.true
 
 pub normal_test-returns-then-not-admits : goal.normal_test-returns-then-not-admits
-normal_test-returns-then-not-admits t c = role_fails c.loop-j.invariant c.loop-j-test.true (suits_least _ c.of-k.ensures _ _ c.of.ensures cc)
+normal_test-returns-then-not-admits t c =
+    role_fails c.loop-j.invariant c.loop-j-test.true (suits_least _ c.of-k.ensures _ _ c.of.ensures cc)
 
 pub normal_test-normal_test-requires : goal.normal_test-normal_test-requires
 normal_test-normal_test-requires t c = (
@@ -44,15 +45,17 @@ normal_test-bounds-t-1 t c = omega (arith, part_inside c.loop-j.invariant c.loop
 
 pub normal_test-returns-then-not-keeps : goal.normal_test-returns-then-not-keeps
 normal_test-returns-then-not-keeps t c =
-    use_fails c.loop-j.invariant c.loop-j-test.true (open_set _ _ _ (omega arith)) (rw (← c.kind.ensures) c.binders.ensures.0) c.in_ok-part.ensures (keeps_least _ c.of-k.ensures _ _ _ cc)
+    use_fails c.loop-j.invariant c.loop-j-test.true (open_set _ _ _ (omega arith)) (rw (← c.kind.ensures) c.binders.ensures.0)
+    c.in_ok-part.ensures (keeps_least _ c.of-k.ensures _ _ _ cc)
 
 pub normal_test-overflow_add-at : goal.normal_test-overflow_add-at
 normal_test-overflow_add-at t c = omega (arith, part_reached c.loop-j.invariant c.loop-j-test.true c.in_ok-part.ensures)
 
 pub normal_test-loop-j-preserved : goal.normal_test-loop-j-preserved
 normal_test-loop-j-preserved t c =
-    parts_next c.loop-j.invariant c.loop-j-test.true (open_set _ _ _ (omega arith)) (rw (← c.kind.ensures) c.binders.ensures.0) c.in_ok-part.ensures
-    (suits_least _ c.of-k.ensures _ _ c.of.ensures cc) (keeps_least _ c.of-k.ensures _ _ _ cc) c.binders.ensures.1 c.normal_test.auto.used
+    parts_next c.loop-j.invariant c.loop-j-test.true (open_set _ _ _ (omega arith)) (rw (← c.kind.ensures) c.binders.ensures.0)
+    c.in_ok-part.ensures (suits_least _ c.of-k.ensures _ _ c.of.ensures cc) (keeps_least _ c.of-k.ensures _ _ _ cc)
+    c.binders.ensures.1 c.normal_test.auto.used
 
 pub normal_test-returns : goal.normal_test-returns
 normal_test-returns t c = test_leave c.loop-j.invariant c.loop-j-test.false
@@ -65,12 +68,12 @@ normal_value_test-mark-requires t c = space_raisable c.requires.1 (not_empty c.r
 
 -- a variable
 pub normal_value_test-returns-then-eq : goal.normal_value_test-returns-then-eq
-normal_value_test-returns-then-eq t c = value_variable c.requires.0 refl (search (rules, tests)) c.number.ensures c.mark.ensures
+normal_value_test-returns-then-eq t c = value_variable c.requires.0 (search (rules, tests)) c.number.ensures c.mark.ensures
 
 -- a function: its body
 pub normal_value_test-normal_test-requires : goal.normal_value_test-normal_test-requires
 normal_value_test-normal_test-requires t c =
-    let body = function_enter {old = c.args.used.now} {depth = c.args.depth} c.requires.0 refl (search (rules, tests)) in (
+    let body = function_enter {old = c.args.used.now} {depth = c.args.depth} c.requires.0 (search (rules, tests)) in (
       omega (arith, from_length c.args.t.now 1, not_empty c.requires.0),
       (
         part_starts _ _ body.going (omega arith),
@@ -81,27 +84,27 @@ normal_value_test-normal_test-requires t c =
 pub normal_value_test-returns-in_err-body : goal.normal_value_test-returns-in_err-body
 normal_value_test-returns-in_err-body t c =
     rw c.from_residual.ensures
-    (test_fails (function_enter c.requires.0 refl (search (rules, tests))) (omega arith) c.in_err-body.ensures.told)
+    (test_fails (function_enter c.requires.0 (search (rules, tests))) (omega arith) c.in_err-body.ensures.told)
 
 pub normal_value_test-overflow_add-result : goal.normal_value_test-overflow_add-result
 normal_value_test-overflow_add-result t c =
-    let body = function_enter {old = c.args.used.now} {depth = c.args.depth} c.requires.0 refl (search (rules, tests)) in
+    let body = function_enter {old = c.args.used.now} {depth = c.args.depth} c.requires.0 (search (rules, tests)) in
     omega (arith, part_reached body (omega arith) c.in_ok-body.ensures)
 
 pub normal_value_test-returns-then-eq-2 : goal.normal_value_test-returns-then-eq-2
 normal_value_test-returns-then-eq-2 t c =
     test_leave
-    (test_next (function_enter c.requires.0 refl (search (rules, tests))) (omega arith) (open_set _ _ _ (omega (arith, not_empty c.requires.0)))
-    (omega arith) refl (function_binds _ (search (rules, tests))) c.in_ok-body.ensures (λ part rest h. (c.in_ok-body.ensures.told part rest h).passes)
-    c.normal_test.auto.used) (omega arith)
+    (test_next (function_enter c.requires.0 (search (rules, tests))) (omega arith)
+    (open_set _ _ _ (omega (arith, not_empty c.requires.0))) (omega arith) refl (function_binds _ (search (rules, tests)))
+    c.in_ok-body.ensures (λ part rest h. (c.in_ok-body.ensures.told part rest h).passes) c.normal_test.auto.used) (omega arith)
 
 pub normal_value_test-returns-then-not-is_value_kind : goal.normal_value_test-returns-then-not-is_value_kind
-normal_value_test-returns-then-not-is_value_kind t c = value_none c.requires.0 refl (value_least _ c.of-k.ensures cc)
+normal_value_test-returns-then-not-is_value_kind t c = value_none c.requires.0 (value_least _ c.of-k.ensures cc)
 
 -- a pair, an injection or a unit: part by part
 pub normal_value_test-loop-init : goal.normal_value_test-loop-init
 normal_value_test-loop-init t c =
-    values_enter c.requires.0 refl (λ z. search (rules, tests)) (λ z. search (rules, tests)) (value_least _ c.of-k.ensures cc) cc
+    values_enter c.requires.0 (λ z. search (rules, tests)) (λ z. search (rules, tests)) (value_least _ c.of-k.ensures cc) cc
 
 pub normal_value_test-normal_value_test-requires : goal.normal_value_test-normal_value_test-requires
 normal_value_test-normal_value_test-requires t c = (
@@ -121,7 +124,8 @@ normal_value_test-overflow_add-at t c = omega (arith, part_reached c.loop.invari
 
 pub normal_value_test-loop-preserved : goal.normal_value_test-loop-preserved
 normal_value_test-loop-preserved t c =
-    test_next c.loop.invariant c.loop-test.true (open_none _ _) (omega arith) (omega arith) (values_bind_none _ _ (value_least _ c.of-k.ensures cc) (λ z. search (rules, tests)))
+    test_next c.loop.invariant c.loop-test.true (open_none _ _) (omega arith) (omega arith)
+    (values_bind_none _ _ (value_least _ c.of-k.ensures cc) (λ z. search (rules, tests)))
     c.in_ok-at.ensures (λ part rest h. (c.in_ok-at.ensures.told part rest h).passes) c.normal_value_test.auto.used
 
 pub normal_value_test-returns : goal.normal_value_test-returns
