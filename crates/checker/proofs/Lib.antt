@@ -10,6 +10,7 @@ pub mod InferNode
 pub mod InferredTypes
 pub mod OpenNodes
 pub mod KeptNodes
+pub mod LeastKinds
 pub mod TypeSoFar
 pub mod PartBegins
 pub mod PartHasType

@@ -9,6 +9,7 @@ ghost use Rattle.checker.specs.Nodes.{leaf_type, Enters};
 
 use crate::node_type::{binder, node_type, type_from};
 use words::fields::{kind, number};
+use words::kinds::Kind;
 use words::shape::{binders, part_count};
 use words::tables::Tables;
 
@@ -42,7 +43,7 @@ fn leaf(tables: &Tables, stack: &[u64], depth: usize, w: u64) -> Option<u64>
     requires { depth ≤ length stack.now }
     ensures { result ≡ option_of (leaf_type tables.now (scope tables.now.inputs stack.now depth) w) }
 {
-    if kind(w) == 0 {
+    if Kind::of(w) == Kind::Variable {
         return variable(tables.inputs, stack, depth, number(w));
     }
     node_type(tables, w, 0, 0, 0)

@@ -3,10 +3,12 @@ ghost use Rattle.std.specs.Prelude.{◌≡◌, [], ◌∷◌, ◌+◌, ◌<◌, 
 ghost use Rattle.syntax.specs.Maybe.{option_of};
 ghost use Rattle.syntax.specs.Words.{arity_of, argument_fields, kind_of, number_of, type_of};
 ghost use Rattle.syntax.specs.Tables.{over, components as components_at};
+ghost use Rattle.words.specs.KindCodes.{code};
 ghost use Rattle.typing.specs.Infer.{equal};
 ghost use Rattle.checker.specs.Nodes.{binder_type, form_of, judge as judge_of, call_type, node_type, types_to};
 
 use words::fields::{argument, arguments, kind, number, result, ty};
+use words::kinds::Kind;
 use words::shape::shape_of;
 use words::tables::Tables;
 
@@ -31,9 +33,9 @@ fn entry(table: &[u64], a: u64) -> u64
 pub fn binder(types: &[u64], w: u64, j: usize, first: u64) -> u64
     ensures { result ≡ binder_type types.now (kind_of w) (type_of w) j first }
 {
-    match kind(w) {
-        2 => number(entry(types, ty(w))),
-        4 => first,
+    match Kind::of(w) {
+        Kind::Function => number(entry(types, ty(w))),
+        Kind::Let => first,
         _ => {
             let e = entry(types, first);
             if j <= 1 { number(e) } else { ty(e) }
@@ -42,14 +44,14 @@ pub fn binder(types: &[u64], w: u64, j: usize, first: u64) -> u64
 }
 
 // the kind of type that a node is about
-fn form(k: u64) -> u64
-    ensures { result ≡ form_of k }
+fn form(k: Kind) -> u64
+    ensures { result ≡ form_of (code k) }
 {
     match k {
-        0..=3 => 1,
-        4..=7 => 2,
-        8..=10 => 3,
-        _ => 4,
+        Kind::Variable | Kind::Call | Kind::Function | Kind::Application => 1,
+        Kind::Let | Kind::Pair | Kind::First | Kind::Second => 2,
+        Kind::Left | Kind::Right | Kind::Case => 3,
+        Kind::Unit | Kind::Unknown => 4,
     }
 }
 
@@ -75,39 +77,38 @@ fn call_type(calls: &[u64], n: u64, a: u64, b: u64, c: u64) -> Option<u64>
 
 // a node's type, from its own type field, its parts' types a, b and c, and the components x and y of the type that it is about
 #[tactic(auto, unfolding(crate::specs::Nodes::judge))]
-fn judge(k: u64, own: u64, a: u64, b: u64, c: u64, x: u64, y: u64) -> Option<u64>
-    ensures { result ≡ option_of (judge_of k own (a ∷ b ∷ c ∷ []) x y) }
+fn judge(k: Kind, own: u64, a: u64, b: u64, c: u64, x: u64, y: u64) -> Option<u64>
+    ensures { result ≡ option_of (judge_of (code k) own (a ∷ b ∷ c ∷ []) x y) }
 {
     match k {
-        2 => (a == y).then_some(own),
-        3 => (b == x).then_some(y),
-        5 => (a == x && b == y).then_some(own),
-        6 => Some(x),
-        7 => Some(y),
-        8 => (a == x).then_some(own),
-        9 => (a == y).then_some(own),
-        11 => Some(own),
+        Kind::Function => (a == y).then_some(own),
+        Kind::Application => (b == x).then_some(y),
+        Kind::Pair => (a == x && b == y).then_some(own),
+        Kind::First => Some(x),
+        Kind::Second => Some(y),
+        Kind::Left => (a == x).then_some(own),
+        Kind::Right => (a == y).then_some(own),
+        Kind::Unit => Some(own),
         _ => (c == b).then_some(b),
     }
 }
 
 // a node's type from its parts' types, variables apart
-#[tactic(auto, unfolding(crate::specs::Nodes::node_type, crate::specs::Nodes::call_type))]
+#[tactic(auto, unfolding(crate::specs::Nodes::node_type, crate::specs::Nodes::call_type), using(crate::proofs::LeastKinds::form_min))]
 pub fn node_type(tables: &Tables, w: u64, a: u64, b: u64, c: u64) -> Option<u64>
     ensures { result ≡ option_of
         (node_type tables.now (kind_of w) (number_of w) (type_of w) (a ∷ b ∷ c ∷ [])) }
 {
-    let k = kind(w);
-    if k == 1 {
-        return call_type(tables.calls, number(w), a, b, c);
+    match Kind::of(w) {
+        Kind::Call => call_type(tables.calls, number(w), a, b, c),
+        Kind::Let => Some(b),
+        k => {
+            let own = ty(w);
+            let subject = if shape_of(kind(w)).ty { own } else { a };
+            let (x, y) = parts_of_type(tables.types, form(k), subject)?;
+            judge(k, own, a, b, c, x, y)
+        }
     }
-    if k == 4 {
-        return Some(b);
-    }
-    let own = ty(w);
-    let subject = if shape_of(k).ty { own } else { a };
-    let (x, y) = parts_of_type(tables.types, form(k), subject)?;
-    judge(k, own, a, b, c, x, y)
 }
 
 // a node's type from its parts' types, which stand from an index on, that of part j last

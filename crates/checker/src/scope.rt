@@ -5,13 +5,14 @@ ghost use Rattle.typing.specs.TermChecks.{below};
 ghost use Rattle.checker.specs.Answers.{variable_of, Scopes};
 
 use words::depths::open_parts;
-use words::fields::{kind, number};
+use words::fields::number;
+use words::kinds::Kind;
 
 // whether a word names one of so many binders and inputs, where it is a variable's
 fn in_scope(w: u64, depth: u64) -> bool
     ensures { result ≡ below depth (variable_of w) }
 {
-    kind(w) != 0 || number(w) < depth
+    Kind::of(w) != Kind::Variable || number(w) < depth
 }
 
 // 8: whether the variables of the first term are in scope; `pending` has the depths of the parts still to come

@@ -7,6 +7,7 @@ ghost use Rattle.checker.specs.Answers.{whole_of};
 use crate::tables::field_fits;
 use words::ends::part_end;
 use words::fields::{kind, number, ty};
+use words::kinds::Kind;
 use words::shape::shape_of;
 use words::tables::Tables;
 
@@ -14,11 +15,11 @@ use words::tables::Tables;
 fn word_fits(tables: &Tables, w: u64) -> bool
     ensures { result ≡ well_formed_word tables.now w }
 {
-    let k = kind(w);
-    let s = shape_of(k);
-    k <= 11
+    let s = shape_of(kind(w));
+    let k = Kind::of(w);
+    k != Kind::Unknown
         && field_fits(s.ty, tables.types.len(), ty(w))
-        && (k == 0 || field_fits(s.number, tables.calls.len(), number(w)))
+        && (k == Kind::Variable || field_fits(s.number, tables.calls.len(), number(w)))
 }
 
 // 6: every term word
