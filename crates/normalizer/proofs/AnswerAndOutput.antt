@@ -5,7 +5,7 @@ use mathlib.Core.Path.{◌≡◌, refl, ◌∙◌, ap}
 use mathlib.Core.List.{List, append-nil}
 use lib.ListN.{length, take, length-take}
 use Rattle.std.specs.Prelude.{Err}
-use Rattle.syntax.specs.Tables.{Tables, over}
+use Rattle.syntax.specs.Tables.{Tables}
 use Rattle.syntax.specs.Encoding.{encode, size}
 use Rattle.typing.specs.Refusals.{elaborate, normalize_limit}
 use Rattle.reduction.specs.MayDrop.{may_drop}
@@ -29,7 +29,7 @@ pub refusal_fills : (tables : Tables) (words : List ℕ) (before : Buffers) (set
 unfolding normalize_within checked_to overwrite
 refusal_fills tables words before settings why e ae = grind (arith, refused_of normalize_limit tables words why e)
 
-module _ {types calls inputs words : List ℕ} {A : ℕ} (x : Accepts normalize_limit (over types calls inputs) words A) where
+module _ {tables : Tables} {words : List ℕ} {A : ℕ} (x : Accepts normalize_limit tables words A) where
   is_encoded : words ≡ encode x.typed.term
   is_encoded = x.holds.is ∙ append-nil (encode x.typed.term)
 
@@ -40,7 +40,7 @@ module _ {types calls inputs words : List ℕ} {A : ℕ} (x : Accepts normalize_
     first_length = omega (arith, length-take capacity before.scratch₁, k)
 
     pub accepted_settleable : length words ≤ capacity
-        → Settleable calls words before.output (take capacity before.scratch₁) (take capacity before.scratch₂)
+        → Settleable tables.calls words before.output (take capacity before.scratch₁) (take capacity before.scratch₂)
     accepted_settleable h =
         let p = x.passed in
         let second : length (take capacity before.scratch₂) ≡ capacity = omega (arith, length-take capacity before.scratch₂, k) in
@@ -49,8 +49,8 @@ module _ {types calls inputs words : List ℕ} {A : ℕ} (x : Accepts normalize_
           shaped = x.holds.shaped;
           is = is_encoded;
           typed = record {
-            types = types;
-            inputs = inputs;
+            types = tables.types;
+            inputs = tables.inputs;
             source = words;
             limit = normalize_limit;
             lengths = p.lengths;
@@ -65,21 +65,21 @@ module _ {types calls inputs words : List ℕ} {A : ℕ} (x : Accepts normalize_
         }
 
     module _ (settings : Settings) where
-      reduced : normalize_within (capacity_of before) settings (over types calls inputs) words
-          ≡ reduced_to x.typed.type (reduce (may_drop calls) capacity settings x.typed.term)
+      reduced : normalize_within (capacity_of before) settings tables words
+          ≡ reduced_to x.typed.type (reduce (may_drop tables.calls) capacity settings x.typed.term)
       unfolding normalize_within checked_to capacity_of
       reduced = rw (x.is, k) refl
 
       -- longer than the capacity
       pub too_long_fills : {a : Answer} → capacity < length words → a ≡ record { refusal = 11; ty = 0; length = 0; counts = zero_counts }
-          → FillsNormalized settings (over types calls inputs) words before a before.output
+          → FillsNormalized settings tables words before a before.output
       unfolding reduced_to size overwrite
       too_long_fills h ae =
           let long : capacity < size x.typed.term = omega (arith, h, ap (λ (l : List ℕ). length l) is_encoded) in
-          grind (arith, reduced, reduce_too_long (may_drop calls) capacity settings x.typed.term long)
+          grind (arith, reduced, reduce_too_long (may_drop tables.calls) capacity settings x.typed.term long)
 
       -- what the reduction comes to
       pub settled_fills : {a : Answer} {out : List ℕ}
-          → Settles calls words A settings (length (take capacity before.scratch₁)) before.output a out
-          → FillsNormalized settings (over types calls inputs) words before a out
+          → Settles tables.calls words A settings (length (take capacity before.scratch₁)) before.output a out
+          → FillsNormalized settings tables words before a out
       settled_fills s = rw (reduced, x.type, ← first_length) (s.told x.typed.term x.holds.shaped is_encoded)

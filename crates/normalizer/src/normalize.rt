@@ -10,6 +10,7 @@ use checker::check::{NORMALIZE_LIMIT, check_within};
 use outcomes::{Answer, Refusal};
 use reduction::Settings;
 use words::moves::{clear, copy};
+use words::tables::Tables;
 
 // a refusal, with the counts of the steps taken
 pub fn refused(refusal: Refusal, counts: [u32; 10]) -> Answer
@@ -57,20 +58,17 @@ fn settle(
 
 // the checks and the reduction; the normal form is written to the output
 fn run(
-    types: &[u64],
-    calls: &[u64],
-    inputs: &[u64],
+    tables: &Tables,
     term: &[u64],
     settings: Settings,
     output: &mut [u64],
     first: &mut [u64],
     second: &mut [u64],
 ) -> Answer
-    ensures { FillsNormalized settings (over types.now calls.now inputs.now)
-        term.now (record { output = output.old; scratch₁ = first.old; scratch₂ = second.old }) result
-        output.new }
+    ensures { FillsNormalized settings tables.now term.now
+        (record { output = output.old; scratch₁ = first.old; scratch₂ = second.old }) result output.new }
 {
-    let ty = match check_within(NORMALIZE_LIMIT, types, calls, inputs, term) {
+    let ty = match check_within(NORMALIZE_LIMIT, tables, term) {
         Ok(ty) => ty,
         Err(refusal) => return refused(refusal, [0; 10]),
     };
@@ -79,7 +77,7 @@ fn run(
         return refused(Refusal::Capacity, [0; 10]);
     }
     settle(
-        calls,
+        tables.calls,
         term,
         ty,
         settings,
@@ -105,7 +103,12 @@ pub fn normalize(
         (record { output = output.old; scratch₁ = first.old; scratch₂ = second.old }) result
         (record { output = output.new; scratch₁ = first.new; scratch₂ = second.new }) }
 {
-    let answer = run(types, calls, inputs, term, settings, output, first, second);
+    let tables = Tables {
+        types,
+        calls,
+        inputs,
+    };
+    let answer = run(&tables, term, settings, output, first, second);
     clear(first);
     clear(second);
     answer

@@ -2,7 +2,6 @@
 #![tactic(auto)]
 
 ghost use Rattle.std.specs.Prelude.{◌≡◌, [], ◌≤◌, length, Ok};
-ghost use Rattle.syntax.specs.Tables.{over};
 ghost use Rattle.outcomes.specs.Listing.{listing_of, written_to};
 ghost use Rattle.outcomes.specs.Normalize.{normalize_within, max_capacity};
 ghost use Rattle.outcomes.specs.Refusal.{number_of};
@@ -14,24 +13,24 @@ use bundles::read::read_bundle;
 use normalizer::normalize::{normalize, refused};
 use normalizer::settings::no_ceilings;
 use outcomes::{Lengths, Refusal};
+use words::tables::Tables;
 
 // the most bytes that an answer takes
 pub const MOST_WRITTEN: usize = 139393;
 
 // normalizes with the program's settings and lists the answer
-fn answer_to(types: &[u64], calls: &[u64], inputs: &[u64], term: &[u64], text: &mut [u8]) -> usize
+fn answer_to(tables: &Tables, term: &[u64], text: &mut [u8]) -> usize
     ensures { record { length = result; buffer = text.new }
-        ≡ written_to text.old (listed (normalize_within max_capacity program_settings
-        (over types.now calls.now inputs.now) term.now)) }
+        ≡ written_to text.old (listed (normalize_within max_capacity program_settings tables.now term.now)) }
 {
     let settings = no_ceilings(1000000);
     let mut output = [0; 8192];
     let mut first = [0; 8192];
     let mut second = [0; 8192];
     let answer = normalize(
-        types,
-        calls,
-        inputs,
+        tables.types,
+        tables.calls,
+        tables.inputs,
         term,
         settings,
         &mut output,
@@ -59,7 +58,12 @@ fn answer_parts(words: &[u64], lengths: Lengths, text: &mut [u8]) -> usize
     let (types, rest) = words.split_at(lengths.types);
     let (calls, rest) = rest.split_at(lengths.calls);
     let (inputs, rest) = rest.split_at(lengths.inputs);
-    answer_to(types, calls, inputs, &rest[..lengths.words], text)
+    let tables = Tables {
+        types,
+        calls,
+        inputs,
+    };
+    answer_to(&tables, &rest[..lengths.words], text)
 }
 
 // what the program writes for the bytes that it reads: how many bytes of the text, 0 if it is too short

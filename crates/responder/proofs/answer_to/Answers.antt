@@ -5,5 +5,6 @@ use Rattle.responder.proofs.answer_to.Goals as goal
 
 pub returns : goal.returns
 returns c =
-    listing_normalized _ _ _ _ _ _ _ _ c.no_ceilings-settings.ensures (full_capacity _ _ _ refl refl refl) c.normalize-answer.ensures.outcome
-    c.listing.ensures
+    rw (← c.tables.view_is)
+    (listing_normalized _ _ _ _ _ _ _ _ c.no_ceilings-settings.ensures (full_capacity _ _ _ refl refl refl)
+    c.normalize-answer.ensures.outcome c.listing.ensures)
