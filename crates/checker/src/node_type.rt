@@ -5,8 +5,10 @@ ghost use Rattle.syntax.specs.Words.{arity_of, argument_fields, kind_of, number_
 ghost use Rattle.syntax.specs.Tables.{over, components as components_at};
 ghost use Rattle.words.specs.KindCodes.{code};
 ghost use Rattle.typing.specs.Infer.{equal};
+ghost use Rattle.checker.specs.TypeKinds.{type_code};
 ghost use Rattle.checker.specs.Nodes.{binder_type, form_of, judge as judge_of, call_type, node_type, types_to};
 
+use crate::type_kinds::TypeKind;
 use words::fields::{argument, arguments, kind, number, result, ty};
 use words::kinds::Kind;
 use words::shape::shape_of;
@@ -14,11 +16,11 @@ use words::tables::Tables;
 
 // the two fields of type number a, if it is of the kind that is asked for
 #[tactic(auto, using(crate::proofs::Lookups::at_index))]
-fn parts_of_type(types: &[u64], wanted: u64, a: u64) -> Option<(u64, u64)>
-    ensures { result ≡ option_of (components_at (over types.now [] []) wanted a) }
+fn parts_of_type(types: &[u64], wanted: TypeKind, a: u64) -> Option<(u64, u64)>
+    ensures { result ≡ option_of (components_at (over types.now [] []) (type_code wanted) a) }
 {
     let w = *types.get(a as usize)?;
-    (kind(w) == wanted).then_some((number(w), ty(w)))
+    (TypeKind::of(w) == Some(wanted)).then_some((number(w), ty(w)))
 }
 
 // a word of a table, 0 past its end
@@ -44,14 +46,14 @@ pub fn binder(types: &[u64], w: u64, j: usize, first: u64) -> u64
 }
 
 // the kind of type that a node is about
-fn form(k: Kind) -> u64
-    ensures { result ≡ form_of (code k) }
+fn form(k: Kind) -> TypeKind
+    ensures { type_code result ≡ form_of (code k) }
 {
     match k {
-        Kind::Variable | Kind::Call | Kind::Function | Kind::Application => 1,
-        Kind::Let | Kind::Pair | Kind::First | Kind::Second => 2,
-        Kind::Left | Kind::Right | Kind::Case => 3,
-        Kind::Unit | Kind::Unknown => 4,
+        Kind::Variable | Kind::Call | Kind::Function | Kind::Application => TypeKind::Function,
+        Kind::Let | Kind::Pair | Kind::First | Kind::Second => TypeKind::Product,
+        Kind::Left | Kind::Right | Kind::Case => TypeKind::Sum,
+        Kind::Unit | Kind::Unknown => TypeKind::Unit,
     }
 }
 

@@ -7,8 +7,9 @@ ghost use Rattle.typing.specs.Refusals.{tables_place};
 ghost use Rattle.checker.specs.Places.{refusal_in, refusal_number};
 ghost use Rattle.checker.specs.Residues.{residue_of, Noted};
 
+use crate::type_kinds::TypeKind;
 use outcomes::Refusal;
-use words::fields::{argument, arguments, kind, number, result, ty};
+use words::fields::{argument, arguments, number, result, ty};
 use words::tables::Tables;
 
 // 1: the lengths of the tables and of the term
@@ -29,11 +30,11 @@ fn type_fits(i: usize, w: u64) -> bool
 {
     let left = number(w) as usize;
     let right = ty(w) as usize;
-    match kind(w) {
-        0 => right == 0,
-        1..=3 => left < i && right < i,
-        4 => left == 0 && right == 0,
-        _ => false,
+    match TypeKind::of(w) {
+        Some(TypeKind::Base) => right == 0,
+        Some(TypeKind::Function | TypeKind::Product | TypeKind::Sum) => left < i && right < i,
+        Some(TypeKind::Unit) => left == 0 && right == 0,
+        None => false,
     }
 }
 
