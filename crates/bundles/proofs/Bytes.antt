@@ -1,5 +1,5 @@
 -- Words read from bytes: eight bytes make a word.
-use Rattle.std.proofs.Common.{append_assoc, append-nil, add_comm, ◌≡◌, ℕ, zero, suc, ◌+◌, ◌*◌, ◌<◌, List, [], ◌∷◌, ◌++◌, length, get_or, take, drop, set, refl, ◌∙◌, ap, arith, w64, add-one}
+use Rattle.std.proofs.Common.{◌≡◌, ℕ, zero, suc, ◌+◌, ◌*◌, ◌<◌, List, [], ◌∷◌, ◌++◌, length, get_or, take, drop, set, refl, ◌∙◌, ap, arith, w64, append_assoc, append-nil, add_comm, add-one}
 use Rattle.std.proofs.Math.Nat.{mul-suc}
 use Rattle.std.proofs.lemmas.List.{drop_all}
 use Rattle.std.proofs.Math.Seq.{drop-cons, drop-drop, set_at}

@@ -1,10 +1,10 @@
 -- Decimal digits are those that the library writes.
-use Rattle.std.proofs.Common.{◌≡◌, ℕ, suc, ◌+◌, ◌-◌, ◌/◌, ◌%◌, ◌^◌, ◌<◌, ◌≤◌, List, [], ◌∷◌, length, ◌∙◌, append-nil, arith, le-leb}
+use Rattle.std.proofs.Common.{◌≡◌, ℕ, suc, ◌+◌, ◌-◌, ◌/◌, ◌%◌, ◌^◌, ◌<◌, ◌≤◌, List, [], ◌∷◌, length, ◌∙◌, arith, append-nil, le-leb}
 use Rattle.std.proofs.lemmas.Fmt.{PrependsLastDigit, decimal_from_prepends, length-decimal-le}
 use Rattle.std.specs.Fmt.{decimal as written}
 use Rattle.outcomes.specs.Listing.{digit, decimal_then, decimal}
 
-pub digit_is : (d : ℕ) → d < 10 → digit d ≡ 48 + d
+digit_is : (d : ℕ) → d < 10 → digit d ≡ 48 + d
 digit_is d h = rw (le-leb d 9 (omega arith))
 
 one_digit : (more n : ℕ) (rest : List ℕ) → n < 10 → decimal_then (suc more) n rest ≡ (48 + n) ∷ rest
