@@ -19,7 +19,7 @@ use Rattle.words.specs.Fronts.{Starts}
 use Rattle.words.specs.Depths.{OpensParts}
 use Rattle.binding.specs.Writes.{lowered_word, Lowers}
 use Rattle.words.proofs.Traversal.{fits}
-use Rattle.binding.proofs.TermWritten.{Trace, trace_begin, trace_behind, trace_variable, trace_node, trace_end}
+use Rattle.binding.proofs.TermWritten.{Trace, Turn, turn, trace_begin, trace_behind, trace_variable, trace_node, trace_end}
 
 -- variables are lowered
 abbrev pub lowers : Unit {0} → ℕ → ℕ
@@ -36,32 +36,35 @@ lower_word w d n e m = go (ltb d n) refl
     go true f = omega (arith, ap (λ (i : ℕ). pack 0 i 0) (lower_at_above d n (ltb-true d n f)), e, ltb-true d n f) ∙ sym (chosen true f)
     go false f = omega (arith, ap (λ (i : ℕ). pack 0 i 0) (lower_at_low d n (ltb-false d n f)), e) ∙ sym (chosen false f)
 
--- the loop's invariant: the words are read where they are written
-abbrev pub Lowering : (calls old p new : List ℕ) (owed i : ℕ) → Type 0
-Lowering calls old p new owed i = Trace renaming lowers calls old old 0 0 2 p new owed i i
+-- the loop's invariant: the words are read where they are written, so those behind are as they were
+pub record Lowering (calls old p new : List ℕ) (owed i : ℕ) : Type 0 where
+  pub turn : Turn renaming lowers calls old old 0 0 2 p new owed i i
+  pub unread : get_or new i 0 ≡ get_or old i 0
 
-pub lower_begin : {calls old : List ℕ} (p : List ℕ) → Starts calls old → length old + 2 ≤ length p → Lowering calls old (set p 0 0) old 1 0
-lower_begin p s e = trace_begin renaming lowers p 0 s tt (omega (arith, fits s.holds, size-rename s.term (lower_at 0)))
-    (omega (arith, e, fits s.holds))
+lowering : {calls old p new : List ℕ} {owed i : ℕ} → Trace renaming lowers calls old old 0 0 2 p new owed i i → Lowering calls old p new owed i
+lowering {i = i} g = record { turn = turn renaming lowers (omega arith) g; unread = trace_behind renaming lowers g i (omega arith) }
 
-module _ {calls old p new : List ℕ} {owed i : ℕ} (g : Lowering calls old p new owed i) (lt : 1 ≤ owed) where
-  -- the next word is as it was
-  pub lower_unread : get_or new i 0 ≡ get_or old i 0
-  lower_unread = trace_behind renaming lowers g i (omega arith)
+pub lower_begin : (calls old p : List ℕ) (d : ℕ) → d ≡ 0 → Starts calls old → length old ≤ 65536 → length old + 2 ≤ length p
+    → Lowering calls old (set p 0 d) old 1 0
+lower_begin calls old p d z s few e =
+    subst (λ (x : ℕ). Lowering calls old (set p 0 x) old 1 0) (sym z)
+    (lowering (trace_begin renaming lowers p 0 s tt (omega (arith, fits s.holds, size-rename s.term (lower_at 0)))
+    (omega (arith, e, fits s.holds)) (omega (arith, few))))
 
-  pub lower_variable : kind_of (get_or new i 0) ≡ 0 → (x : ℕ) → x ≡ lowered_word (get_or p (owed - 1) 0) (get_or new i 0)
+module _ {calls old p new : List ℕ} {owed i : ℕ} (g : Lowering calls old p new owed i) where
+  pub lower_variable : (x : ℕ) → 1 ≤ owed → kind_of (get_or new i 0) ≡ 0 → x ≡ lowered_word (get_or p (owed - 1) 0) (get_or new i 0)
       → Lowering calls old p (set new i x) (owed - 1) (i + 1)
   unfolding traverse encode node
-  lower_variable z x e =
-      trace_variable renaming lowers g lt (get_or new i 0) (get_or p (owed - 1) 0) lower_unread refl z x i (omega arith) λ n f c u.
-      ap {B = List ℕ} (λ (v : ℕ). v ∷ []) (lower_word _ _ n f c ∙ sym e)
+  lower_variable x lt z e = lowering
+      (trace_variable renaming lowers g.turn.trace lt (get_or new i 0) (get_or p (owed - 1) 0) g.unread refl z x i (omega arith) λ n f c u.
+      ap {B = List ℕ} (λ (v : ℕ). v ∷ []) (lower_word _ _ n f c ∙ sym e))
 
-  pub lower_node : (kind_of (get_or new i 0) ≡ 0 → ⊥) → (q : List ℕ) (r : ℕ) → length q ≡ length p
+  pub lower_node : (q : List ℕ) (r : ℕ) → 1 ≤ owed → (kind_of (get_or new i 0) ≡ 0 → ⊥) → length q ≡ length p
       → OpensParts calls (get_or new i 0) (get_or p (owed - 1) 0) p q (owed - 1) r
       → Lowering calls old q new r (i + 1)
-  lower_node z q r l ops =
-      subst (λ (n : List ℕ). Lowering calls old q n r (i + 1)) (set-get_or new i 0)
-      (trace_node renaming lowers g lt (get_or new i 0) (get_or p (owed - 1) 0) lower_unread refl z q r i l ops (omega arith))
+  lower_node q r lt z l ops =
+      subst (λ (n : List ℕ). Lowering calls old q n r (i + 1)) (set-get_or new i 0) (lowering
+      (trace_node renaming lowers g.turn.trace lt (get_or new i 0) (get_or p (owed - 1) 0) g.unread refl z q r i l ops (omega arith)))
 
-pub lower_end : {calls old p new : List ℕ} {owed i : ℕ} → Lowering calls old p new owed i → owed ≡ 0 → Lowers calls old new
-lower_end g z = record { told = λ t rest h. (trace_end renaming lowers g z t rest h tt).1 }
+  pub lower_end : owed ≤ 0 → Lowers calls old new
+  lower_end z = record { told = λ t rest h. (trace_end renaming lowers g.turn.trace z t rest h tt).1 }

@@ -17,7 +17,7 @@ use Rattle.syntax.proofs.Under.{raise_at_below, raise_at_above}
 use Rattle.words.specs.Depths.{OpensParts}
 use Rattle.binding.specs.Writes.{raised_word, Room, Renames}
 use Rattle.words.proofs.Traversal.{fits}
-use Rattle.binding.proofs.TermWritten.{Trace, trace_begin, trace_variable, trace_node, trace_end}
+use Rattle.binding.proofs.TermWritten.{Turn, turn, trace_begin, trace_variable, trace_node, trace_end}
 
 -- variables are raised
 abbrev pub raises : ℕ → Unit {0} → ℕ → ℕ
@@ -36,29 +36,29 @@ raise_variable w cut by n e m = go (leb cut n) refl
 
 -- the loop's invariant: as many words are written as are read
 abbrev pub Renaming : (calls src old : List ℕ) (cut at by : ℕ) (p new : List ℕ) (owed i : ℕ) → Type 0
-Renaming calls src old cut at by p new owed i = Trace renaming (raises by) calls src old cut at 2 p new owed i i
+Renaming calls src old cut at by p new owed i = Turn renaming (raises by) calls src old cut at 2 p new owed i i
 
-pub rename_begin : {calls src old : List ℕ} {at : ℕ} (p : List ℕ) (cut by : ℕ) → Room calls src (length old) at → length src + 2 ≤ length p
-    → Renaming calls src old cut at by (set p 0 cut) old 1 0
-rename_begin p cut by r e = trace_begin renaming (raises by) p cut r.start tt
-    (omega (arith, r.room, size-rename r.start.term (raise_at cut by))) (omega (arith, e, fits r.start.holds))
+pub rename_begin : {calls src old : List ℕ} {at : ℕ} (p : List ℕ) (cut by : ℕ) → Room calls src (length old) at → cut + length src ≤ 65536
+    → length src + 2 ≤ length p → Renaming calls src old cut at by (set p 0 cut) old 1 0
+rename_begin p cut by r far e = turn renaming (raises by) (omega arith) (trace_begin renaming (raises by) p cut r.start tt
+    (omega (arith, r.room, size-rename r.start.term (raise_at cut by))) (omega (arith, e, fits r.start.holds)) far)
 
 module _ (by : ℕ) {calls src old : List ℕ} {cut at : ℕ} {p new : List ℕ} {owed i : ℕ}
     (g : Renaming calls src old cut at by p new owed i) where
-  pub rename_variable : 1 ≤ owed → kind_of (get_or src i 0) ≡ 0 → (x : ℕ) → x ≡ raised_word (get_or p (owed - 1) 0) by (get_or src i 0)
+  pub rename_variable : (x : ℕ) → 1 ≤ owed → kind_of (get_or src i 0) ≡ 0 → x ≡ raised_word (get_or p (owed - 1) 0) by (get_or src i 0)
       → Renaming calls src old cut at by p (set new (at + i) x) (owed - 1) (i + 1)
   unfolding traverse encode node
-  rename_variable lt z x e =
-      trace_variable renaming (raises by) g lt (get_or src i 0) (get_or p (owed - 1) 0) refl refl z x (at + i) refl λ n f c u.
-      ap {B = List ℕ} (λ (v : ℕ). v ∷ []) (raise_variable _ _ by n f c ∙ sym e)
+  rename_variable x lt z e = turn renaming (raises by) (omega arith)
+      (trace_variable renaming (raises by) g.trace lt (get_or src i 0) (get_or p (owed - 1) 0) refl refl z x (at + i) refl λ n f c u.
+      ap {B = List ℕ} (λ (v : ℕ). v ∷ []) (raise_variable _ _ by n f c ∙ sym e))
 
-  pub rename_node : 1 ≤ owed → (kind_of (get_or src i 0) ≡ 0 → ⊥) → (q : List ℕ) (r : ℕ) → length q ≡ length p
+  pub rename_node : (q : List ℕ) (r : ℕ) → 1 ≤ owed → (kind_of (get_or src i 0) ≡ 0 → ⊥) → length q ≡ length p
       → OpensParts calls (get_or src i 0) (get_or p (owed - 1) 0) p q (owed - 1) r
       → Renaming calls src old cut at by q (set new (at + i) (get_or src i 0)) r (i + 1)
-  rename_node lt z q r l ops =
-      trace_node renaming (raises by) g lt (get_or src i 0) (get_or p (owed - 1) 0) refl refl z q r (at + i) l ops refl
+  rename_node q r lt z l ops = turn renaming (raises by) (omega arith)
+      (trace_node renaming (raises by) g.trace lt (get_or src i 0) (get_or p (owed - 1) 0) refl refl z q r (at + i) l ops refl)
 
-  pub rename_end : owed ≡ 0 → Renames calls src old new at cut by i
+  pub rename_end : owed ≤ 0 → Renames calls src old new at cut by i
   rename_end z = record {
-    told = λ t rest h. let e = trace_end renaming (raises by) g z t rest h tt in record { read_is = e.0; new_is = e.1 };
+    told = λ t rest h. let e = trace_end renaming (raises by) g.trace z t rest h tt in record { read_is = e.0; new_is = e.1 };
   }

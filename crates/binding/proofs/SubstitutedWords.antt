@@ -22,10 +22,9 @@ use Rattle.words.specs.Depths.{OpensParts}
 use Rattle.words.specs.Fronts.{Holds, Whole}
 use Rattle.binding.specs.Writes.{Room, Renames, RoomFor, Substitutes, lowered_word, Raises}
 use Rattle.words.proofs.PastedWords.{pasted_sets}
-use Rattle.words.proofs.Rows.{march_within}
 use Rattle.syntax.proofs.ByKind.{by_kind}
 use Rattle.binding.proofs.LoweredWords.{lower_word}
-use Rattle.binding.proofs.TermWritten.{put, Trace, trace_begin, trace_end, put_room, trace_leaf, trace_variable, trace_node}
+use Rattle.binding.proofs.TermWritten.{put, Trace, Turn, turn, trace_begin, trace_end, put_room, trace_leaf, trace_variable, trace_node}
 
 -- a value is put for a variable
 abbrev pub valued : (calls value : List ℕ) → Whole calls value → ℕ → Term
@@ -72,32 +71,38 @@ lower_other w d n v e m h = ap encode (only_at_other d v n (λ x. h (omega (arit
 -- the loop's invariant
 abbrev pub Substituting : (calls body value old : List ℕ) (depth at : ℕ) (p new : List ℕ) (owed i o : ℕ) → Type 0
 Substituting calls body value old depth at p new owed i o =
-    Trace substitution (valued calls value) calls body old depth at (length value + 2) p new owed i o
+    Turn substitution (valued calls value) calls body old depth at (length value + 2) p new owed i o
+
+module _ {calls body value old : List ℕ} {depth at : ℕ} {p new : List ℕ} {owed i o : ℕ} where
+  substituting : Trace substitution (valued calls value) calls body old depth at (length value + 2) p new owed i o
+      → Substituting calls body value old depth at p new owed i o
+  substituting = turn substitution (valued calls value) (omega arith)
 
 pub substitute_begin : {calls body value old : List ℕ} {at : ℕ} (p : List ℕ) (depth : ℕ)
-    → RoomFor calls body value (length old) at depth (length p) → Substituting calls body value old depth at (set p 0 depth) old 1 0 0
-substitute_begin {calls} {value = value} p depth r =
-    trace_begin substitution (valued calls value) p depth r.start r.whole r.room (omega (arith, r.spare))
+    → RoomFor calls body value (length old) at depth (length p) → depth + length body ≤ 65536
+    → Substituting calls body value old depth at (set p 0 depth) old 1 0 0
+substitute_begin {calls} {value = value} p depth r far =
+    substituting (trace_begin substitution (valued calls value) p depth r.start r.whole r.room (omega (arith, r.spare)) far)
 
 module _ {calls body value old : List ℕ} {depth at : ℕ} {p new : List ℕ} {owed i o : ℕ}
     (g : Substituting calls body value old depth at p new owed i o) where
   -- another variable
-  pub substitute_variable : 1 ≤ owed → kind_of (get_or body i 0) ≡ 0 → get_or body i 0 ≢ pack 0 (get_or p (owed - 1) 0) 0 → (x : ℕ)
+  pub substitute_variable : (x : ℕ) → 1 ≤ owed → kind_of (get_or body i 0) ≡ 0 → get_or body i 0 ≢ pack 0 (get_or p (owed - 1) 0) 0
       → x ≡ lowered_word (get_or p (owed - 1) 0) (get_or body i 0)
       → Substituting calls body value old depth at p (set new (at + o) x) (owed - 1) (i + 1) (o + 1)
   unfolding traverse
-  substitute_variable lt z h x e =
-      trace_variable substitution (valued calls value) g lt (get_or body i 0) (get_or p (owed - 1) 0) refl refl z x (at + o) refl λ n f c v.
-      lower_other _ _ n v.term f c h ∙ ap {B = List ℕ} (λ (w : ℕ). w ∷ []) (sym e)
+  substitute_variable x lt z h e = substituting
+      (trace_variable substitution (valued calls value) g.trace lt (get_or body i 0) (get_or p (owed - 1) 0) refl refl z x (at + o) refl λ n f c v.
+      lower_other _ _ n v.term f c h ∙ ap {B = List ℕ} (λ (w : ℕ). w ∷ []) (sym e))
 
-  pub substitute_node : 1 ≤ owed → (kind_of (get_or body i 0) ≡ 0 → ⊥) → (q : List ℕ) (r : ℕ) → length q ≡ length p
+  pub substitute_node : (q : List ℕ) (r : ℕ) → 1 ≤ owed → (kind_of (get_or body i 0) ≡ 0 → ⊥) → length q ≡ length p
       → OpensParts calls (get_or body i 0) (get_or p (owed - 1) 0) p q (owed - 1) r
       → Substituting calls body value old depth at q (set new (at + o) (get_or body i 0)) r (i + 1) (o + 1)
-  substitute_node lt z q r l ops =
-      trace_node substitution (valued calls value) g lt (get_or body i 0) (get_or p (owed - 1) 0) refl refl z q r (at + o) l ops refl
+  substitute_node q r lt z l ops = substituting
+      (trace_node substitution (valued calls value) g.trace lt (get_or body i 0) (get_or p (owed - 1) 0) refl refl z q r (at + o) l ops refl)
 
-  pub substitute_end : owed ≡ 0 → Substitutes calls body value old new at depth
-  substitute_end z = record { told = λ t rest h v. (trace_end substitution (valued calls value) g z t rest h v).1 }
+  pub substitute_end : owed ≤ 0 → Substitutes calls body value old new at depth
+  substitute_end z = record { told = λ t rest h v. (trace_end substitution (valued calls value) g.trace z t rest h v).1 }
 
 -- the depths before a part of the buffer that is handed on stay
 kept_before_part : (p ys : List ℕ) (a k j : ℕ) → a ≤ length p → j < a → get_or (put_mid a k p ys) j 0 ≡ get_or p j 0
@@ -109,7 +114,10 @@ kept_before_part p ys a k j le l =
 -- the variable itself: the value is written, its variables raised
 module _ {calls body value old : List ℕ} {depth at : ℕ} {p new : List ℕ} {owed i o : ℕ}
     (g : Substituting calls body value old depth at p new owed i o) (lt : 1 ≤ owed) (w under : ℕ) (we : w ≡ get_or body i 0)
-    (ue : under ≡ get_or p (owed - 1) 0) (e : w ≡ pack 0 under 0) (lu : under < 2 ^ 30) where
+    (ue : under ≡ get_or p (owed - 1) 0) (e : w ≡ pack 0 under 0) where
+  lu : under < 2 ^ 30
+  lu = omega (arith, (g.opens lt).2, ue)
+
   kind_is : kind_of w ≡ 0
   kind_is = omega (arith, e, lu)
 
@@ -127,7 +135,7 @@ module _ {calls body value old : List ℕ} {depth at : ℕ} {p new : List ℕ} {
       ∙ ap size (sym (only_at_at under v.term))
 
   pub value_room : at + o + length value ≤ length new
-  value_room = put_room substitution (valued calls value) g lt w under we ue (length value) λ t a b c v.
+  value_room = put_room substitution (valued calls value) g.trace lt w under we ue (length value) λ t a b c v.
       is_variable (λ x. length value ≡ size (put substitution (valued calls value) v x under)) t a b c (value_size v)
 
   -- the value's depths stand in the part of the buffer behind those of the parts still to come
@@ -135,12 +143,12 @@ module _ {calls body value old : List ℕ} {depth at : ℕ} {p new : List ℕ} {
       → Raises calls value new new' (at + o) under r
       → Substituting calls body value old depth at (put_mid owed k p ys) new' (owed - 1) (i + 1) (o + r)
   unfolding part_count traverse under_by
-  substitute_value ys new' k r l ln s =
-      trace_leaf substitution (valued calls value) g lt w under we ue (put_mid owed k p ys) new' r (at + o) (same_len_mid owed k p ys l)
-      (λ j c. kept_before_part p ys owed k j (omega (arith, march_within calls body g.going, g.spare)) (omega (arith, c))) ln
+  substitute_value ys new' k r l ln s = substituting
+      (trace_leaf substitution (valued calls value) g.trace lt w under we ue (put_mid owed k p ys) new' r (at + o) (same_len_mid owed k p ys l)
+      (λ j c. kept_before_part p ys owed k j (omega (arith, g.spare)) (omega (arith, c))) ln
       (ap (parts_of_kind (arity calls (number_of w))) kind_is) refl λ t a b c v.
       is_variable (λ x. (new' ≡ sets new (at + o) (encode (put substitution (valued calls value) v x under)))
       × (r ≡ size (put substitution (valued calls value) v x under))) t a b c (
         s.told v ∙ ap (λ (x : Term). sets new (at + o) (encode x)) (sym (only_at_at under v.term)),
         s.size_is ∙ value_size v,
-      )
+      ))

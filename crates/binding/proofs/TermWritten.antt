@@ -25,7 +25,7 @@ use Rattle.words.proofs.Joined.{none_left}
 use Rattle.words.proofs.Reach.{encode_binding}
 use Rattle.words.proofs.Stretches.{get_or_behind, Writing, write_none, write_next, write_all, write_room}
 use Rattle.words.proofs.RowAtDepths.{Gathering, ahead, ahead_one, ahead_same, ahead_opened, Near, near_begin, near_next, opens_room}
-use Rattle.words.proofs.Rows.{Marching, Visit, march_from, march_end, visit, march_on}
+use Rattle.words.proofs.Rows.{Marching, Visit, march_from, march_end, march_inside, march_within, visit, march_on}
 use Rattle.words.proofs.Rows.{one_starts, one_holds}
 
 no_parts : (os is later : Terms) → count os ≡ 0 → count is ≡ 0 → later ≡ joined os (joined is later)
@@ -76,19 +76,21 @@ module _ {X A : Type 0} (kit : Kit X) (f : A → ℕ → X) where
   abbrev pub Ahead : (old : List ℕ) (d at : ℕ) (p new : List ℕ) (o : ℕ) → Terms → Terms → Type 0
   Ahead old d at p new o ts us = (a : A) → Writing old new at o (put_all a ts d) (ahead (putting a) p us)
 
-  -- the loop's invariant: i words of the term are read and o are written, and m places of the buffer of depths are kept free
+  -- i words of the term are read and o are written, and m places of the buffer of depths are kept free
   pub record Trace (calls words old : List ℕ) (d at m : ℕ) (p new : List ℕ) (owed i o : ℕ) : Type 0 where
     pub going : Marching calls words (Ahead old d at p new o) 1 i owed
     pub given : A
     pub room : at + length (put_all given going.start.terms d) ≤ length old
     pub spare : size_all going.start.terms + m ≤ length p
     pub len : length new ≡ length old
+    pub far : d + length words ≤ 65536
     pub near : Near p owed (d + i)
 
   pub trace_begin : {calls words old : List ℕ} {at m : ℕ} (p : List ℕ) (d : ℕ) (s : Starts calls words) (a : A)
-      → at + size (put a s.term d) ≤ length old → size s.term + m ≤ length p → Trace calls words old d at m (set p 0 d) old 1 0 0
+      → at + size (put a s.term d) ≤ length old → size s.term + m ≤ length p → d + length words ≤ 65536
+      → Trace calls words old d at m (set p 0 d) old 1 0 0
   unfolding march_from size
-  trace_begin {calls} {words} {old} {at} {m} p d s a r e =
+  trace_begin {calls} {words} {old} {at} {m} p d s a r e far =
       let l = length-set p 0 d in
       let h : 1 ≤ length p = omega (arith, e, size_positive s.term) in
       record {
@@ -99,16 +101,17 @@ module _ {X A : Type 0} (kit : Kit X) (f : A → ℕ → X) where
         room = omega (arith, r, ap (λ (x : List ℕ). length x) (put_all_one a s.term d));
         spare = omega (arith, e, l, size_arg s.term done, size_done);
         len = refl;
+        far = far;
         near = near_begin p d h;
       }
 
   module _ {calls words old : List ℕ} {d at m : ℕ} {p new : List ℕ} {owed i o : ℕ} (g : Trace calls words old d at m p new owed i o) where
     -- no term is owed
-    pub trace_end : owed ≡ 0 → (t : Term) (rest : List ℕ) → Holds calls words t rest → (a : A)
+    pub trace_end : owed ≤ 0 → (t : Term) (rest : List ℕ) → Holds calls words t rest → (a : A)
         → (i ≡ size t) × (new ≡ sets old at (encode (put a t d)))
     unfolding ahead size
     trace_end z t rest h a =
-        let e = march_end calls words g.going z (arg t done) rest (one_holds h) in
+        let e = march_end calls words g.going (omega arith) (arg t done) rest (one_holds h) in
         (omega (arith, e.0, size_arg t done, size_done), (write_all (e.1 a)).0 ∙ ap (sets old at) (put_all_one a t d))
 
     -- the words behind those written are as they were
@@ -121,11 +124,6 @@ module _ {X A : Type 0} (kit : Kit X) (f : A → ℕ → X) where
     next_room : (xs left : List ℕ) → Writing old new at o (put_all g.given g.going.start.terms d) (xs ++ left)
         → at + o + length xs ≤ length new
     next_room xs left w = omega (arith, write_room xs left w, g.room, g.len)
-
-    -- the depths of the node's parts have room
-    pub trace_opens : 1 ≤ owed → 2 ≤ m → d + length words ≤ 65536
-        → (owed - 1 + 3 ≤ length p) × (owed - 1 + part_count calls (get_or words i 0) ≤ length p) × (get_or p (owed - 1) 0 ≤ 65536)
-    trace_opens lt two far = opens_room p d m g.going g.near g.spare two lt far
 
     module _ (lt : 1 ≤ owed) (w under : ℕ) (we : w ≡ get_or words i 0) (ue : under ≡ get_or p (owed - 1) 0) where
       -- of the term whose word this is
@@ -150,7 +148,7 @@ module _ {X A : Type 0} (kit : Kit X) (f : A → ℕ → X) where
           (ap (λ (j : ℕ). get_or p j 0) c ∙ sym ue) (v.to_do a)
 
       -- there is room for a word at least, and for what is put
-      pub trace_room : at + o + 1 ≤ length new
+      trace_room : at + o + 1 ≤ length new
       unfolding size
       trace_room =
           let v = first in
@@ -189,6 +187,7 @@ module _ {X A : Type 0} (kit : Kit X) (f : A → ℕ → X) where
         room = g.room;
         spare = omega (arith, g.spare, l);
         len = length-set new y w ∙ g.len;
+        far = g.far;
         near = near_next p q d i owed r g.near lt (subst (λ (x : ℕ). OpensParts calls w x p q (owed - 1) r) ue ops);
       }
         where
@@ -223,6 +222,7 @@ module _ {X A : Type 0} (kit : Kit X) (f : A → ℕ → X) where
         room = g.room;
         spare = omega (arith, g.spare, l);
         len = ln ∙ g.len;
+        far = g.far;
         near = λ j c. omega (arith, same j c, g.near j (omega (arith, c)));
       }
 
@@ -241,3 +241,24 @@ module _ {X A : Type 0} (kit : Kit X) (f : A → ℕ → X) where
 
           of_word : (t : Term) (a : A) → encode (put a t under) ≡ x ∷ [] → Put t a
           of_word t a e = (ap (sets new y) (sym e), ap (λ (l : List ℕ). length l) (sym e))
+
+  -- the loop's invariant: while a term is owed there is a word to read, room for one to write, and space for the depths of its parts
+  pub record Turn (calls words old : List ℕ) (d at m : ℕ) (p new : List ℕ) (owed i o : ℕ) : Type 0 where
+    pub trace : Trace calls words old d at m p new owed i o
+    pub inside : i + owed ≤ length words
+    pub spare : i + owed + m ≤ length p
+    pub kept : length new ≡ length old
+    pub room : 1 ≤ owed → at + o + 1 ≤ length new
+    pub opens : 1 ≤ owed
+        → (owed - 1 + 3 ≤ length p) × (owed - 1 + part_count calls (get_or words i 0) ≤ length p) × (get_or p (owed - 1) 0 ≤ 65536)
+
+  pub turn : {calls words old : List ℕ} {d at m : ℕ} {p new : List ℕ} {owed i o : ℕ} → 2 ≤ m
+      → Trace calls words old d at m p new owed i o → Turn calls words old d at m p new owed i o
+  turn {calls} {words} {d = d} {m = m} {p = p} two g = record {
+    trace = g;
+    inside = march_inside calls words g.going;
+    spare = omega (arith, march_within calls words g.going, g.spare);
+    kept = g.len;
+    room = λ lt. trace_room g lt _ _ refl refl;
+    opens = λ lt. opens_room p d m g.going g.near g.spare two lt g.far;
+  }

@@ -70,71 +70,72 @@ Counting p d u ts us = uses_all ts d ≡ u + ahead used p us
 pub record Tally (calls words p : List ℕ) (d owed at u : ℕ) : Type 0 where
   pub few : u ≤ at
   pub space : length words + 2 ≤ length p
+  pub far : d + length words ≤ 65536
   pub near : Near p owed (d + at)
   pub going : Marching calls words (Counting p d u) 1 at owed
+  pub inside : at + owed ≤ length words
+  pub opens : 1 ≤ owed
+      → (owed - 1 + 3 ≤ length p) × (owed - 1 + part_count calls (get_or words at 0) ≤ length p) × (get_or p (owed - 1) 0 ≤ 65536)
 
-pub count_begin : {calls words : List ℕ} (p : List ℕ) (d : ℕ) → Starts calls words → length words + 2 ≤ length p
+-- while a term is owed there is a word to read, and room for the depths of its parts
+tally : {calls words p : List ℕ} {d owed at u : ℕ} → u ≤ at → length words + 2 ≤ length p → d + length words ≤ 65536
+    → Near p owed (d + at) → Marching calls words (Counting p d u) 1 at owed → Tally calls words p d owed at u
+tally {calls} {words} {p} {d} few space far near going = record {
+  few = few;
+  space = space;
+  far = far;
+  near = near;
+  going = going;
+  inside = march_inside calls words going;
+  opens = λ lt. opens_room p d 2 going near (omega (arith, march_fits calls words going, space)) (omega arith) lt far;
+}
+
+pub count_begin : (calls words p : List ℕ) (d : ℕ) → Starts calls words → length words + 2 ≤ length p → d + length words ≤ 65536
     → Tally calls words (set p 0 d) d 1 0 0
 unfolding uses used
-count_begin {calls} {words} p d s sp =
+count_begin calls words p d s sp far =
     let l = length-set p 0 d in
-    record {
-      few = omega arith;
-      space = omega (arith, sp, l);
-      near = near_begin p d (omega (arith, sp));
-      going = march_from calls words (Counting (set p 0 d) d 0) 1 (one_starts s) λ ts e.
-          let a : ahead used (set p 0 d) ts ≡ uses_all ts d =
-          ahead_one used (set p 0 d) d ts e (get_or-set_same p 0 d 0 (omega (arith, sp))) in
-          omega (arith, a);
-    }
+    tally (omega arith) (omega (arith, sp, l)) far (near_begin p d (omega (arith, sp)))
+    (march_from calls words (Counting (set p 0 d) d 0) 1 (one_starts s) λ ts e.
+    let a : ahead used (set p 0 d) ts ≡ uses_all ts d =
+    ahead_one used (set p 0 d) d ts e (get_or-set_same p 0 d 0 (omega (arith, sp))) in
+    omega (arith, a))
 
 module _ {calls words p : List ℕ} {d owed at u : ℕ} (g : Tally calls words p d owed at u) where
-  pub tally_inside : at + owed ≤ length words
-  tally_inside = march_inside calls words g.going
-
   -- no term is owed
-  pub count_end : (r : Uses) → owed ≡ 0 → r.end ≡ at → r.uses ≡ u → CountsUses calls words d r
+  pub count_end : owed ≤ 0 → CountsUses calls words d (record { end = at; uses = u })
   unfolding uses ahead
-  count_end r z re ru = record {
-    few = omega (arith, g.few, re, ru);
-    within = omega (arith, tally_inside, re);
+  count_end z = record {
+    few = g.few;
+    within = omega (arith, g.inside);
     told = λ t rest h.
-        let e = march_end calls words g.going z (arg t done) rest (one_holds h) in
-        record { end_is = omega (arith, re, e.0, size_arg t done, size_done); uses_is = omega (arith, e.1, ru) };
+        let e = march_end calls words g.going (omega arith) (arg t done) rest (one_holds h) in
+        record { end_is = omega (arith, e.0, size_arg t done, size_done); uses_is = omega (arith, e.1) };
   }
 
-  module _ (lt : 1 ≤ owed) (far : d + length words ≤ 65536) where
-    -- the depths of the node's parts have room
-    pub tally_opens : (owed - 1 + 3 ≤ length p) × (owed - 1 + part_count calls (get_or words at 0) ≤ length p) × (get_or p (owed - 1) 0 ≤ 65536)
-    tally_opens = opens_room p d 2 g.going g.near (omega (arith, march_fits calls words g.going, g.space)) (omega arith) lt far
-
-    -- a node
-    pub count_node : (q : List ℕ) (s r : ℕ) → length q ≡ length p → s ≡ counts (eqb (get_or words at 0) (pack 0 (get_or p (owed - 1) 0) 0))
-        → s ≤ 1
-        → OpensParts calls (get_or words at 0) (get_or p (owed - 1) 0) p q (owed - 1) r → Tally calls words q d r (at + 1) (u + s)
-    unfolding ahead uses used
-    count_node q s r l se sl w =
-        let under = get_or p (owed - 1) 0 in
-        record {
-          few = omega (arith, g.few, sl);
-          space = omega (arith, g.space, l);
-          near = near_next p q d at owed r g.near lt w;
-          going = march_on calls words g.going lt (Counting q d (u + s)) r w.many λ ts rest v.
-              let c : owed - 1 ≡ count v.later = omega (arith, v.many) in
-              let o = outer v.term in
-              let i = inner v.term in
-              let a : ahead used q (joined o (joined i v.later)) ≡ uses_all o under + (uses_all i (suc under) + ahead used p v.later) =
-              ahead_opened used w.opened o i v.later c v.outers v.parts in
-              omega (
-                arith,
-                v.to_do,
-                se,
-                ap (λ (i : ℕ). uses v.term (get_or p i 0)) c,
-                ap (λ (x : ℕ). counts (eqb x (pack 0 under 0))) v.word,
-                uses_node v.term under (omega (arith, tally_opens.2)),
-                a,
-              );
-        }
+  -- a node
+  pub count_node : (q : List ℕ) (s r : ℕ) → 1 ≤ owed → length q ≡ length p
+      → (s ≡ counts (eqb (get_or words at 0) (pack 0 (get_or p (owed - 1) 0) 0))) × (s ≤ 1)
+      → OpensParts calls (get_or words at 0) (get_or p (owed - 1) 0) p q (owed - 1) r → Tally calls words q d r (at + 1) (u + s)
+  unfolding ahead uses used
+  count_node q s r lt l (se, sl) w =
+      let under = get_or p (owed - 1) 0 in
+      tally (omega (arith, g.few, sl)) (omega (arith, g.space, l)) g.far (near_next p q d at owed r g.near lt w)
+      (march_on calls words g.going lt (Counting q d (u + s)) r w.many λ ts rest v.
+      let c : owed - 1 ≡ count v.later = omega (arith, v.many) in
+      let o = outer v.term in
+      let i = inner v.term in
+      let a : ahead used q (joined o (joined i v.later)) ≡ uses_all o under + (uses_all i (suc under) + ahead used p v.later) =
+      ahead_opened used w.opened o i v.later c v.outers v.parts in
+      omega (
+        arith,
+        v.to_do,
+        se,
+        ap (λ (i : ℕ). uses v.term (get_or p i 0)) c,
+        ap (λ (x : ℕ). counts (eqb x (pack 0 under 0))) v.word,
+        uses_node v.term under (omega (arith, (g.opens lt).2)),
+        a,
+      ))
 
 -- a use count tells the size too
 pub counts_sized : {calls words : List ℕ} {n : ℕ} {r : Uses} → CountsUses calls words n r → Sized calls words r.end

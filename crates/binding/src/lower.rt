@@ -10,10 +10,7 @@ use words::fields::{kind, number};
 pub fn lowered(w: u64, depth: u64) -> u64
     ensures { result ≡ lowered_word depth w }
 {
-    if depth < number(w) {
-        return w - 1073741824;
-    }
-    w
+    if depth < number(w) { w - 1073741824 } else { w }
 }
 
 // lowers the variables of the part at the front past variable 0, which stays; `pending` has the depths of the parts still to come
@@ -21,20 +18,19 @@ pub fn lower_part(calls: &[u64], t: &mut [u64], pending: &mut [u64])
     requires { Starts calls.now t.old × (length t.old ≤ 65536) × (length t.old + 2 ≤ length pending.old) }
     ensures { Lowers calls.now t.old t.new }
 {
-    let mut owed: usize = 1;
-    let mut i: usize = 0;
     pending[0] = 0;
+    let mut owed = 1;
+    let mut at = 0;
     while 0 < owed {
-        let w = t[i];
+        let w = t[at];
         let last = owed - 1;
         let under = pending[last];
         if kind(w) == 0 {
-            t[i] = lowered(w, under);
+            t[at] = lowered(w, under);
             owed = last;
-            i += 1;
         } else {
             owed = open_parts(calls, w, under, pending, last);
-            i += 1;
         }
+        at += 1;
     }
 }

@@ -12,9 +12,10 @@ fn raised(w: u64, cut: u64, by: usize) -> u64
     ensures { result ≡ raised_word cut by w }
 {
     if cut <= number(w) {
-        return w + by as u64 * 1073741824;
+        w + by as u64 * 1073741824
+    } else {
+        w
     }
-    w
 }
 
 // writes the part at the front of src to dst from `at` on, its variables from `cut` on raised by `by`; answers its size;
@@ -32,22 +33,21 @@ pub fn rename_into(
         × (length src.now + 2 ≤ length pending.old) }
     ensures { Renames calls.now src.now dst.old dst.new at cut by result }
 {
-    let mut owed: usize = 1;
-    let mut i: usize = 0;
     pending[0] = cut as u64;
+    let mut owed = 1;
+    let mut size = 0;
     while 0 < owed {
-        let w = src[i];
+        let w = src[size];
         let last = owed - 1;
         let under = pending[last];
         if kind(w) == 0 {
-            dst[at + i] = raised(w, under, by);
+            dst[at + size] = raised(w, under, by);
             owed = last;
-            i += 1;
         } else {
-            dst[at + i] = w;
+            dst[at + size] = w;
             owed = open_parts(calls, w, under, pending, last);
-            i += 1;
         }
+        size += 1;
     }
-    i
+    size
 }

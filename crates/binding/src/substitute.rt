@@ -24,11 +24,11 @@ fn put_value(
     ensures { Raises calls.now value.now dst.old dst.new at by result }
 {
     if by == 0 {
-        let size = value.len();
-        copy(value, 0, size, dst, at);
-        return size;
+        copy(value, 0, value.len(), dst, at);
+        value.len()
+    } else {
+        rename_into(calls, value, dst, at, 0, by, pending)
     }
-    rename_into(calls, value, dst, at, 0, by, pending)
 }
 
 // writes the part at the front of body to dst from `at` on, with the value for the variable `depth`, the variables past it
@@ -47,33 +47,26 @@ pub fn substitute_into(
     ensures { Substitutes calls.now body.now value.now dst.old dst.new at
         depth }
 {
-    let mut owed: usize = 1;
-    let mut i: usize = 0;
-    let mut o: usize = 0;
     pending[0] = depth as u64;
+    let mut owed = 1;
+    let mut read = 0;
+    let mut written = 0;
     while 0 < owed {
-        let w = body[i];
+        let w = body[read];
         let last = owed - 1;
         let under = pending[last];
-        i += 1;
+        read += 1;
         if w == under * 1073741824 {
-            o = o
-                + put_value(
-                    calls,
-                    value,
-                    dst,
-                    at + o,
-                    under as usize,
-                    &mut pending[owed..],
-                );
+            let behind = &mut pending[owed..];
+            written += put_value(calls, value, dst, at + written, under as usize, behind);
             owed = last;
         } else if kind(w) == 0 {
-            dst[at + o] = lowered(w, under);
-            o += 1;
+            dst[at + written] = lowered(w, under);
+            written += 1;
             owed = last;
         } else {
-            dst[at + o] = w;
-            o += 1;
+            dst[at + written] = w;
+            written += 1;
             owed = open_parts(calls, w, under, pending, last);
         }
     }

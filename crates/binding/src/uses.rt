@@ -19,10 +19,7 @@ fn is_variable(w: u64, depth: u64) -> usize
     requires { depth ≤ 131072 }
     ensures { (result ≡ counts (eqb w (pack 0 depth 0))) × (result ≤ 1) }
 {
-    if w == depth * 1073741824 {
-        return 1;
-    }
-    0
+    usize::from(w == depth * 1073741824)
 }
 
 // where the part at the front ends, and how often it uses the variable `depth`; `pending` has the depths of the parts still to come
@@ -30,20 +27,17 @@ pub fn count_uses(calls: &[u64], t: &[u64], depth: usize, pending: &mut [u64]) -
     requires { Starts calls.now t.now × (depth + length t.now ≤ 65536) × (length t.now + 2 ≤ length pending.old) }
     ensures { CountsUses calls.now t.now depth result }
 {
-    let mut owed: usize = 1;
-    let mut at: usize = 0;
-    let mut uses: usize = 0;
     pending[0] = depth as u64;
+    let mut owed = 1;
+    let mut end = 0;
+    let mut uses = 0;
     while 0 < owed {
-        let w = t[at];
+        let w = t[end];
         let last = owed - 1;
         let under = pending[last];
-        uses = uses + is_variable(w, under);
+        uses += is_variable(w, under);
         owed = open_parts(calls, w, under, pending, last);
-        at += 1;
+        end += 1;
     }
-    Uses {
-        end: at,
-        uses: uses,
-    }
+    Uses { end, uses }
 }

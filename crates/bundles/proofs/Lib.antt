@@ -1,8 +1,10 @@
 pub mod PartsRead
+pub mod BytePairs
 pub mod Bytes
 pub mod Readable
 pub mod Hexadecimal
 pub mod Decimal
+pub mod DecimalByDivision
 pub mod FieldsWritten
 pub mod ListedFields
 pub mod FieldsPut

@@ -1,5 +1,5 @@
 -- The outcome of `read_bundle`: the words are written if the bytes are a bundle that the slice has room for, and otherwise it refuses.
-use Rattle.std.proofs.Common.{◌≡◌, ℕ, ◌+◌, ◌-◌, ◌*◌, ◌%◌, ◌^◌, ◌≤◌, ◌⊎◌, inl, inr, Bool, true, false, List, ◌++◌, length, take, drop, refl, ap, arith, length-drop, length-take-le}
+use Rattle.std.proofs.Common.{◌≡◌, ℕ, ◌+◌, ◌-◌, ◌*◌, ◌%◌, ◌^◌, ◌<◌, ◌≤◌, ◌⊎◌, inl, inr, Bool, true, false, List, ◌++◌, length, take, drop, refl, ap, arith, length-drop, length-take-le}
 use Rattle.std.proofs.lemmas.List.{take_all}
 use Rattle.std.proofs.lemmas.Bool.Decides.{nat_tests}
 use Rattle.outcomes.specs.Buffers.{overwrite}
@@ -47,3 +47,26 @@ bundle_read bytes slice words l n b e t w =
     let enough : n ≤ length slice = omega (arith, ap total e, b.room) in
     let rest : take (length bytes - 8) (drop 8 bytes) ≡ drop 8 bytes = take_all (length bytes - 8) (drop 8 bytes) (omega (arith, length-drop 8 bytes)) in
     rw (is_readable bytes (length slice) b, read_bundle_outcome, ← e, ← t, length-words n (drop 8 bytes), w, length-take-le n slice enough, rest)
+
+-- the reasons to refuse, one by one
+module _ (bytes slice : List ℕ) where
+  refused : (IsBundle bytes (length slice) → ⊥) → read_bundle_outcome bytes slice ≡ refusal slice
+  refused fails = elim (refused_or bytes slice) [
+    | inl e ↦ e
+    | inr b ↦ absurd (fails b)
+  ]
+
+  pub too_long : 65536 < length bytes → read_bundle_outcome bytes slice ≡ refusal slice
+  too_long h = refused λ b. omega (arith, b.few)
+
+  pub too_short : length bytes < 8 → read_bundle_outcome bytes slice ≡ refusal slice
+  too_short h = refused λ b. omega (arith, b.some)
+
+  pub low_bits : 0 < header_of bytes % 2 ^ 12 → read_bundle_outcome bytes slice ≡ refusal slice
+  low_bits h = refused λ b. omega (arith, b.low_bits)
+
+  pub wrong_length : (length bytes ≡ 8 * (1 + total (lengths_of (header_of bytes))) → ⊥) → read_bundle_outcome bytes slice ≡ refusal slice
+  wrong_length fails = refused λ b. fails b.length_is
+
+  pub no_room : length slice < total (lengths_of (header_of bytes)) → read_bundle_outcome bytes slice ≡ refusal slice
+  no_room h = refused λ b. omega (arith, b.room)

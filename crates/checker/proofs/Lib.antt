@@ -17,4 +17,4 @@ pub mod InferTurns
 pub mod DecodedTerm
 pub mod TermPlaces
 pub mod Verdicts
-pub mod Agreement
+pub mod ArgumentFields

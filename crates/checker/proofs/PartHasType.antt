@@ -194,20 +194,6 @@ module _ (types calls inputs words : List ℕ) where
       binders_are : binders_at (kind_of (get_or words f.place 0)) f.part ≡ binders_at (kind_of (get_or words p 0)) j
       binders_are = ap₂ {C = ℕ} (λ (n m : ℕ). binders_at (kind_of (get_or words n 0)) m) place_is part_is
 
-      pub record Inside : Type 0 where
-        pub place : p < length words
-        pub few : j ≤ 2
-        pub low : j + 1 ≤ top
-        pub binders : binders_at (kind_of (get_or words p 0)) j ≤ depth
-
-      pub head_inside : Inside
-      head_inside = record {
-        place = omega (arith, place_is, i.kept.inside);
-        few = omega (arith, part_is, i.kept.many, i.kept.few);
-        low = omega (arith, part_is, i.kept.ends);
-        binders = omega (arith, binders_are, i.kept.deep);
-      }
-
       module _ (base outside : ℕ) (be : base ≡ last - j) (oe : outside ≡ depth - binders_at (kind_of (get_or words p 0)) j) where
         moved : (P : (last base p j outside : ℕ) → Type 0) → P (f.base + f.part) f.base f.place f.part f.depth
             → P last base p j outside

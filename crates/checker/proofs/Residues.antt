@@ -1,21 +1,26 @@
 -- Words marked by their residue, from the last to the first: only words of one residue have to be compared.
-use mathlib.Core.Path.{◌≡◌, refl, sym, ◌∙◌, ap, subst}
+use mathlib.Core.Path.{◌≡◌, refl, sym, ◌∙◌, ap, ap₂, subst}
 use mathlib.Core.Bool.{Bool, true, false, ◌&&◌, not, and-false}
-use mathlib.Core.List.{List, [], ◌∷◌}
-use Prim.Native.Nat.{ℕ, zero, suc, ◌-◌, ◌≤◌, ◌<◌}
+use mathlib.Core.List.{List, [], ◌∷◌, ◌++◌, append_assoc, append-nil}
+use Prim.Native.Nat.{ℕ, ◌+◌, ◌-◌, ◌<◌}
 use native.Mathlib.Omega.{arith}
 use native.Mathlib.Nat.{mod-lt}
 use lib.Dec.{eqb}
-use lib.ListN.{length, get_or, drop, take, set, length-set, drop_of_length-le}
-use lib.Seq.{drop-cons, get_or-set_same, get_or-set_other}
+use lib.ListN.{length, get_or, drop, take, set, length-set}
+use lib.Seq.{drop-append-add, get_or-set_same, get_or-set_other}
 use borrow.Author.Tests.{eqb-true, eqb-false, ne_eqb}
+use Rattle.std.proofs.lemmas.Bool.Decides.{nat_tests}
+use Rattle.std.specs.List.{list_any, push}
 use Rattle.syntax.proofs.Nodes.{tail_part}
 use Rattle.typing.specs.TableChecks.{every, distinct}
 use Rattle.checker.specs.Residues.{residue_of, Noted, noted_none, noted_more}
-use Rattle.checker.proofs.Every.{told_true, told_false}
 
 abbrev absent : ℕ → List ℕ → Bool
 absent w ws = every (λ x. not (eqb w x)) ws
+
+every_same : (f g : ℕ → Bool) (ws : List ℕ) → ((x : ℕ) → f x ≡ g x) → every f ws ≡ every g ws
+every_same f g [] h = refl
+every_same f g (w ∷ ws) h = ap₂ {C = Bool} (λ a b. a && b) (h w) (every_same f g ws h)
 
 -- a word whose residue r has no mark is none of those that have theirs
 pub unmarked_absent : {marks ws : List ℕ} (w : ℕ) {r : ℕ} → Noted marks ws → r ≡ residue_of w → get_or marks r 0 ≡ 0 → true ≡ absent w ws
@@ -25,6 +30,24 @@ unmarked_absent {marks} w {r} (noted_more {w = x} {ws = ws} m n) e z =
   where
     other : w ≡ x → ⊥
     other q = let s : get_or marks (residue_of x) 0 ≡ 0 = subst (λ (k : ℕ). get_or marks k 0 ≡ 0) (e ∙ ap residue_of q) z in omega (arith, m, s)
+
+-- as the code tells it of a test
+module _ (ws : List ℕ) (test : ℕ → Bool) where
+  pub unmarked_told : (w : ℕ) (marks : List ℕ) (r : ℕ) → r ≡ residue_of w → Noted marks ws → get_or marks r 0 ≡ 0
+      → ((x : ℕ) → test x ≡ not (eqb w x)) → eqb (get_or marks r 0) 0 ≡ every test ws
+  unmarked_told w marks r e n z same = rw z (unmarked_absent w n e z ∙ sym (every_same test _ ws same))
+
+  pub contained_told : (hit : ℕ → Bool) (b : Bool) → b ≡ list_any hit ws → ((x : ℕ) → not (hit x) ≡ test x) → not b ≡ every test ws
+  contained_told hit b e same = ap not e ∙ go ws
+    where
+      go : (xs : List ℕ) → not (list_any hit xs) ≡ every test xs
+      go [] = refl
+      go (x ∷ xs) = grind (arith, nat_tests, go xs, same x)
+
+pub unequal_comm : (x w : ℕ) → not (eqb x w) ≡ not (eqb w x)
+unequal_comm x w = grind (arith, nat_tests)
+
+pub ruleset absent_told = (unmarked_told, contained_told, unequal_comm)
 
 -- a further mark keeps the others
 marked_set : (marks : List ℕ) (i j : ℕ) → 0 < get_or marks j 0 → j < length marks → 0 < get_or (set marks i 1) j 0
@@ -41,58 +64,70 @@ noted_set : {marks ws : List ℕ} (i : ℕ) → length marks ≡ 16381 → Noted
 noted_set i l noted_none = noted_none
 noted_set {marks} i l (noted_more {w = w} m n) = noted_more (marked_set marks i (residue_of w) m (residue_below marks w l)) (noted_set i l n)
 
--- a word that is duplicated from i on is duplicated in the whole
-distinct_drop : (i : ℕ) (ws : List ℕ) → distinct (drop i ws) ≡ false → distinct ws ≡ false
+-- a word that is duplicated in the words behind is duplicated in the whole
+distinct_behind : (front ws : List ℕ) → distinct ws ≡ false → distinct (front ++ ws) ≡ false
 unfolding distinct
-distinct_drop zero ws e = e
-distinct_drop (suc i) [] e = e
-distinct_drop (suc i) (w ∷ ws) e = ap (λ (b : Bool). absent w ws && b) (distinct_drop i ws e) ∙ and-false (absent w ws)
+distinct_behind [] ws e = e
+distinct_behind (x ∷ xs) ws e = ap (λ (b : Bool). absent x (xs ++ ws) && b) (distinct_behind xs ws e) ∙ and-false (absent x (xs ++ ws))
 
--- the words from i on are distinct, and their residues are marked
-pub record Apart (types marks : List ℕ) (i : ℕ) : Type 0 where
-  pub within : i ≤ length types
+-- the words behind those of the front are distinct, and their residues are marked
+pub record Apart (types marks front : List ℕ) : Type 0 where
+  pub behind : List ℕ
+  pub split : types ≡ front ++ behind
   pub len : length marks ≡ 16381
-  pub noted : Noted marks (drop i types)
-  pub apart : distinct (drop i types) ≡ true
+  pub noted : Noted marks behind
+  pub apart : distinct behind ≡ true
 
-pub apart_start : {types marks : List ℕ} → length marks ≡ 16381 → Apart types marks (length types)
+pub apart_start : {types marks front : List ℕ} → front ≡ types → length marks ≡ 16381 → Apart types marks front
 unfolding distinct
-apart_start {types} {marks} l =
-    let e = drop_of_length-le types {i = length types} (omega arith) in
-    record { within = omega arith; len = l; noted = subst (Noted marks) (sym e) noted_none; apart = ap distinct e }
+apart_start {front = front} e l = record {
+  behind = [];
+  split = sym (append-nil front ∙ e);
+  len = l;
+  noted = noted_none;
+  apart = refl;
+}
 
-pub apart_end : {types marks : List ℕ} {i : ℕ} → Apart types marks i → i ≤ 0 → true ≡ distinct types
-apart_end {types} {i = i} a h = let e : i ≡ 0 = omega arith in sym (subst (λ (k : ℕ). distinct (drop k types) ≡ true) e a.apart)
+pub apart_end : {types marks front : List ℕ} → Apart types marks front → length front ≡ 0 → true ≡ distinct types
+apart_end {front = []} a z = sym (ap distinct a.split ∙ a.apart)
+apart_end {front = x ∷ xs} a z = absurd (omega (arith, z))
 
--- behind the word at i - 1 is the part of the slice that runs to its end
-pub rest_noted : {types marks : List ℕ} {i : ℕ} → Apart types marks i → Noted marks (take (length types - i) (drop i types))
-rest_noted {types} {marks} {i} a = subst (Noted marks) (sym (tail_part types i)) a.noted
+-- the last word of the front
+module _ {types marks front : List ℕ} (a : Apart types marks front) (rest : List ℕ) (w i n : ℕ) (se : front ≡ push rest w)
+    (ne : i ≡ n + length rest) (z : n ≡ 0) where
+  ie : i ≡ length rest
+  ie = omega (arith, ne, z)
 
-module _ {types marks : List ℕ} {i : ℕ} {b : Bool} (a : Apart types marks i) (h : 0 < i)
-    (e : b ≡ absent (get_or types (i - 1) 0) (take (length types - i) (drop i types))) where
-  abbrev w : ℕ
-  w = get_or types (i - 1) 0
+  split_last : types ≡ rest ++ (w ∷ a.behind)
+  split_last = a.split ∙ ap (λ (l : List ℕ). l ++ a.behind) se ∙ append_assoc rest (w ∷ []) a.behind
 
-  behind : b ≡ absent w (drop i types)
-  behind = e ∙ ap (absent w) (tail_part types i)
+  behind_is : drop (i + 1) types ≡ a.behind
+  behind_is = ap (λ (n : ℕ). drop (n + 1) types) ie ∙ ap (drop (length rest + 1)) split_last ∙ drop-append-add rest (w ∷ a.behind) 1
 
-  from : drop (i - 1) types ≡ w ∷ drop i types
-  from = let s : suc (i - 1) ≡ i = omega arith in drop-cons types (i - 1) 0 (omega (arith, a.within)) ∙ ap (λ (k : ℕ). w ∷ drop k types) s
+  slice_is : take (length types - (i + 1)) (drop (i + 1) types) ≡ a.behind
+  slice_is = tail_part types (i + 1) ∙ behind_is
 
-  distinct_from : distinct (drop (i - 1) types) ≡ (absent w (drop i types) && distinct (drop i types))
-  unfolding distinct
-  distinct_from = ap distinct from
+  pub rest_noted : Noted marks (take (length types - (i + 1)) (drop (i + 1) types))
+  rest_noted = subst (Noted marks) (sym slice_is) a.noted
 
-  pub apart_not : not b ≡ true → false ≡ distinct types
-  apart_not f = sym (distinct_drop (i - 1) types (distinct_from ∙ ap (λ (x : Bool). x && distinct (drop i types)) (told_false behind f)))
+  module _ {b : Bool} (e : b ≡ absent w (take (length types - (i + 1)) (drop (i + 1) types))) where
+    told : absent w a.behind ≡ b
+    told = sym (e ∙ ap (absent w) slice_is)
 
-  pub apart_next : not b ≡ false → {r : ℕ} → r ≡ residue_of w → Apart types (set marks r 1) (i - 1)
-  apart_next f {r} q = record {
-    within = omega (arith, a.within);
-    len = length-set marks r 1 ∙ a.len;
-    noted = subst (Noted (set marks r 1)) (sym from) (noted_more fresh (noted_set r a.len a.noted));
-    apart = distinct_from ∙ ap (λ (x : Bool). x && distinct (drop i types)) (told_true behind f) ∙ a.apart;
-  }
-    where
-      fresh : 0 < get_or (set marks r 1) (residue_of w) 0
-      fresh = rw (q, get_or-set_same marks (residue_of w) 1 0 (residue_below marks w a.len)) (omega arith)
+    pub apart_not : b ≡ false → false ≡ distinct types
+    unfolding distinct
+    apart_not f = sym (ap distinct split_last
+        ∙ distinct_behind rest (w ∷ a.behind) (ap (λ (x : Bool). x && distinct a.behind) (told ∙ f)))
+
+    pub apart_next : b ≡ true → {r : ℕ} → r ≡ residue_of w → Apart types (set marks r 1) rest
+    unfolding distinct
+    apart_next f {r} q = record {
+      behind = w ∷ a.behind;
+      split = split_last;
+      len = length-set marks r 1 ∙ a.len;
+      noted = noted_more fresh (noted_set r a.len a.noted);
+      apart = ap (λ (x : Bool). x && distinct a.behind) (told ∙ f) ∙ a.apart;
+    }
+      where
+        fresh : 0 < get_or (set marks r 1) (residue_of w) 0
+        fresh = rw (q, get_or-set_same marks (residue_of w) 1 0 (residue_below marks w a.len)) (omega arith)

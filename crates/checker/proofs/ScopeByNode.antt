@@ -77,6 +77,7 @@ Scoping p m ts us = scoped_all ts m ≡ ahead inside p us
 
 -- the loop's invariant
 pub record Scan (calls words p : List ℕ) (m owed at : ℕ) : Type 0 where
+  pub within : at + owed ≤ length words
   pub space : length words + 2 ≤ length p
   pub near : Near p owed (m + at)
   pub going : Marching calls words (Scoping p m) 1 at owed
@@ -84,17 +85,17 @@ pub record Scan (calls words p : List ℕ) (m owed at : ℕ) : Type 0 where
 pub scan_begin : {calls words : List ℕ} (p : List ℕ) (m : ℕ) → Starts calls words → length words + 2 ≤ length p
     → Scan calls words (set p 0 m) m 1 0
 unfolding scoped_all inside
-scan_begin {calls} {words} p m s sp = record {
-  space = omega (arith, sp, length-set p 0 m);
-  near = near_begin p m (omega (arith, sp));
-  going = march_from calls words (Scoping (set p 0 m) m) 1 (one_starts s) λ ts e.
-      sym (ahead_one inside (set p 0 m) m ts e (get_or-set_same p 0 m 0 (omega (arith, sp))));
-}
+scan_begin {calls} {words} p m s sp =
+    let going = march_from calls words (Scoping (set p 0 m) m) 1 (one_starts s) λ ts e.
+    sym (ahead_one inside (set p 0 m) m ts e (get_or-set_same p 0 m 0 (omega (arith, sp)))) in
+    record {
+      within = march_inside calls words going;
+      space = omega (arith, sp, length-set p 0 m);
+      near = near_begin p m (omega (arith, sp));
+      going = going;
+    }
 
 module _ {calls words p : List ℕ} {m owed at : ℕ} (g : Scan calls words p m owed at) where
-  pub scan_inside : at + owed ≤ length words
-  scan_inside = march_inside calls words g.going
-
   -- no term is owed
   pub scan_end : owed ≡ 0 → Scopes calls m words true
   unfolding scoped_all ahead
@@ -108,21 +109,21 @@ module _ {calls words p : List ℕ} {m owed at : ℕ} (g : Scan calls words p m 
 
     -- the node at the front is in scope if its variable is, and its parts are
     at_node : {ts : Terms} {rest : List ℕ} (v : Visit calls words (Scoping p m) at owed ts rest) (b : Bool)
-        → below under (variable_of (get_or words at 0)) ≡ b
+        → b ≡ below under (variable_of (get_or words at 0))
         → scoped_all ts m
         ≡ ((b && (scoped_all (outer v.term) under && scoped_all (inner v.term) (suc under))) && ahead inside p v.later)
     unfolding ahead inside as_var
     at_node v b e =
         let c : count v.later ≡ owed - 1 = omega (arith, v.many) in
         let own : below under (as_var v.term) ≡ b =
-        ap₂ (λ (k n : ℕ). below under (given (eqb k 0) n)) (sym v.kind) (sym v.number) ∙ e in
+        ap₂ (λ (k n : ℕ). below under (given (eqb k 0) n)) (sym v.kind) (sym v.number) ∙ sym e in
         let parts = scoped_all (outer v.term) under && scoped_all (inner v.term) (suc under) in
         v.to_do
         ∙ ap (λ (i : ℕ). scoped_at (get_or p i 0) v.term && ahead inside p v.later) c
         ∙ ap (λ (x : Bool). x && ahead inside p v.later) (scoped_binding under v.term ∙ ap (λ (x : Bool). x && parts) own)
 
     -- a variable is out of scope
-    pub scan_out : below under (variable_of (get_or words at 0)) ≡ false → Scopes calls m words false
+    pub scan_out : false ≡ below under (variable_of (get_or words at 0)) → Scopes calls m words false
     unfolding scoped_all
     scan_out e t rest h =
         let v = visit calls words g.going lt (arg t done) rest (one_holds h) in
@@ -134,16 +135,19 @@ module _ {calls words p : List ℕ} {m owed at : ℕ} (g : Scan calls words p m 
       scan_opens = opens_room p m 2 g.going g.near (omega (arith, march_fits calls words g.going, g.space)) (omega arith) lt far
 
       -- a node in scope
-      pub scan_node : (q : List ℕ) (r : ℕ) → length q ≡ length p → below under (variable_of (get_or words at 0)) ≡ true
+      pub scan_node : (q : List ℕ) (r : ℕ) → length q ≡ length p → true ≡ below under (variable_of (get_or words at 0))
           → OpensParts calls (get_or words at 0) under p q (owed - 1) r → Scan calls words q m r (at + 1)
       unfolding inside
-      scan_node q r l e w = record {
-        space = omega (arith, g.space, l);
-        near = near_next p q m at owed r g.near lt w;
-        going = march_on calls words g.going lt (Scoping q m) r w.many λ ts rest v.
-            let c : owed - 1 ≡ count v.later = omega (arith, v.many) in
-            let o = outer v.term in
-            let i = inner v.term in
-            at_node v true e ∙ and_assoc (scoped_all o under) (scoped_all i (suc under)) (ahead inside p v.later)
-            ∙ sym (ahead_opened inside w.opened o i v.later c v.outers v.parts);
-      }
+      scan_node q r l e w =
+          let going = march_on calls words g.going lt (Scoping q m) r w.many λ ts rest v.
+          let c : owed - 1 ≡ count v.later = omega (arith, v.many) in
+          let o = outer v.term in
+          let i = inner v.term in
+          at_node v true e ∙ and_assoc (scoped_all o under) (scoped_all i (suc under)) (ahead inside p v.later)
+          ∙ sym (ahead_opened inside w.opened o i v.later c v.outers v.parts) in
+          record {
+            within = march_inside calls words going;
+            space = omega (arith, g.space, l);
+            near = near_next p q m at owed r g.near lt w;
+            going = going;
+          }

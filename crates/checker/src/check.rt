@@ -43,20 +43,34 @@ fn typed_in(
     infer(types, calls, inputs, stack, nodes, term).ok_or(Refusal::Type)
 }
 
-// the same in buffers of its own. A short term has short buffers: to clear those of the longest term takes longer than to check it.
+// the same in buffers of its own, of so many words
+fn typed_with<const N: usize>(
+    types: &[u64],
+    calls: &[u64],
+    inputs: &[u64],
+    term: &[u64],
+) -> Result<u64, Refusal>
+    requires starts { Starts calls.now term.now }
+    requires lengths { (length inputs.now ≤ 256) × (length term.now ≤ other_limit) }
+    requires room { (length term.now + 2 ≤ N) × (N ≤ 65536) }
+    ensures { Types (over types.now calls.now inputs.now) term.now (check_answer result) }
+{
+    let mut stack = [0; N];
+    let mut nodes = [0; N];
+    typed_in(types, calls, inputs, term, &mut stack, &mut nodes)
+}
+
+// A short term has short buffers: to clear those of the longest term takes longer than to check it.
 fn typed(types: &[u64], calls: &[u64], inputs: &[u64], term: &[u64]) -> Result<u64, Refusal>
     requires starts { Starts calls.now term.now }
     requires lengths { (length inputs.now ≤ 256) × (length term.now ≤ other_limit) }
     ensures { Types (over types.now calls.now inputs.now) term.now (check_answer result) }
 {
     if term.len() + 2 <= SHORT {
-        let mut stack: [u64; SHORT] = [0; SHORT];
-        let mut nodes: [u64; SHORT] = [0; SHORT];
-        return typed_in(types, calls, inputs, term, &mut stack, &mut nodes);
+        typed_with::<SHORT>(types, calls, inputs, term)
+    } else {
+        typed_with::<PENDING>(types, calls, inputs, term)
     }
-    let mut stack: [u64; PENDING] = [0; PENDING];
-    let mut nodes: [u64; PENDING] = [0; PENDING];
-    typed_in(types, calls, inputs, term, &mut stack, &mut nodes)
 }
 
 // the type check of a term of up to so many words: place by place

@@ -103,10 +103,10 @@ pub fn infer(
     requires starts { Starts calls.now term.now }
     ensures { Infers (over types.now calls.now inputs.now) inputs.now term.now result }
 {
-    let mut at: usize = 0;
-    let mut top: usize = 0;
-    let mut depth: usize = 0;
-    let mut typed: Option<u64> = None;
+    let mut at = 0;
+    let mut top = 0;
+    let mut depth = 0;
+    let mut typed = None;
     loop {
         let Some(a) = typed else {
             match begin(types, calls, inputs, stack, depth, &term[at..])? {

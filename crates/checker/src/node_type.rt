@@ -53,7 +53,7 @@ fn form(k: u64) -> u64
 }
 
 // whether the first types are those of a call's arguments
-#[tactic(auto, using(crate::proofs::Agreement::agrees_before))]
+#[tactic(auto, using(crate::proofs::ArgumentFields::agrees_before))]
 fn arguments_agree(w: u64, a: u64, b: u64, c: u64) -> bool
     ensures { result ≡ equal (take (arity_of w) (a ∷ b ∷ c ∷ [])) (take (arity_of w) (argument_fields w)) }
 {

@@ -11,10 +11,7 @@ use words::fields::{kind, number};
 fn in_scope(w: u64, depth: u64) -> bool
     ensures { result ≡ below depth (variable_of w) }
 {
-    if kind(w) == 0 {
-        return number(w) < depth;
-    }
-    true
+    kind(w) != 0 || number(w) < depth
 }
 
 // 8: whether the variables of the first term are in scope; `pending` has the depths of the parts still to come
@@ -24,8 +21,9 @@ pub fn scoped(calls: &[u64], bound: usize, term: &[u64], pending: &mut [u64]) ->
     requires space { length term.now + 2 ≤ length pending.old }
     ensures { Scopes calls.now bound term.now result }
 {
-    let mut owed: usize = 1;
-    let mut at: usize = 0;
+    let mut owed = 1;
+    // kept: counted by hand, since the loop ends when nothing is owed: a `for` over the words would ask each time whether they end, too
+    let mut at = 0;
     pending[0] = bound as u64;
     while 0 < owed {
         let w = term[at];

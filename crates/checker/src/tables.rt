@@ -12,74 +12,35 @@ use outcomes::Refusal;
 use words::fields::{argument, arguments, kind, number, result, ty};
 
 // 1: the lengths of the tables and of the term
+#[tactic(auto, unfolding(typing::specs::TableChecks::lengths_fit))]
 pub fn lengths_fit(limit: usize, types: &[u64], calls: &[u64], inputs: &[u64], term: &[u64]) -> bool
     ensures { result ≡ lengths_fit limit (over types.now calls.now inputs.now) term.now }
 {
-    if 1024 < types.len() {
-        return false;
-    }
-    if 1024 < calls.len() {
-        return false;
-    }
-    if 256 < inputs.len() {
-        return false;
-    }
-    if limit < term.len() {
-        return false;
-    }
-    1 <= term.len()
+    types.len() <= 1024
+        && calls.len() <= 1024
+        && inputs.len() <= 256
+        && term.len() <= limit
+        && 1 <= term.len()
 }
 
 // 2: a type word at its index
 fn type_fits(i: usize, w: u64) -> bool
     ensures { result ≡ well_formed_type i w }
 {
-    let k = kind(w);
-    let right = ty(w) as usize;
-    if k == 0 {
-        return right == 0;
-    }
-    if 4 < k {
-        return false;
-    }
     let left = number(w) as usize;
-    if k == 4 {
-        if left == 0 {
-            return right == 0;
-        }
-        return false;
+    let right = ty(w) as usize;
+    match kind(w) {
+        0 => right == 0,
+        1..=3 => left < i && right < i,
+        4 => left == 0 && right == 0,
+        _ => false,
     }
-    if left < i {
-        return right < i;
-    }
-    false
 }
 
 fn types_fit(types: &[u64]) -> bool
     ensures { result ≡ well_formed_types 0 types.now }
 {
-    let mut i: usize = 0;
-    while i < types.len() {
-        if !type_fits(i, types[i]) {
-            return false;
-        }
-        i += 1;
-    }
-    true
-}
-
-// 3: whether a word does not stand among others
-fn absent(words: &[u64], w: u64) -> bool
-    ensures { result ≡ every (λ x. not (eqb w x)) words.now }
-{
-    let mut i: usize = 0;
-    while i < words.len() {
-        if w == words[i] {
-            return false;
-        }
-        i += 1;
-    }
-    true
+    types.iter().enumerate().all(|(i, w)| type_fits(i, *w))
 }
 
 // one mark for each residue by a prime: equal words have equal residues
@@ -91,30 +52,25 @@ fn residue(w: u64) -> usize
     w as usize % RESIDUES
 }
 
-// the same as `absent`, of words whose residues are marked
-fn absent_marked(marks: &[u8; RESIDUES], words: &[u64], w: u64) -> bool
+// 3: whether a word does not stand among others, whose residues are marked
+#[tactic(auto, using(crate::proofs::Residues::absent_told))]
+fn absent(marks: &[u8; RESIDUES], words: &[u64], w: u64) -> bool
     requires { Noted marks.now words.now }
     ensures { result ≡ every (λ x. not (eqb w x)) words.now }
 {
-    if marks[residue(w)] == 0 {
-        return true;
-    }
-    absent(words, w)
+    marks[residue(w)] == 0 || !words.contains(&w)
 }
 
 // from the last word to the first, each against those behind it
 fn distinct(types: &[u64]) -> bool
     ensures { result ≡ distinct_of types.now }
 {
-    let mut marks: [u8; RESIDUES] = [0; RESIDUES];
-    let mut i = types.len();
-    while 0 < i {
-        let w = types[i - 1];
-        if !absent_marked(&marks, &types[i..], w) {
+    let mut marks = [0; RESIDUES];
+    for (i, w) in types.iter().enumerate().rev() {
+        if !absent(&marks, &types[i + 1..], *w) {
             return false;
         }
-        marks[residue(w)] = 1;
-        i -= 1;
+        marks[residue(*w)] = 1;
     }
     true
 }
@@ -124,57 +80,33 @@ pub fn field_fits(used: bool, bound: usize, x: u64) -> bool
     ensures { result ≡ field_fits used bound x }
 {
     let n = x as usize;
-    if used {
-        return n < bound;
-    }
-    n == 0
+    if used { n < bound } else { n == 0 }
 }
 
 // 4: a call word over so many types
+#[tactic(auto, using(crate::proofs::ArgumentFields::call_by_fields))]
 fn call_fits(types: usize, w: u64) -> bool
     ensures { result ≡ well_formed_call types w }
 {
     let n = arguments(w);
-    if 3 < n {
-        return false;
-    }
-    if types <= result(w) as usize {
-        return false;
-    }
-    if !field_fits(0 < n, types, argument(w, 0)) {
-        return false;
-    }
-    if !field_fits(1 < n, types, argument(w, 1)) {
-        return false;
-    }
-    field_fits(2 < n, types, argument(w, 2))
+    n <= 3
+        && (result(w) as usize) < types
+        && field_fits(0 < n, types, argument(w, 0))
+        && field_fits(1 < n, types, argument(w, 1))
+        && field_fits(2 < n, types, argument(w, 2))
 }
 
 fn calls_fit(types: &[u64], calls: &[u64]) -> bool
     ensures { result ≡ well_formed_calls (over types.now calls.now []) }
 {
-    let mut i: usize = 0;
-    while i < calls.len() {
-        if !call_fits(types.len(), calls[i]) {
-            return false;
-        }
-        i += 1;
-    }
-    true
+    calls.iter().all(|w| call_fits(types.len(), *w))
 }
 
 // 5: each input is a known type
 fn inputs_fit(types: &[u64], inputs: &[u64]) -> bool
     ensures { result ≡ well_formed_inputs (over types.now [] inputs.now) }
 {
-    let mut i: usize = 0;
-    while i < inputs.len() {
-        if types.len() <= inputs[i] as usize {
-            return false;
-        }
-        i += 1;
-    }
-    true
+    inputs.iter().all(|a| (*a as usize) < types.len())
 }
 
 // 2 to 5: the first test that fails decides

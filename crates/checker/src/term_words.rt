@@ -10,38 +10,22 @@ use words::ends::part_end;
 use words::fields::{kind, number, ty};
 use words::shape::shape_of;
 
-// a term word
+// a term word; a variable's number is checked in 8
 fn word_fits(types: &[u64], calls: &[u64], w: u64) -> bool
     ensures { result ≡ well_formed_word (over types.now calls.now []) w }
 {
     let k = kind(w);
-    if 11 < k {
-        return false;
-    }
     let s = shape_of(k);
-    let fits = field_fits(s.ty, types.len(), ty(w));
-    // a variable's number is checked in 8
-    if k == 0 {
-        return fits;
-    }
-    if field_fits(s.number, calls.len(), number(w)) {
-        return fits;
-    }
-    false
+    k <= 11
+        && field_fits(s.ty, types.len(), ty(w))
+        && (k == 0 || field_fits(s.number, calls.len(), number(w)))
 }
 
 // 6: every term word
 pub fn words_fit(types: &[u64], calls: &[u64], term: &[u64]) -> bool
     ensures { result ≡ well_formed_words (over types.now calls.now []) term.now }
 {
-    let mut i: usize = 0;
-    while i < term.len() {
-        if !word_fits(types, calls, term[i]) {
-            return false;
-        }
-        i += 1;
-    }
-    true
+    term.iter().all(|w| word_fits(types, calls, *w))
 }
 
 // 7: whether the words are one part, neither more nor less. Those that pass 6 then stand for a term: laws `whole-decoded`, `not-whole`.

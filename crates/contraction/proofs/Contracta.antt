@@ -16,6 +16,7 @@ use Rattle.binding.specs.Writes.{RoomFor, Substitutes}
 use Rattle.words.proofs.PartsAt.{held_inside, held_words, held_first}
 use Rattle.words.proofs.Sized.{same_size}
 use Rattle.words.proofs.Stretches.{write_word, write_next, write_last}
+use Rattle.contraction.specs.declared.write.TheConstants.{LET, CASE}
 use Rattle.contraction.specs.declared.plan.Plan.TheVariants.{Substitute, Copy, MoveLet, MoveCase, Insert}
 use Rattle.contraction.specs.Plans.{PlanMakes, substitutes, copies, moves_let, moves_case, inserts}
 use Rattle.contraction.specs.Insertion.{NodeRoom, InsertsNode}
@@ -30,7 +31,6 @@ stretch words start n = take (start + n - start) (drop start words)
 pub record Putting (calls words : List ℕ) (body value n len : ℕ) : Type 0 where
   pub body_in : body ≤ length words
   pub value_in : value + n ≤ length words
-  pub value_length : length (stretch words value n) ≡ n
   pub room : (space : ℕ) → length words + 2 ≤ space → RoomFor calls (from words body) (stretch words value n) len 0 0 space
 
 pub record Copying (calls words : List ℕ) (start n len : ℕ) : Type 0 where
@@ -71,7 +71,6 @@ module _ {calls words : List ℕ} where
         record {
           body_in = omega (arith, held_inside words body hb);
           value_in = omega (arith, ve, held_inside words value hv);
-          value_length = long;
           room = λ space e. record {
             start = held_starts hb;
             whole = whole words value n hv ve;
@@ -133,7 +132,7 @@ module _ {calls words : List ℕ} where
   moving_let p = makes_moving_let p.makes p.room
 
   let_moved : (old : List ℕ) {second third n : ℕ} {y : Term} {d new : List ℕ} → PlanMakes calls words (MoveLet second third) y
-      → d ≡ sets (set old 0 4611686018427387904) 1 (take (second - 2) (drop 2 words))
+      → d ≡ sets (set old 0 LET) 1 (take (second - 2) (drop 2 words))
       → WritesLet calls words second third third d new (second - 1) n → new ≡ sets old 0 (encode y)
   unfolding encode node size
   let_moved old {second = second} {n = n} (moves_let {p = p} {b = b} {c = c} hp hb hc se te) de f =
@@ -143,10 +142,10 @@ module _ {calls words : List ℕ} where
       (write_last (encode z) (second - 1) n (bound_written words 2 old z hp pe de) (omega (arith, se)) w.new_is w.wrote_is).0
 
   pub let_writes : {second third n : ℕ} (old : List ℕ) {d new : List ℕ}
-      → length d ≡ length (set old 0 4611686018427387904) → d ≡ paste (set old 0 4611686018427387904) 1 (drop 2 words) (second - 2)
+      → length d ≡ length (set old 0 LET) → d ≡ paste (set old 0 LET) 1 (drop 2 words) (second - 2)
       → WritesLet calls words second third third d new (second - 1) n → WritesPlan calls words (MoveLet second third) old new
   let_writes {second} old {d} kept de f = record {
-    told = λ y l. let_moved old l (pasted_sets words (set old 0 4611686018427387904) d 2 (second - 2) 1 kept de) f;
+    told = λ y l. let_moved old l (pasted_sets words (set old 0 LET) d 2 (second - 2) 1 kept de) f;
   }
 
   -- let of case
@@ -173,7 +172,7 @@ module _ {calls words : List ℕ} where
   moving_case p = makes_moving_case p.makes p.room
 
   case_moved : (old : List ℕ) {right third n m : ℕ} {y : Term} {d new : List ℕ} → PlanMakes calls words (MoveCase right third) y
-      → WritesLet calls words 3 right third (set (set old 0 11529215046068469760) 1 (get_or words 2 0)) d 2 n
+      → WritesLet calls words 3 right third (set (set old 0 CASE) 1 (get_or words 2 0)) d 2 n
       → WritesLet calls words right third third d new (2 + n) m → new ≡ sets old 0 (encode y)
   unfolding encode node size
   case_moved old {n = n} {m = m} (moves_case {z = v} {l = l} {r = r} {c = c} hz hl hr hc re te) f g =
@@ -182,14 +181,14 @@ module _ {calls words : List ℕ} where
       let y = case (var v) L R in
       let a = f.told l c (record { more = _; bound = hl; rest = _; under = hc; end_is = re }) in
       let b = g.told r c (record { more = _; bound = hr; rest = _; under = hc; end_is = te }) in
-      let first = write_word old 0 11529215046068469760 (word_of y) (encode y) (encode (var v) ++ (encode L ++ encode R)) refl refl in
+      let first = write_word old 0 CASE (word_of y) (encode y) (encode (var v) ++ (encode L ++ encode R)) refl refl in
       let subject = write_next (encode (var v)) (encode L ++ encode R) 1 1 first refl
-      (ap (λ (w : ℕ). set (set old 0 11529215046068469760) 1 w) (held_first words 2 hz)) refl in
+      (ap (λ (w : ℕ). set (set old 0 CASE) 1 w) (held_first words 2 hz)) refl in
       let left = write_next (encode L) (encode R) 2 n subject refl a.new_is a.wrote_is in
       (write_last (encode R) (2 + n) m left (omega arith) b.new_is b.wrote_is).0
 
   pub case_writes : {right third n m : ℕ} (old : List ℕ) {d new : List ℕ}
-      → WritesLet calls words 3 right third (set (set old 0 11529215046068469760) 1 (get_or words 2 0)) d 2 n
+      → WritesLet calls words 3 right third (set (set old 0 CASE) 1 (get_or words 2 0)) d 2 n
       → WritesLet calls words right third third d new (2 + n) m → WritesPlan calls words (MoveCase right third) old new
   case_writes old f g = record { told = λ y l. case_moved old l f g }
 
@@ -206,15 +205,15 @@ module _ {calls words : List ℕ} where
   inserting_let p = makes_inserting_let p.makes p.room
 
   let_inserted : (old : List ℕ) {index start n : ℕ} {y : Term} {d new : List ℕ} → PlanMakes calls words (Insert index start n) y
-      → d ≡ sets (set old 0 4611686018427387904) 1 (take n (drop start words)) → InsertsNode calls words index d new (1 + n)
+      → d ≡ sets (set old 0 LET) 1 (take n (drop start words)) → InsertsNode calls words index d new (1 + n)
       → new ≡ sets old 0 (encode y)
   unfolding encode node size
   let_inserted old {start = start} {n = n} (inserts {x = x} {p = p} {z = z} {m = m} hx i hp ne ns) de f =
       (write_last (encode z) (1 + n) (size z) (bound_written words start old z hp ne de) (omega arith) (f.told x z m hx i) refl).0
 
   pub insert_writes : {index start n : ℕ} (old : List ℕ) {d new : List ℕ}
-      → length d ≡ length (set old 0 4611686018427387904) → d ≡ paste (set old 0 4611686018427387904) 1 (drop start words) n
+      → length d ≡ length (set old 0 LET) → d ≡ paste (set old 0 LET) 1 (drop start words) n
       → InsertsNode calls words index d new (1 + n) → WritesPlan calls words (Insert index start n) old new
   insert_writes {start = start} {n} old {d} kept de f = record {
-    told = λ y l. let_inserted old l (pasted_sets words (set old 0 4611686018427387904) d start n 1 kept de) f;
+    told = λ y l. let_inserted old l (pasted_sets words (set old 0 LET) d start n 1 kept de) f;
   }

@@ -2,9 +2,10 @@
 use Prim.Native.Nat.{ℕ, ◌+◌, ◌-◌, ◌≤◌}
 use native.Mathlib.Omega.{arith}
 use mathlib.Core.Path.{◌≡◌, refl, sym, ◌∙◌, ap, ap₂, subst}
-use mathlib.Core.Bool.{Bool, true, false, ◌&&◌}
+use mathlib.Core.Bool.{true, false}
 use mathlib.Core.List.{List, ◌++◌}
 use lib.ListN.{length, get_or}
+use Rattle.std.proofs.lemmas.Bool.{and_parts}
 use Rattle.std.specs.Prelude.{Option, Some, IfSome, IsSome}
 use Rattle.syntax.specs.Maybe.{is_some}
 use Rattle.syntax.specs.Term.{Term, Terms, done, arg, node}
@@ -27,30 +28,23 @@ use Rattle.words.proofs.PartsAt.{PartsAt, parts_of_lem, part_here, parts_past}
 use Rattle.words.proofs.Rows.{row_holds, row_behind}
 use Rattle.search.specs.Operands.{all_values, FirstComputation, FindsOperand}
 use Rattle.search.specs.declared.fits.Operand.{Operand}
-use Rattle.search.proofs.ValueByNode.{apart}
 use Rattle.contraction.specs.declared.plan.Plan.TheVariants.{Insert as InsertPlan}
 use Rattle.contraction.specs.Sizes.{StartsAt}
 use Rattle.contraction.specs.Plans.{StartsRedex, PlanMakes, inserts, Inserted, part_size, MeasuredAs, Measures}
 use Rattle.contraction.proofs.RedexRows.{fired}
 use Rattle.contraction.proofs.NamedPart.{NamedPart, named_part}
 
-both : (b c : Bool) → b && c ≡ true → (b ≡ true) × (c ≡ true)
-both true c h = (refl, h)
-both false c h = apart h refl
-
 -- the first computation of a list of terms, and what stands before it
 same_first : (fs gs : Terms) (p q : Term) (ts us : Terms) → joined fs (arg p ts) ≡ joined gs (arg q us)
     → all_values fs ≡ true → all_values gs ≡ true → is_value p ≡ false → is_value q ≡ false → (fs ≡ gs) × (p ≡ q)
 unfolding joined all_values
 same_first done done p q ts us e f g pe qe = (refl, (cc))
-same_first done (arg t gs) p q ts us e f g pe qe =
-    let s : p ≡ t = cc in apart (both (is_value t) (all_values gs) g).0 (ap is_value (sym s) ∙ pe)
-same_first (arg t fs) done p q ts us e f g pe qe =
-    let s : t ≡ q = cc in apart (both (is_value t) (all_values fs) f).0 (ap is_value s ∙ qe)
+same_first done (arg t gs) p q ts us e f g pe qe = let v = and_parts (is_value t) (all_values gs) g in absurd (cc)
+same_first (arg t fs) done p q ts us e f g pe qe = let v = and_parts (is_value t) (all_values fs) f in absurd (cc)
 same_first (arg t fs) (arg u gs) p q ts us e f g pe qe =
-    let s : t ≡ u = cc in
-    let d : joined fs (arg p ts) ≡ joined gs (arg q us) = cc in
-    let r = same_first fs gs p q ts us d (both (is_value t) (all_values fs) f).1 (both (is_value u) (all_values gs) g).1 pe qe in
+    let v = and_parts (is_value t) (all_values fs) f in
+    let w = and_parts (is_value u) (all_values gs) g in
+    let r = same_first fs gs p q ts us (cc) v.1 w.1 pe qe in
     let k : fs ≡ gs = r.0 in
     ((cc), r.1)
 

@@ -16,6 +16,7 @@ use Rattle.words.specs.Fronts.{Holds, Starts, from}
 use Rattle.binding.specs.Writes.{Room, Renames}
 use Rattle.words.proofs.PartsAt.{held_inside, held_words}
 use Rattle.words.proofs.Stretches.{Writing, write_word, write_next, write_last}
+use Rattle.contraction.specs.declared.write.TheConstants.{LET}
 use Rattle.contraction.specs.Writers.{LetRoom, WritesLet}
 
 -- a term at the front starts a slice
@@ -28,21 +29,17 @@ size_let e c = omega (arith, size_bind e (weaken_body c), size-rename c (under r
 -- the word of a let and the words of the part that it binds are written, and its body is still to be written
 pub bound_written : {calls : List ℕ} (words : List ℕ) (start : ℕ) {n at : ℕ} (old : List ℕ) {d : List ℕ} {p : Term} {rest : List ℕ}
     (body : Term) → Holds calls (from words start) p rest → n ≡ size p
-    → d ≡ sets (set old at 4611686018427387904) (at + 1) (take n (drop start words))
+    → d ≡ sets (set old at LET) (at + 1) (take n (drop start words))
     → Writing old d at (1 + n) (encode (bind p body)) (encode body)
 unfolding encode node size
 bound_written words start {n} {at} old {p = p} body h e de =
-    let word : ℕ = 4611686018427387904 in
-    let first = write_word old at word (word_of (bind p body)) (encode (bind p body)) (encode p ++ encode body) refl refl in
-    write_next (encode p) (encode body) (at + 1) n first refl (de ∙ ap (sets (set old at word) (at + 1)) (held_words words start h n e)) e
+    let first = write_word old at LET (word_of (bind p body)) (encode (bind p body)) (encode p ++ encode body) refl refl in
+    write_next (encode p) (encode body) (at + 1) n first refl (de ∙ ap (sets (set old at LET) (at + 1)) (held_words words start h n e)) e
 
 module _ {calls words : List ℕ} {start end body at : ℕ} where
   module _ {len : ℕ} (r : LetRoom calls words start end body len at) where
     end_is : end ≡ start + size r.bound
     end_is = r.parts.end_is
-
-    pub let_ordered : start ≤ end
-    let_ordered = omega (arith, end_is)
 
     pub bound_inside : start + (end - start) ≤ length words
     bound_inside = omega (arith, end_is, held_inside words start r.parts.bound)
@@ -69,8 +66,8 @@ module _ {calls words : List ℕ} {start end body at : ℕ} where
     let_fits f = omega (arith, end_is, r.room, size_let r.bound r.under, (f.told r.under _ r.parts.under).read_is)
 
   pub let_written : {n : ℕ} (old : List ℕ) {d new : List ℕ}
-      → length d ≡ length (set old at 4611686018427387904)
-      → d ≡ paste (set old at 4611686018427387904) (at + 1) (drop start words) (end - start)
+      → length d ≡ length (set old at LET)
+      → d ≡ paste (set old at LET) (at + 1) (drop start words) (end - start)
       → Renames calls (from words body) d new (at + 1 + (end - start)) 1 1 n
       → WritesLet calls words start end body old new at (1 + (end - start) + n)
   unfolding size
@@ -79,7 +76,7 @@ module _ {calls words : List ℕ} {start end body at : ℕ} where
         let w = f.told c p.rest p.under in
         let we : encode (rename c (raise_at 1 1)) ≡ encode (weaken_body c) = ap encode (sym (weaken_body-raise_at c)) in
         let size_is : end - start ≡ size e = omega (arith, p.end_is) in
-        let copied = pasted_sets words (set old at 4611686018427387904) d start (end - start) (at + 1) kept de in
+        let copied = pasted_sets words (set old at LET) d start (end - start) (at + 1) kept de in
         let bound = bound_written words start old (weaken_body c) p.bound size_is copied in
         let all = write_last (encode (weaken_body c)) (at + 1 + (end - start)) n bound (omega arith)
         (w.new_is ∙ ap (sets d (at + 1 + (end - start))) we) (w.read_is ∙ sym (size-rename c (under renaming suc))) in

@@ -9,6 +9,8 @@ use lib.Dec.{eqb}
 use lib.ListN.{length, get_or, set, length-set}
 use lib.Seq.{sets}
 use borrow.Author.Tests.{eqb-true}
+use Rattle.std.specs.Prelude.{Option, Some, None, is_some, IfSome}
+use Rattle.std.specs.Bool.{then_some}
 use Rattle.syntax.specs.Words.{kind_of}
 use Rattle.syntax.specs.Kinds.{binders_at}
 use Rattle.syntax.specs.Term.{Term, Terms, arg, node}
@@ -28,32 +30,43 @@ use Rattle.words.proofs.Stretches.{Writing, write_none, write_next, write_all, w
 use Rattle.contraction.specs.Plans.{insert_part, insert_parts, Inserted, part_size}
 use Rattle.contraction.specs.Insertion.{PartRoom, InsertsPart, NodeRoom, InsertsNode}
 
--- one part
-module _ {calls src : List ℕ} {here : Bool} {n len at cut : ℕ} (r : PartRoom calls src here n len at cut) where
-  pub part_space : at < len
-  part_space = omega (arith, r.room, size_positive (insert_part here cut r.start.term))
+-- the size of a part is known if the new variable stands for it
+sized_if : {calls src : List ℕ} {n : ℕ} (b : Bool) → (b ≡ true → Sized calls src n) → IfSome (then_some b n) (λ m. Sized calls src m)
+sized_if true f = f refl
+sized_if false f = tt
 
-  pub part_room : here ≡ false → Room calls src len at
+some_then : (b : Bool) (n : ℕ) → is_some (then_some b n) ≡ b
+some_then true n = refl
+some_then false n = refl
+
+-- one part
+module _ {calls src : List ℕ} {bound : Option ℕ} {len at cut : ℕ} (r : PartRoom calls src bound len at cut) where
+  pub part_space : at < len
+  part_space = omega (arith, r.room, size_positive (insert_part (is_some bound) cut r.start.term))
+
+  pub part_room : bound ≡ None → Room calls src len at
   part_room e = record {
     start = r.start;
     room = omega (
       arith,
       r.room,
-      ap (λ (b : Bool). size (insert_part b cut r.start.term)) e,
+      ap (λ (b : Option ℕ). size (insert_part (is_some b) cut r.start.term)) e,
       size-rename r.start.term (raise_at cut 1),
     );
   }
 
-module _ {calls src : List ℕ} {here : Bool} {old : List ℕ} {at cut n : ℕ} where
-  pub part_replaced : here ≡ true → Sized calls src n
-      → InsertsPart calls src here old (set old at 0) at cut (record { read = n; wrote = 1 })
+module _ {calls src : List ℕ} {bound : Option ℕ} {old : List ℕ} {at cut n : ℕ} where
+  pub part_replaced : {len : ℕ} → PartRoom calls src bound len at cut → bound ≡ Some n
+      → InsertsPart calls src bound old (set old at 0) at cut (record { read = n; wrote = 1 })
   unfolding encode size node
-  part_replaced e s = record {
-    told = λ t rest h. rw e (record { written = record { read_is = s.told t rest h; new_is = refl }; wrote_is = refl });
-  }
+  part_replaced r e =
+      let s = rw e at r.sized in
+      record {
+        told = λ t rest h. rw e (record { written = record { read_is = s.told t rest h; new_is = refl }; wrote_is = refl });
+      }
 
-  pub part_moved : {new : List ℕ} → here ≡ false → Renames calls src old new at cut 1 n
-      → InsertsPart calls src here old new at cut (record { read = n; wrote = n })
+  pub part_moved : {new : List ℕ} → bound ≡ None → Renames calls src old new at cut 1 n
+      → InsertsPart calls src bound old new at cut (record { read = n; wrote = n })
   part_moved e f = record {
     told = λ t rest h.
         let w = f.told t rest h in
@@ -132,9 +145,12 @@ module _ {calls src : List ℕ} (old : List ℕ) {at i s k : ℕ} (ke : k ≡ ki
   }
 
 module _ {calls src old new : List ℕ} {at i s k n m o j : ℕ} (g : Inserting calls src old new at i s k n m o j) (lt : j < n)
-    {b : ℕ} (be : b ≡ binders_at k j) where
-  part_is : (t : Term) → insert_part (eqb j i) b t ≡ insert_part (eqb j i) (binders_at k j) t
-  part_is t = ap (λ (c : ℕ). insert_part (eqb j i) c t) be
+    {bound : Option ℕ} (he : bound ≡ then_some (eqb j i) s) {b : ℕ} (be : b ≡ binders_at k j) where
+  here : is_some bound ≡ eqb j i
+  here = ap is_some he ∙ some_then (eqb j i) s
+
+  part_is : (t : Term) → insert_part (is_some bound) b t ≡ insert_part (eqb j i) (binders_at k j) t
+  part_is t = ap₂ (λ (x : Bool) (c : ℕ). insert_part x c t) here be
 
   -- the part that the new variable stands for has s words
   next_size : (part : Term) (later : Terms) → ((d : ℕ) → j + d ≡ i → s ≡ part_size (arg part later) d) → eqb j i ≡ true
@@ -143,20 +159,20 @@ module _ {calls src old new : List ℕ} {at i s k n m o j : ℕ} (g : Inserting 
   next_size part later f e = f 0 (omega (arith, eqb-true j i e))
 
   -- the next part has room
-  pub insert_room : PartRoom calls (from src m) (eqb j i) s (length new) (at + o) b
+  pub insert_room : PartRoom calls (from src m) bound (length new) (at + o) b
   unfolding insert_parts encode size
   insert_room =
       let u = upcoming calls src g.going lt in
       let y = insert_part (eqb j i) (binders_at k j) u.part in
       record {
         start = record { term = u.part; rest = _; holds = u.holds };
-        sized = λ e.
+        sized = rw he (sized_if (eqb j i) (λ e.
             let n = next_size u.part u.later u.to_do.sized e in
-            record { within = omega (arith, n, fits u.holds); told = λ t rest h. n ∙ same_size u.holds h };
+            record { within = omega (arith, n, fits u.holds); told = λ t rest h. n ∙ same_size u.holds h }));
         room = omega (arith, g.room, g.len, g.low, write_room (encode y) _ u.to_do.writing, ap size (part_is u.part));
       }
 
-  module _ {new' : List ℕ} {r : Moved} (a : InsertsPart calls (from src m) (eqb j i) new new' (at + o) b r) where
+  module _ {new' : List ℕ} {r : Moved} (a : InsertsPart calls (from src m) bound new new' (at + o) b r) where
     inserted : Does calls src (InsertedTo old new at i s k j (o - 1)) (InsertedTo old new' at i s k (j + 1) (o + r.wrote - 1)) m r.read
     unfolding insert_parts encode size part_size
     inserted t rest h part later holds q =

@@ -13,31 +13,31 @@ struct Moved {
     pub wrote: usize,
 }
 
-// a part moves too, its variables from `cut` on raised, or the new variable stands for it; `size` is then how many words it has
-#[tactic(auto, using(crate::proofs::NodeUnderBinder::part_replaced, crate::proofs::NodeUnderBinder::part_moved))]
+// a part moves too, its variables from `cut` on raised; or it is the one that is bound, of so many words, and the new variable stands for it
 fn insert_part(
     calls: &[u64],
     t: &[u64],
-    here: bool,
-    size: usize,
+    bound: Option<usize>,
     dst: &mut [u64],
     at: usize,
     cut: usize,
     pending: &mut [u64],
 ) -> Moved
-    requires { PartRoom calls.now t.now here size (length dst.old) at cut × (cut ≤ 1) × (length t.now ≤ 8192)
-        × (8194 ≤ length pending.old) }
-    ensures { InsertsPart calls.now t.now here dst.old dst.new at cut result }
+    requires { PartRoom calls.now t.now bound (length dst.old) at cut × (cut ≤ 1) × (length t.now ≤ 8192) × (8194 ≤ length pending.old) }
+    ensures { InsertsPart calls.now t.now bound dst.old dst.new at cut result }
 {
-    if here {
-        dst[at] = 0;
-        Moved {
-            read: size,
-            wrote: 1,
+    match bound {
+        Some(size) => {
+            dst[at] = 0;
+            Moved {
+                read: size,
+                wrote: 1,
+            }
         }
-    } else {
-        let n = rename_into(calls, t, dst, at, cut, 1, pending);
-        Moved { read: n, wrote: n }
+        None => {
+            let n = rename_into(calls, t, dst, at, cut, 1, pending);
+            Moved { read: n, wrote: n }
+        }
     }
 }
 
@@ -61,17 +61,9 @@ pub fn insert_node(
     let mut read: usize = 1;
     let mut wrote: usize = 1;
     for j in 0..n {
+        let bound = (j == index).then_some(size);
         let cut = binders(k, j);
-        let part = insert_part(
-            calls,
-            &t[read..],
-            j == index,
-            size,
-            dst,
-            at + wrote,
-            cut,
-            pending,
-        );
+        let part = insert_part(calls, &t[read..], bound, dst, at + wrote, cut, pending);
         read += part.read;
         wrote += part.wrote;
     }

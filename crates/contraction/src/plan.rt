@@ -204,7 +204,7 @@ fn let_of_case(calls: &[u64], t: &[u64]) -> Measured
     }
 }
 
-// let insertion: a let and a variable more; the part that is bound is measured, and then those behind it
+// let insertion: a let and a variable more; the part that is bound, which there is where the rule fits, is measured, and then those behind it
 fn let_insertion(calls: &[u64], t: &[u64]) -> Measured
     requires { StartsRedex LetInsertion calls.now t.now × (length t.now ≤ 8192) }
     ensures { Measures LetInsertion calls.now t.now result }

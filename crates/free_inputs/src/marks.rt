@@ -16,9 +16,8 @@ const HIGHEST: u64 = 9223372036854775808;
 fn mark_input(w: u64, under: u64, marks: &mut [u64; 4])
     ensures { MarksNamed w under marks.old marks.new }
 {
-    let n = number(w);
-    if kind(w) == 0 && under <= n {
-        let i = n - under;
+    if kind(w) == 0 && under <= number(w) {
+        let i = number(w) - under;
         if i < 256 {
             marks[(i / 64) as usize] |= HIGHEST >> (i % 64);
         }

@@ -1,8 +1,8 @@
 -- The call's answer and output, for each way it can go: refused by a check, too long, or what the reduction comes to.
 use Prim.Native.Nat.{ℕ, ◌≤◌, ◌<◌, min}
 use native.Mathlib.Omega.{arith}
-use mathlib.Core.Path.{◌≡◌, refl, sym, ◌∙◌, ap}
-use mathlib.Core.List.{List, [], append-nil}
+use mathlib.Core.Path.{◌≡◌, refl, ◌∙◌, ap}
+use mathlib.Core.List.{List, append-nil}
 use lib.ListN.{length, take, length-take}
 use Rattle.std.specs.Prelude.{Err}
 use Rattle.syntax.specs.Tables.{Tables, over}
@@ -16,27 +16,18 @@ use Rattle.outcomes.specs.Buffers.{overwrite}
 use Rattle.outcomes.specs.declared.Refusal.{Refusal}
 use Rattle.outcomes.specs.Refusal.{number_of}
 use Rattle.outcomes.specs.Check.{checked_of, check_answer}
-use Rattle.outcomes.specs.Normalize.{Normalized, reduced_to, checked_to, normalize_within, Buffers, capacity_of}
+use Rattle.outcomes.specs.Normalize.{reduced_to, checked_to, normalize_within, Buffers, capacity_of}
 use Rattle.outcomes.specs.declared.Answer.{Answer}
 use Rattle.checker.proofs.Verdicts.{Accepts, refused_of}
-use Rattle.normalizer.specs.Answers.{Fills, FillsNormalized, Settleable, Settles}
-
--- an outcome without words
-untouched : {m n : Normalized} {output : List ℕ} {a : Answer} → m ≡ n → n.words ≡ [] → a ≡ n.answer → Fills m output a output
-unfolding overwrite
-untouched {output = output} e none ae = record {
-  answer_is = ae ∙ ap (λ (x : Normalized). x.answer) (sym e);
-  output_is = sym (ap (λ (x : Normalized). overwrite x.words output) e ∙ ap (λ (ws : List ℕ). overwrite ws output) none);
-}
+use Rattle.normalizer.specs.Answers.{FillsNormalized, Settleable, Settles}
 
 -- refused by a check
 pub refusal_fills : (tables : Tables) (words : List ℕ) (before : Buffers) (settings : Settings) (why : Refusal) {a : Answer}
     → check_answer (Err why) ≡ checked_of (elaborate normalize_limit tables words)
     → a ≡ record { refusal = number_of why; ty = 0; length = 0; counts = zero_counts }
     → FillsNormalized settings tables words before a before.output
-unfolding normalize_within checked_to
-refusal_fills tables words before settings why e ae =
-    untouched (ap (checked_to (may_drop tables.calls) (capacity_of before) settings) (refused_of normalize_limit tables words why e)) refl ae
+unfolding normalize_within checked_to overwrite
+refusal_fills tables words before settings why e ae = grind (arith, refused_of normalize_limit tables words why e)
 
 module _ {types calls inputs words : List ℕ} {A : ℕ} (x : Accepts normalize_limit (over types calls inputs) words A) where
   is_encoded : words ≡ encode x.typed.term
@@ -82,10 +73,10 @@ module _ {types calls inputs words : List ℕ} {A : ℕ} (x : Accepts normalize_
       -- longer than the capacity
       pub too_long_fills : {a : Answer} → capacity < length words → a ≡ record { refusal = 11; ty = 0; length = 0; counts = zero_counts }
           → FillsNormalized settings (over types calls inputs) words before a before.output
-      unfolding reduced_to size
+      unfolding reduced_to size overwrite
       too_long_fills h ae =
           let long : capacity < size x.typed.term = omega (arith, h, ap (λ (l : List ℕ). length l) is_encoded) in
-          untouched (reduced ∙ ap (reduced_to x.typed.type) (reduce_too_long (may_drop calls) capacity settings x.typed.term long)) refl ae
+          grind (arith, reduced, reduce_too_long (may_drop calls) capacity settings x.typed.term long)
 
       -- what the reduction comes to
       pub settled_fills : {a : Answer} {out : List ℕ}

@@ -33,11 +33,12 @@ use Rattle.theory.proofs.Operands.{inserted, not_inserted}
 use Rattle.theory.proofs.NextInsertion.{next_insertion}
 use Rattle.theory.proofs.NextReduction.{next_reduction, operands_next}
 use Rattle.search.specs.PhasePremise.{PhasePremise}
-use Rattle.step.specs.Currents.{Gapped, Current}
+use Rattle.step.specs.Currents.{Current}
 use Rattle.step.specs.Gaps.{Seekable, Seeks}
 use Rattle.step.specs.Turns.{CurrentClear, Ready, Turned, stops, spent, met, full, goes, Turns}
 use Rattle.search.specs.NextFrom.{next_from}
 use Rattle.step.specs.declared.turn.Step.{Step as Stepped}
+use Rattle.normalizer.specs.Reductions.{Ends}
 use Rattle.step.proofs.GapMoved.{gapped_size, gapped_seekable, gapped_sought}
 
 -- the variables of the two loops
@@ -131,12 +132,6 @@ module _ (tables : Tables) (capacity : ℕ) (settings : Settings) (whole : Progr
     pub long : length s.words ≡ capacity
     pub same : onwards pure capacity settings s.phase (run_phase pure capacity settings s.phase s.left term s.counts) ≡ whole
 
-  -- the last term, at the buffer's end, with which the whole ends
-  pub record FormReached (words : List ℕ) (end left : ℕ) (counts : Counts) : Type 0 where
-    pub term : Term
-    pub gapped : Gapped words 0 end term
-    pub whole_is : whole ≡ reached left term counts
-
   typed_shaped : Fitting tables → capacity ≤ 8192 → (t : Term) (A : ℕ) → infer tables t tables.inputs ≡ some A → size t ≤ capacity
       → Shaped tables.calls t
   typed_shaped fit limit t A e h =
@@ -157,15 +152,15 @@ module _ (tables : Tables) (capacity : ℕ) (settings : Settings) (whole : Progr
         → whole ≡ stopped (number_of why) s.counts
     stands_refused turn = told (turn.told x.term x.at) x.long
       where
+        by : (n : ℕ) → run_phase pure capacity settings s.phase s.left x.term s.counts ≡ stopped n s.counts → whole ≡ stopped n s.counts
+        by n e = sym (comes_to e) ∙ onwards_stopped pure capacity settings s.phase n s.counts
+
         told : {after : List ℕ} {why : Refusal} {m : ℕ} → TurnedFrom tables.calls settings s after m x.term (Err why)
             → m ≡ capacity → whole ≡ stopped (number_of why) s.counts
-        told (spent st e z) l = sym (comes_to (turn_spent pure capacity settings s.phase s.left x.term s.counts st e z))
-            ∙ onwards_stopped pure capacity settings s.phase 10 s.counts
-        told (met st e h u) l = sym (comes_to (turn_met pure capacity settings s.phase s.left x.term s.counts st e h u))
-            ∙ onwards_stopped pure capacity settings s.phase 13 s.counts
+        told (spent st e z) l = by 10 (turn_spent pure capacity settings s.phase s.left x.term s.counts st e z)
+        told (met st e h u) l = by 13 (turn_met pure capacity settings s.phase s.left x.term s.counts st e h u)
         told (full st e h u f) l =
-            sym (comes_to (turn_full pure capacity settings s.phase s.left x.term s.counts st e h u (omega (arith, f, l))))
-            ∙ onwards_stopped pure capacity settings s.phase 11 s.counts
+            by 11 (turn_full pure capacity settings s.phase s.left x.term s.counts st e h u (omega (arith, f, l)))
 
     -- a turn that takes a step
     pub stands_steps : {after : List ℕ} (r : Stepped) (second : List ℕ) → Fitting tables → capacity ≤ 8192
@@ -234,9 +229,10 @@ module _ (tables : Tables) (capacity : ℕ) (settings : Settings) (whole : Progr
         }
 
         -- the last phase is over
-        pub stands_at_form : s.phase ≡ Dropping → FormReached front rest s.left s.counts
+        pub stands_at_form : s.phase ≡ Dropping → Ends front rest s.counts whole
         stands_at_form e = record {
+          left = s.left;
           term = x.term;
           gapped = gapped_sought stops_at.1.gapped k;
-          whole_is = sym over ∙ ap (λ (p : Phase). onwards pure capacity settings p (reached s.left x.term s.counts)) e;
+          is = sym over ∙ ap (λ (p : Phase). onwards pure capacity settings p (reached s.left x.term s.counts)) e;
         }

@@ -5,7 +5,7 @@ use mathlib.Core.Path.{◌≡◌, refl, sym, ◌∙◌, ap, subst}
 use mathlib.Core.List.{List}
 use mathlib.Core.Option.{some, some-injective}
 use lib.ListN.{length}
-use Rattle.std.specs.Prelude.{None, Ok, Err}
+use Rattle.std.specs.Prelude.{Option, None, Ok, Err}
 use Rattle.syntax.specs.Tables.{over}
 use Rattle.syntax.specs.Term.{Term}
 use Rattle.syntax.specs.Decoding.{decode}
@@ -24,6 +24,7 @@ use Rattle.outcomes.specs.declared.Refusal.{Refusal}
 use Rattle.theory.proofs.Fields.{fitting}
 use Rattle.step.specs.Currents.{Current}
 use Rattle.step.specs.Gaps.{Seeks}
+use Rattle.step.specs.declared.turn.Step.{Step as Stepped}
 use Rattle.normalizer.specs.Reductions.{Reducible, Reduces}
 use Rattle.step.proofs.GapMoved.{gapped_size}
 use Rattle.normalizer.proofs.BetweenTurns.{State, at_front, TurnFrom, StandsFor, stands_refused, stands_onwards}
@@ -106,15 +107,18 @@ module _ {calls words second : List ℕ} {begin : ℕ} {settings : Settings} {b 
   refused_reduces x = record { told = λ t c. stands_refused _ _ _ _ (stands_now t c) x }
 
   -- the phase is over
-  module _ {after front : List ℕ} {rest : ℕ} (x : TurnFrom calls settings b after (Ok None)) (k : Seeks after b.start b.end 0 front rest)
-      (l : length front ≡ length b.words) where
+  module _ {after front : List ℕ} {turn : Option Stepped} {rest : ℕ} (x : TurnFrom calls settings b after (Ok turn)) (e : turn ≡ None)
+      (k : Seeks after b.start b.end 0 front rest) (l : length front ≡ length b.words) where
+    stop_turn : TurnFrom calls settings b after (Ok None)
+    stop_turn = rw e at x
+
     pub phase_arrives : {second' : List ℕ} {phase : Phase} → length second' ≡ length b.second → Follows b.phase phase
         → Arrives calls settings (initial words begin settings second) (at_front b phase front rest second')
     phase_arrives {second'} m f = record {
       premise = v.premise;
       carries = λ types inputs capacity whole fit s.
           let t = v.carries types inputs capacity whole fit s in
-          stands_onwards _ _ _ _ t x k second' (l ∙ t.long) f;
+          stands_onwards _ _ _ _ t stop_turn k second' (l ∙ t.long) f;
       counts_fit = v.counts_fit;
       limit = omega (arith, l, v.limit);
       scratch = m ∙ v.scratch ∙ sym l;
@@ -124,11 +128,7 @@ module _ {calls words second : List ℕ} {begin : ℕ} {settings : Settings} {b 
 
     -- and it was the last
     pub form_reduces : b.phase ≡ Dropping → Reduces calls words begin settings front (record { begin = Ok rest; counts = b.counts })
-    form_reduces e = record {
-      told = λ t c.
-          let w = stands_at_form _ _ _ _ (stands_now t c) x k e in
-          record { left = b.left; term = w.term; gapped = w.gapped; is = w.whole_is };
-    }
+    form_reduces p = record { told = λ t c. stands_at_form _ _ _ _ (stands_now t c) stop_turn k p }
 
 -- how many phases come after a phase
 abbrev pub phases_after : Phase → ℕ

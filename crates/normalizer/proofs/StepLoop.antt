@@ -5,7 +5,7 @@ use native.Mathlib.Omega.{arith}
 use mathlib.Core.Path.{◌≡◌, refl, sym, ◌∙◌}
 use mathlib.Core.List.{List}
 use lib.ListN.{length, get_or}
-use Rattle.std.specs.Prelude.{Some, None, Ok}
+use Rattle.std.specs.Prelude.{Option, Some, None, Ok}
 use Rattle.syntax.specs.Tables.{over}
 use Rattle.reduction.specs.declared.Settings.{Settings}
 use Rattle.reduction.specs.Reduction.{Counts, index, Progress}
@@ -80,14 +80,18 @@ module _ {calls : List ℕ} {settings : Settings} {a b : State} (v : Arrives cal
   turn_ready = stands_ready _ _ _ _ now v.limit v.scratch
 
   -- the phase is over: the gap can go back
-  pub gap_seekable : {after : List ℕ} (place : ℕ) → place ≤ b.start → TurnFrom calls settings b after (Ok None)
-      → Seekable after b.start b.end place
-  gap_seekable place le x = stands_seekable _ _ _ _ now x place le
+  pub gap_seekable : {after : List ℕ} {turn : Option Stepped} (place : ℕ) → place ≤ b.start → TurnFrom calls settings b after (Ok turn)
+      → turn ≡ None → Seekable after b.start b.end place
+  gap_seekable place le x e = stands_seekable _ _ _ _ now (rw e at x) place le
 
-  module _ {after : List ℕ} {r : Stepped} (l : length after ≡ length b.words) (x : TurnFrom calls settings b after (Ok (Some r))) where
+  module _ {after : List ℕ} {turn : Option Stepped} {r : Stepped} (l : length after ≡ length b.words)
+      (x : TurnFrom calls settings b after (Ok turn)) (e : turn ≡ Some r) where
+    step_turn : TurnFrom calls settings b after (Ok (Some r))
+    step_turn = rw e at x
+
     -- a step is taken only while there is budget, so no count overflows
     pub budget_left : 0 < b.left
-    budget_left = (stands_steps _ _ _ _ now r b.second v.premise.fit (omega (arith, v.limit, now.long)) (l ∙ now.long) x).0
+    budget_left = (stands_steps _ _ _ _ now r b.second v.premise.fit (omega (arith, v.limit, now.long)) (l ∙ now.long) step_turn).0
 
     pub counts_below : (i : ℕ) → get_or b.counts i 0 < 4294967295
     counts_below i = omega (arith, budget_left, v.counts_fit i)
@@ -98,7 +102,7 @@ module _ {calls : List ℕ} {settings : Settings} {a b : State} (v : Arrives cal
       premise = v.premise;
       carries = λ types inputs capacity whole fit s.
           let t = v.carries types inputs capacity whole fit s in
-          (stands_steps _ _ _ _ t r second fit (omega (arith, v.limit, t.long)) (l ∙ t.long) x).1;
+          (stands_steps _ _ _ _ t r second fit (omega (arith, v.limit, t.long)) (l ∙ t.long) step_turn).1;
       counts_fit = λ i. omega (arith, budget_left, v.counts_fit i, raised b.counts (index r.rule) i);
       limit = omega (arith, l, v.limit);
       scratch = k ∙ v.scratch ∙ sym l;

@@ -29,12 +29,10 @@ pub fn reduce(
 {
     // asked once, for every search
     let acting = some_acts(calls);
-    let budget = settings.budget;
-    let ceilings = settings.ceilings;
     // space in which a step goes through the parts of its redex
-    let mut pending: [u64; PENDING] = [0; PENDING];
-    let mut counts: [u32; 10] = [0; 10];
-    let mut left = budget;
+    let mut pending = [0; PENDING];
+    let mut counts = [0; 10];
+    let mut left = settings.budget;
     let mut phase = Phase::Insertion;
     let mut start = 0;
     let mut end = begin;
@@ -49,7 +47,7 @@ pub fn reduce(
                 end,
                 left,
                 counts,
-                ceilings,
+                settings.ceilings,
                 second,
                 &mut pending,
             ) {

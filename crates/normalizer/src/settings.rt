@@ -10,6 +10,6 @@ pub fn no_ceilings(budget: u32) -> Settings
 {
     Settings {
         budget: budget,
-        ceilings: [4294967295; 10],
+        ceilings: [u32::MAX; 10],
     }
 }

@@ -19,7 +19,6 @@ use Rattle.reduction.specs.declared.Rule.{Rule}
 use Rattle.contraction.specs.Plans.{MeasuredAs, StartsRedex, Measures, UncoversBody, Uncovers, Acts, is_rewritten, is_lowered}
 use Rattle.contraction.specs.Writers.{SizedPlanRoom, WritesPlan}
 use Rattle.contraction.specs.declared.plan.Measured.{Measured}
-use Rattle.contraction.specs.declared.plan.Action.{Action}
 use Rattle.contraction.specs.declared.plan.Action.TheVariants.{Rewrite, Lower}
 use Rattle.outcomes.specs.declared.Refusal.TheVariants.{Capacity}
 use Rattle.step.specs.Rewrites.{RedexAt, Rewritable, too_long, there, RewritesRedex}

@@ -6,7 +6,7 @@ use mathlib.Core.Bool.{Bool, true, false}
 use mathlib.Core.List.{List, [], ◌∷◌}
 use mathlib.Core.Option.{Option, some, none, some-injective, none-ne-some}
 use lib.ListN.{length, get_elem?}
-use Rattle.std.specs.Prelude.{Option as Maybe, Some, None, Result, Ok, Err}
+use Rattle.std.specs.Prelude.{Some, None, Result, Ok, Err}
 use Rattle.syntax.specs.Term.{Term}
 use Rattle.syntax.specs.Encoding.{size}
 use Rattle.syntax.specs.Positions.{positions}
@@ -23,16 +23,14 @@ use Rattle.reduction.specs.declared.Redex.{Redex}
 use Rattle.reduction.proofs.Clear.{step_at}
 use Rattle.reduction.proofs.SearchAnswer.{StepAt, redex_step, nothing_none}
 use Rattle.words.specs.Fronts.{from}
-use Rattle.words.proofs.Traversal.{from_length}
 use Rattle.outcomes.specs.declared.Refusal.{Refusal}
-use Rattle.outcomes.specs.declared.Refusal.TheVariants.{Budget, Ceiling, Capacity}
+use Rattle.outcomes.specs.declared.Refusal.TheVariants.{Budget, Ceiling}
 use Rattle.step.specs.Currents.{Gapped}
 use Rattle.step.specs.Gaps.{Seekable, Seeks}
-use Rattle.search.specs.Finds.{SearchAt, Searchable, Finds}
+use Rattle.search.specs.Finds.{SearchAt, Finds}
 use Rattle.step.specs.Rewrites.{RedexAt, Rewritable, RewrittenTo, too_long, there, RewritesRedex}
 use Rattle.step.specs.Turns.{CurrentClear, Ready, Turned, stops, spent, met, full, goes, Turns}
 use Rattle.search.specs.NextFrom.{next_from}
-use Rattle.step.specs.declared.turn.Step.{Step as Stepped}
 use Rattle.step.proofs.GapMoved.{gapped_size, gapped_behind, gapped_seekable, gapped_sought}
 
 -- what a phase makes of a node is what the rule it names makes of it
@@ -87,16 +85,6 @@ module _ {phase : Phase} {calls before : List ℕ} {start end : ℕ} where
     is = tail_part before end ∙ gapped_behind a.current.gapped;
     clear = a.clear;
     premise = a.premise;
-  }
-
-  pub turn_searchable : {second : List ℕ} → Ready phase calls before start end second → Searchable phase calls (from before end) second
-  turn_searchable r = let l = from_length before end in record {
-    term = r.term;
-    from = start;
-    at = search_at r.at;
-    small = omega (arith, l, r.limit);
-    deep = omega (arith, l, r.scratch);
-    marks_small = omega (arith, r.limit, r.scratch);
   }
 
   -- nothing is found

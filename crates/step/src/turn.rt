@@ -43,6 +43,7 @@ pub fn take_turn(
         return Ok(None);
     };
     let rule = redex.rule;
+    // both limits are asked before either is tested, so the order is that of the two tests
     let spent = left == 0;
     let met = ceiling_met(ceilings, rule, counts);
     if spent {

@@ -6,10 +6,10 @@ use mathlib.Core.Path.{◌≡◌, refl, sym, ◌∙◌, ap, subst}
 use mathlib.Core.Bool.{Bool, false, cond}
 use mathlib.Core.List.{List}
 use lib.Dec.{eqb}
-use lib.ListN.{length, get_or, set, replicate, length-set}
-use lib.Seq.{get_or-set_same, get_or-set_other}
+use lib.ListN.{length, get_or, set, replicate}
 use Rattle.std.proofs.Common.{rules}
 use Rattle.std.proofs.lemmas.List.{places}
+use Rattle.std.proofs.lemmas.Grind.{elements}
 use borrow.Author.Tests.{ne_eqb}
 use borrow.Rule.Slice.PartMut.{mid_of, put_mid}
 use Rattle.syntax.specs.Kinds.{parts_of_kind, binds_of, free_of}
@@ -97,27 +97,6 @@ module _ (old new : List ℕ) (last depth : ℕ) where
 abbrev pub three : List ℕ → (last x y z : ℕ) → List ℕ
 three p last x y z = set (set (set p last x) (last + 1) y) (last + 2) z
 
-module _ (p : List ℕ) (last x y z : ℕ) where
-  pub three_length : length (three p last x y z) ≡ length p
-  three_length = length-set (set (set p last x) (last + 1) y) (last + 2) z ∙ length-set (set p last x) (last + 1) y ∙ length-set p last x
-
-  three_before : (j : ℕ) → j < last → get_or (three p last x y z) j 0 ≡ get_or p j 0
-  three_before j l = get_or-set_other (set (set p last x) (last + 1) y) (last + 2) j z 0 (λ e. omega (arith, e, l))
-      ∙ get_or-set_other (set p last x) (last + 1) j y 0 (λ e. omega (arith, e, l)) ∙ get_or-set_other p last j x 0 (λ e. omega (arith, e, l))
-
-  module _ (room : last + 3 ≤ length p) where
-    three_first : get_or (three p last x y z) last 0 ≡ x
-    three_first = get_or-set_other (set (set p last x) (last + 1) y) (last + 2) last z 0 (λ e. omega (arith, e))
-        ∙ get_or-set_other (set p last x) (last + 1) last y 0 (λ e. omega (arith, e)) ∙ get_or-set_same p last x 0 (omega (arith, room))
-
-    three_second : get_or (three p last x y z) (last + 1) 0 ≡ y
-    three_second = get_or-set_other (set (set p last x) (last + 1) y) (last + 2) (last + 1) z 0 (λ e. omega (arith, e))
-        ∙ get_or-set_same (set p last x) (last + 1) y 0 (omega (arith, room, length-set p last x))
-
-    three_third : get_or (three p last x y z) (last + 2) 0 ≡ z
-    three_third = get_or-set_same (set (set p last x) (last + 1) y) (last + 2) z 0
-        (omega (arith, room, length-set (set p last x) (last + 1) y, length-set p last x))
-
 -- the depths of a node's parts: three are written, and then those of any further parts
 module _ (calls : List ℕ) (w : ℕ) (p new : List ℕ) (last depth k n x y : ℕ) (ke : k ≡ kind_of w) (ne : n ≡ part_count calls w)
     (xe : x ≡ counts (binds_of k)) (ye : y ≡ counts (eqb k 10)) (room : last + 3 ≤ length p) where
@@ -127,19 +106,12 @@ module _ (calls : List ℕ) (w : ℕ) (p new : List ℕ) (last depth k n x y : �
   filled_opens f = record {
     many = ap (λ (i : ℕ). last + i) ne;
     opened = opening p new last depth (arity calls (number_of w)) (kind_of w) record {
-      kept = λ j l. f.kept j (omega (arith, l)) ∙ three_before p last (depth + x) (depth + y) depth j l;
-      at_last = f.kept last (omega arith) ∙ three_first p last (depth + x) (depth + y) depth room ∙ ap (λ (i : ℕ). depth + i) xe
-          ∙ ap (λ (i : ℕ). depth + counts (binds_of i)) ke;
-      at_middle = f.kept (last + 1) (omega arith) ∙ three_second p last (depth + x) (depth + y) depth room ∙ ap (λ (i : ℕ). depth + i) ye
-          ∙ ap (λ (i : ℕ). depth + counts (eqb i 10)) ke;
-      others = λ j g l. other j g (omega (arith, l, ne)) (ℕ_discrete j 2);
+      kept = λ j l. grind (arith, elements, f.kept j);
+      at_last = grind (arith, elements, f.kept last);
+      at_middle = grind (arith, elements, f.kept (last + 1));
+      others = λ j g l. grind (arith, elements, f.kept (last + j), f.set_to (last + j));
     };
   }
-    where
-      other : (j : ℕ) → 2 ≤ j → j < n → Dec (j ≡ 2) → get_or new (last + j) 0 ≡ depth
-      other j g l (yes e) = ap (λ (i : ℕ). get_or new (last + i) 0) e ∙ f.kept (last + 2) (omega arith)
-          ∙ three_third p last (depth + x) (depth + y) depth room
-      other j g l (no e) = f.set_to (last + j) (omega (arith, g, e)) (omega (arith, l))
 
 -- there are no further parts
 pub three_filled : (words : List ℕ) (last n depth : ℕ) → n ≤ 3 → Filled words words (last + 3) (last + n) depth
@@ -151,15 +123,4 @@ pub row_filled : (words row : List ℕ) (start end w : ℕ) → start ≤ end �
 row_filled words row start end w h g e = record {
   kept = λ j l. search (rules, places);
   set_to = λ j m l. search (rules, places);
-}
-
--- a node without parts
-pub opens_none : (calls : List ℕ) (w : ℕ) (p : List ℕ) (last depth : ℕ) → part_count calls w ≡ 0 → OpensParts calls w depth p p last last
-opens_none calls w p last depth none = record {
-  many = omega (arith, none);
-  opened = record {
-    kept = λ j l. refl;
-    inner = λ j l. absurd (omega (arith, l, none));
-    outer = λ j g l. absurd (omega (arith, l, none));
-  };
 }

@@ -10,4 +10,3 @@ pub mod acting; // acting.rt: which calls of a table act
 pub mod ends; // ends.rt: where a part ends
 pub mod depths; // depths.rt: the depths of the parts still to come
 pub mod moves; // moves.rt: words copied, moved and cleared
-pub mod lesser; // lesser.rt: the lesser of two numbers

@@ -1,6 +1,6 @@
 use Rattle.std.proofs.Common.{arith}
 use Rattle.syntax.specs.Words.{arity_of}
-use Rattle.checker.proofs.Agreement.{agrees_before}
+use Rattle.checker.proofs.ArgumentFields.{agrees_before}
 use Rattle.checker.proofs.node_type.arguments_agree.Goals as goal
 
 pub returns-else-b-argument : goal.returns-else-b-argument

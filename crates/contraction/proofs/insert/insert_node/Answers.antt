@@ -31,12 +31,12 @@ overflow_add-at c =
     omega (
       arith,
       length-set {A = ℕ},
-      part_space (insert_room c.loop-j.invariant c.loop-j-test.true c.binders-cut.ensures.0),
+      part_space (insert_room c.loop-j.invariant c.loop-j-test.true c.then_some-bound.ensures c.binders-cut.ensures.0),
     )
 
 pub insert_part-part-requires : goal.insert_part-part-requires
 insert_part-part-requires c = (
-  insert_room c.loop-j.invariant c.loop-j-test.true c.binders-cut.ensures.0,
+  insert_room c.loop-j.invariant c.loop-j-test.true c.then_some-bound.ensures c.binders-cut.ensures.0,
   omega arith,
   omega (arith, from_length c.args.t.now c.loop-j.read),
   omega arith,
@@ -44,19 +44,19 @@ insert_part-part-requires c = (
 
 pub overflow_add-read : goal.overflow_add-read
 overflow_add-read c =
-    omega (arith, insert_reached c.loop-j.invariant c.loop-j-test.true c.binders-cut.ensures.0 c.insert_part-part.ensures)
+    omega (arith, insert_reached c.loop-j.invariant c.loop-j-test.true c.then_some-bound.ensures c.binders-cut.ensures.0 c.insert_part-part.ensures)
 
 pub overflow_add-wrote : goal.overflow_add-wrote
 overflow_add-wrote c =
     omega (
       arith,
       length-set {A = ℕ},
-      insert_wrote c.loop-j.invariant c.loop-j-test.true c.binders-cut.ensures.0 c.insert_part-part.ensures,
+      insert_wrote c.loop-j.invariant c.loop-j-test.true c.then_some-bound.ensures c.binders-cut.ensures.0 c.insert_part-part.ensures,
     )
 
 pub loop-j-preserved : goal.loop-j-preserved
 loop-j-preserved c =
-    insert_next c.loop-j.invariant c.loop-j-test.true c.binders-cut.ensures.0 c.insert_part-part.ensures
+    insert_next c.loop-j.invariant c.loop-j-test.true c.then_some-bound.ensures c.binders-cut.ensures.0 c.insert_part-part.ensures
     c.insert_part-part.auto.dst
 
 pub returns : goal.returns

@@ -1,5 +1,4 @@
 -- The body and the value stand in a row behind the two nodes.
-use Rattle.std.proofs.Common.{arith}
 use Rattle.binding.proofs.UsesByNode.{counts_sized}
 use Rattle.contraction.proofs.RedexRows.{two_starts, of_apply, two_sized}
 use Rattle.contraction.proofs.RedexSizes.{apply_measures, counted_with}

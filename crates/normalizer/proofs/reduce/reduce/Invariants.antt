@@ -1,7 +1,6 @@
 -- The inner loop's invariant says that the reduction has come from the phase's start to this turn, the outer one's that it has come from
 -- the first state to this phase. The loops end: each step takes one off the budget, and each phase has fewer after it.
 use Rattle.std.proofs.Common.{◌≡◌, ℕ, List, length}
-use Rattle.reduction.specs.declared.Settings.{Settings}
 use Rattle.reduction.specs.declared.Phase.{Phase}
 use Rattle.reduction.specs.Reduction.{Counts}
 use Rattle.normalizer.proofs.BetweenTurns.{State}
@@ -20,12 +19,9 @@ state phase words start end left counts second = record {
   second = second;
 }
 
-abbrev pub set : (budget : ℕ) (ceilings : List ℕ) → Settings
-set budget ceilings = record { budget = budget; ceilings = ceilings }
-
 abbrev pub invariant-loop-refusal : goal.invariant-loop-refusal
 invariant-loop-refusal l =
-    Arrives l.calls (set l.budget l.ceilings)
+    Arrives l.calls l.settings
     (state l.phase l.initial.current l.initial.start l.initial.end l.initial.left l.initial.counts l.initial.second)
     (state l.phase l.current l.start l.end l.left l.counts l.second)
     × (length l.pending ≡ 8194)
@@ -35,7 +31,7 @@ decreases-loop-refusal l = l.left
 
 abbrev pub invariant-reduce : goal.invariant-reduce
 invariant-reduce l =
-    Arrives l.calls (set l.budget l.ceilings) (initial l.initial.current l.begin (set l.budget l.ceilings) l.initial.second)
+    Arrives l.calls l.settings (initial l.initial.current l.begin l.settings l.initial.second)
     (state l.phase l.current l.start l.end l.left l.counts l.second)
     × (length l.pending ≡ 8194)
 

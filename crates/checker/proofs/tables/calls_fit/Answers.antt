@@ -1,0 +1,11 @@
+use Rattle.std.proofs.Common.{rules, tests, sym, ◌∙◌}
+use Rattle.std.proofs.lemmas.Iterator.{YieldsList-from_slice}
+use Rattle.std.proofs.lemmas.Iterator.Search.{all_from_yields_List}
+use Rattle.typing.specs.TableChecks.{well_formed_calls}
+use Rattle.checker.proofs.Every.{every_by_list}
+use Rattle.checker.proofs.tables.calls_fit.Goals as goal
+
+pub returns : goal.returns
+unfolding well_formed_calls
+returns c = all_from_yields_List _ _ _ _ c.all.ensures.ran (YieldsList-from_slice c.args.calls.now cc) (λ x b q k. search (rules, tests))
+    ∙ sym (every_by_list _ c.args.calls.now)
