@@ -1,4 +1,4 @@
--- A word from its four pairs of bytes, the most significant first.
+-- A word from its eight bytes, and from their four pairs, the most significant first.
 use Prim.Native.Nat.{ℕ, suc, ◌+◌, ◌*◌, ◌≤◌, ◌<◌}
 use native.Mathlib.Omega.{arith}
 use native.Mathlib.Nat.{add_assoc, add-suc}
@@ -7,6 +7,8 @@ use mathlib.Core.Path.{◌≡◌}
 use mathlib.Core.List.{List, [], ◌∷◌}
 use lib.ListN.{length, get_or, take, drop}
 use lib.Seq.{drop-cons}
+use Rattle.std.proofs.Common.{w64}
+use Rattle.std.specs.Int.{from_be_bytes}
 use Rattle.outcomes.specs.ReadBundle.{from_bytes}
 
 module _ (s : List ℕ) (at : ℕ) (h : at + 8 ≤ length s) where
@@ -31,6 +33,10 @@ module _ (s : List ℕ) (at : ℕ) (h : at + 8 ≤ length s) where
         next_byte 1 6 (omega arith),
         next_byte 0 7 (omega arith),
       )
+
+  pub word_of_eight : from_be_bytes w64 (take 8 (drop at s)) ≡ from_bytes 0 (take 8 (drop at s))
+  unfolding from_bytes
+  word_of_eight = rw eight_bytes (omega arith)
 
   -- a word from its four pairs of bytes
   pub word_of_pairs : (a b c d : ℕ) → a ≡ get_or s at 0 * 256 + get_or s (at + 1) 0 → b ≡ get_or s (at + 2) 0 * 256 + get_or s (at + 2 + 1) 0

@@ -1,28 +1,16 @@
--- Words read from bytes: eight bytes make a word.
-use Rattle.std.proofs.Common.{append_assoc, append-nil, add_comm, ◌≡◌, ℕ, zero, suc, ◌+◌, ◌*◌, ◌<◌, List, [], ◌∷◌, ◌++◌, length, get_or, take, drop, set, refl, ◌∙◌, ap, arith, w64, add-one}
+-- Words read from bytes, and written one after the other.
+use Rattle.std.proofs.Common.{◌≡◌, ℕ, zero, suc, ◌+◌, ◌*◌, ◌<◌, ◌≤◌, List, [], ◌∷◌, ◌++◌, length, get_or, take, drop, set, refl, ◌∙◌, ap, arith, w64, append_assoc, append-nil, add_comm, add-one}
 use Rattle.std.proofs.Math.Nat.{mul-suc}
 use Rattle.std.proofs.lemmas.List.{drop_all}
 use Rattle.std.proofs.Math.Seq.{drop-cons, drop-drop, set_at}
 use Rattle.std.specs.Int.{from_be_bytes}
 use Rattle.outcomes.specs.ReadBundle.{from_bytes, words_of}
-
-word_of_bytes : (bytes : List ℕ) → length bytes ≡ 8 → from_be_bytes w64 bytes ≡ from_bytes 0 bytes
-unfolding from_bytes
-word_of_bytes (a ∷ b ∷ c ∷ d ∷ e ∷ f ∷ g ∷ h ∷ []) n = omega arith
-word_of_bytes [] n = absurd (omega arith)
-word_of_bytes (a ∷ []) n = absurd (omega arith)
-word_of_bytes (a ∷ b ∷ []) n = absurd (omega arith)
-word_of_bytes (a ∷ b ∷ c ∷ []) n = absurd (omega arith)
-word_of_bytes (a ∷ b ∷ c ∷ d ∷ []) n = absurd (omega arith)
-word_of_bytes (a ∷ b ∷ c ∷ d ∷ e ∷ []) n = absurd (omega arith)
-word_of_bytes (a ∷ b ∷ c ∷ d ∷ e ∷ f ∷ []) n = absurd (omega arith)
-word_of_bytes (a ∷ b ∷ c ∷ d ∷ e ∷ f ∷ g ∷ []) n = absurd (omega arith)
-word_of_bytes (a ∷ b ∷ c ∷ d ∷ e ∷ f ∷ g ∷ h ∷ i ∷ bytes) n = absurd (omega arith)
+use Rattle.bundles.proofs.BytePairs.{word_of_eight}
 
 -- the eight bytes from a place on
-pub word_of_part : (bytes part : List ℕ) (at k : ℕ) → k ≡ 8 → length (take k (drop at bytes)) ≡ 8 → part ≡ take k (drop at bytes)
+pub word_of_part : (bytes part : List ℕ) (at k : ℕ) → k ≡ 8 → at + 8 ≤ length bytes → part ≡ take k (drop at bytes)
     → from_be_bytes w64 part ≡ from_bytes 0 (take 8 (drop at bytes))
-word_of_part bytes part at k e l p = word_of_bytes part (ap length p ∙ l) ∙ ap (from_bytes 0) (rw e at p)
+word_of_part bytes part at k e h p = rw (p, e) (word_of_eight bytes at h)
 
 pub length-words : (n : ℕ) (bytes : List ℕ) → length (words_of n bytes) ≡ n
 unfolding words_of

@@ -9,11 +9,11 @@ use Rattle.outcomes.specs.Listing.{digit, decimal_then, decimal}
 use Rattle.bundles.specs.Digits.{last_digits}
 
 -- the last digit, and those before it
-then_last : (f n : ℕ) (rest : List ℕ) → n / 10 ≡ 0 → decimal_then (suc f) n rest ≡ digit (n % 10) ∷ rest
+pub then_last : (f n : ℕ) (rest : List ℕ) → n / 10 ≡ 0 → decimal_then (suc f) n rest ≡ digit (n % 10) ∷ rest
 unfolding decimal_then
 then_last f n rest e = rw (e, decimal_then)
 
-then_more : (f n m : ℕ) (rest : List ℕ) → n / 10 ≡ suc m → decimal_then (suc f) n rest ≡ decimal_then f (n / 10) (digit (n % 10) ∷ rest)
+pub then_more : (f n m : ℕ) (rest : List ℕ) → n / 10 ≡ suc m → decimal_then (suc f) n rest ≡ decimal_then f (n / 10) (digit (n % 10) ∷ rest)
 unfolding decimal_then
 then_more f n m rest e = rw (e, decimal_then) (ap (λ (q : ℕ). decimal_then f q (digit (n % 10) ∷ rest)) e)
 

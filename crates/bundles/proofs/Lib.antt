@@ -1,4 +1,5 @@
 pub mod PartsRead
+pub mod BytePairs
 pub mod Bytes
 pub mod Readable
 pub mod Hexadecimal
@@ -11,4 +12,3 @@ pub mod Lines
 pub mod WholeListing
 pub mod ListingOutcome
 pub mod ListingBound
-pub mod BytePairs

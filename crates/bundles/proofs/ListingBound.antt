@@ -1,4 +1,5 @@
 -- How long a listing gets: each field by the size of its number, each word a line of seventeen bytes.
+use Rattle.std.proofs.Common.{Bool, true, false, leb, leb-true}
 use Prim.Native.Nat.{ℕ, zero, suc, ◌*◌, ◌^◌, ◌≤◌, ◌<◌}
 use native.Mathlib.Omega.{arith}
 use mathlib.Core.Path.{◌≡◌, refl}
@@ -6,7 +7,8 @@ use mathlib.Core.List.{List, [], ◌∷◌}
 use lib.ListN.{length, get_or, length-append}
 use Rattle.outcomes.specs.Text.{ascii}
 use Rattle.outcomes.specs.declared.Answer.{Answer}
-use Rattle.outcomes.specs.Listing.{space, decimal, lines, listing_of}
+use Rattle.outcomes.specs.Listing.{space, decimal, lines, listing_of, Written, written_to}
+use Rattle.outcomes.specs.Respond.{response, respond_outcome}
 use Rattle.bundles.specs.FirstLine.{accepted_line}
 use Rattle.bundles.proofs.Decimal.{decimal_short}
 use Rattle.bundles.proofs.ListedFields.{spaced, fields_size}
@@ -60,3 +62,11 @@ listing_fits a ws r t n w c h = by_refusal a.refusal refl where
         fields_size a.counts some,
         sizes_short a.counts h,
       ))
+
+-- the program writes no more than the text has room for
+pub respond_within : (bytes text : List ℕ) (told : Written) → told ≡ respond_outcome bytes text → told.length ≤ length text
+unfolding respond_outcome written_to
+respond_within bytes text told t = rw t (by_test (leb (length (response bytes)) (length text)) refl) where
+  by_test : (b : Bool) → leb (length (response bytes)) (length text) ≡ b → (written_to text (response bytes)).length ≤ length text
+  by_test false e = rw (e, written_to) (omega arith)
+  by_test true e = rw (e, written_to) (leb-true (length (response bytes)) (length text) e)

@@ -1,10 +1,10 @@
 -- The outcome of `read_bundle`: the words are written if the bytes are a bundle that the slice has room for, and otherwise it refuses.
+use Rattle.std.proofs.Common.{◌≡◌, ℕ, ◌+◌, ◌-◌, ◌*◌, ◌%◌, ◌^◌, ◌<◌, ◌≤◌, ◌⊎◌, inl, inr, Bool, true, false, List, ◌++◌, length, take, drop, refl, ap, arith, length-drop, length-take-le}
 use Rattle.std.proofs.lemmas.List.{take_all}
-use Rattle.std.proofs.Common.{take, length-drop, ◌-◌, length-take-le, ◌++◌, ◌⊎◌, inl, inr, ◌≡◌, ℕ, ◌+◌, ◌*◌, ◌%◌, ◌^◌, ◌≤◌, ◌<◌, Bool, true, false, List, length, drop, ap, refl, arith}
 use Rattle.std.proofs.lemmas.Bool.Decides.{nat_tests}
 use Rattle.outcomes.specs.Buffers.{overwrite}
-use Rattle.bundles.proofs.Bytes.{length-words}
 use Rattle.outcomes.specs.ReadBundle.{lengths_of, total, header_of, readable, LengthsRead, Reading, unreadable, words_after, words_of, read_bundle_outcome}
+use Rattle.bundles.proofs.Bytes.{length-words}
 
 -- a bundle whose words fit into so many
 pub record IsBundle (bytes : List ℕ) (capacity : ℕ) : Type 0 where

@@ -28,10 +28,10 @@ fn lengths_of(header: u64) -> Lengths
     ensures { (lengths_read (Ok result) ≡ lengths_of header) × (total (lengths_read (Ok result)) ≤ 32764) }
 {
     Lengths {
-        types: (header / 2251799813685248) as usize,
-        calls: (header / 274877906944 % 8192) as usize,
-        inputs: (header / 33554432 % 8192) as usize,
-        words: (header / 4096 % 8192) as usize,
+        types: (header >> 51) as usize,
+        calls: ((header >> 38) % 8192) as usize,
+        inputs: ((header >> 25) % 8192) as usize,
+        words: ((header >> 12) % 8192) as usize,
     }
 }
 

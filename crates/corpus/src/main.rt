@@ -2,8 +2,9 @@
 // A record is ten header words, for call 5 ten ceilings, then the words of four tables or the bytes of a bundle, padded to whole words.
 #![tactic(auto)]
 
-ghost use Rattle.std.specs.Prelude.{◌≤◌, length};
+ghost use Rattle.std.specs.Prelude.{◌≤◌};
 
+use bundles::read::copy_words;
 use normalizer::settings::no_ceilings;
 use reduction::Settings;
 use std::io::Read;
@@ -11,139 +12,98 @@ use std::io::Read;
 mod codec; // codec.rt: words from bytes, and the contents of buffers
 mod lines; // lines.rt: what is written for each call
 
-use crate::codec::{
-    HEADER_BYTES, MOST_BYTES, MOST_WORDS, decode, half_word, half_words, header_word, length_word,
-};
+use crate::codec::{MOST_BYTES, MOST_WORDS, half_word, length_word, read_all, read_ten};
 use crate::lines::{bundle_listing, check_line, inputs_line, normal_line, normalize_line};
 
-// reads until the buffer is full, the input ends or a read fails; answers how many bytes
-fn read_full(input: &mut impl Read, bytes: &mut [u8]) -> usize
-    ensures { result ≤ length bytes.new }
-{
-    let mut done = 0;
-    while done < bytes.len() {
-        let n = input.read(&mut bytes[done..]).unwrap_or(0);
-        if n == 0 {
-            break;
+// the calls, by the first word of a header
+#[derive(Clone, Copy)]
+enum Call {
+    Respond,
+    Check,
+    IsNormal,
+    FreeInputs,
+    Normalize,
+    NormalizeWithin,
+}
+
+impl From<u64> for Call {
+    fn from(number: u64) -> Call {
+        match number {
+            0 => Call::Respond,
+            1 => Call::Check,
+            2 => Call::IsNormal,
+            4 => Call::FreeInputs,
+            5 => Call::NormalizeWithin,
+            _ => Call::Normalize,
         }
-        done += n;
-    }
-    done
-}
-
-// reads so many bytes to the front; no where the input ends before
-fn read_front(input: &mut impl Read, bytes: &mut [u8], n: usize) -> bool {
-    if bytes.len() < n {
-        return false;
-    }
-    let start: usize = 0;
-    let got = read_full(input, &mut bytes[start..n]);
-    got == n
-}
-
-// call 0: the bundle's bytes
-fn bundle(rt: &impl Print, input: &mut impl Read, head: &[u8; HEADER_BYTES]) -> bool {
-    let size = length_word(head, 9);
-    let mut bytes: [u8; MOST_BYTES] = [0; MOST_BYTES];
-    if !read_front(input, &mut bytes, (size + 7) / 8 * 8) {
-        return false;
-    }
-    bundle_listing(rt, &bytes, size);
-    true
-}
-
-// the header's budget, with the ceilings of call 5 and none for any other call
-fn settings_after(input: &mut impl Read, head: &[u8; HEADER_BYTES]) -> Settings {
-    let budget = half_word(head, 1);
-    if header_word(head, 0) != 5 {
-        return no_ceilings(budget);
-    }
-    let mut words: [u8; HEADER_BYTES] = [0; HEADER_BYTES];
-    read_full(input, &mut words);
-    let ceilings = half_words(&words);
-    Settings {
-        budget: budget,
-        ceilings: ceilings,
     }
 }
 
-// calls 1 to 5 on the tables that stand one after the other
-fn call_on(
-    rt: &impl Print,
-    head: &[u8; HEADER_BYTES],
-    settings: Settings,
-    words: &[u64],
-    a: usize,
-    b: usize,
-    c: usize,
-    d: usize,
-)
-    requires { (a ≤ b) × (b ≤ c) × (c ≤ d) × (d ≤ length words.now) }
+// the bundle's bytes, as many as the header says
+fn on_bundle(rt: &impl Print, input: &mut impl Read, size: usize) -> Option<()>
+    requires { size ≤ 65600 }
 {
-    let start: usize = 0;
-    let types = &words[start..a];
-    let calls = &words[a..b];
-    let inputs = &words[b..c];
-    let term = &words[c..d];
-    let call = header_word(head, 0);
-    if call == 1 {
-        check_line(rt, types, calls, inputs, term);
-        return;
-    }
-    if call == 2 {
-        normal_line(rt, types, calls, inputs, term);
-        return;
-    }
-    if call == 4 {
-        inputs_line(rt, types, calls, inputs, term);
-        return;
-    }
-    let output = length_word(head, 2);
-    let first = length_word(head, 3);
-    let second = length_word(head, 4);
-    normalize_line(
-        rt, types, calls, inputs, term, settings, output, first, second,
-    );
+    let mut bytes = [0; MOST_BYTES];
+    read_all(input, &mut bytes[..size.next_multiple_of(8)])?;
+    bundle_listing(rt, &bytes[..size]);
+    Some(())
 }
 
-// calls 1 to 5: the ceilings of call 5 and the tables' words
-fn tables(rt: &impl Print, input: &mut impl Read, head: &[u8; HEADER_BYTES]) -> bool {
-    let a = length_word(head, 5);
-    let b = a + length_word(head, 6);
-    let c = b + length_word(head, 7);
-    let d = c + length_word(head, 8);
-    if MOST_WORDS < d {
-        return false;
+// the header's budget, with the ceilings of call 5, zeros where the input ends, and none for any other call
+fn settings_after(input: &mut impl Read, call: Call, budget: u32) -> Settings {
+    match call {
+        Call::NormalizeWithin => Settings {
+            budget,
+            ceilings: read_ten(input).unwrap_or([0; 10]).map(half_word),
+        },
+        _ => no_ceilings(budget),
     }
-    let settings = settings_after(input, head);
-    let mut bytes: [u8; MOST_BYTES] = [0; MOST_BYTES];
-    if !read_front(input, &mut bytes, 8 * d) {
-        return false;
-    }
-    let mut words: [u64; MOST_WORDS] = [0; MOST_WORDS];
-    decode(&bytes, &mut words, d);
-    call_on(rt, head, settings, &words, a, b, c, d);
-    true
 }
 
-// one record; no at the end of the input
-fn record(rt: &impl Print, input: &mut impl Read) -> bool {
-    let mut head: [u8; HEADER_BYTES] = [0; HEADER_BYTES];
-    let n = read_full(input, &mut head);
-    if n < HEADER_BYTES {
-        return false;
+// the ceilings of call 5 and the tables' words, as many as the header says
+fn on_tables(rt: &impl Print, input: &mut impl Read, call: Call, head: [u64; 10]) -> Option<()> {
+    let [types, calls, inputs, term] = [head[5], head[6], head[7], head[8]].map(length_word);
+    let total = types + calls + inputs + term;
+    if MOST_WORDS < total {
+        return None;
     }
-    if header_word(&head, 0) == 0 {
-        return bundle(rt, input, &head);
+    let settings = settings_after(input, call, half_word(head[1]));
+    let mut bytes = [0; MOST_BYTES];
+    let bytes = &mut bytes[..8 * total];
+    read_all(input, bytes)?;
+    let mut words = [0; MOST_WORDS];
+    let words = &mut words[..total];
+    copy_words(bytes, words);
+    let (types, rest) = words.split_at(types);
+    let (calls, rest) = rest.split_at(calls);
+    let (inputs, term) = rest.split_at(inputs);
+    match call {
+        Call::Check => check_line(rt, types, calls, inputs, term),
+        Call::IsNormal => normal_line(rt, types, calls, inputs, term),
+        Call::FreeInputs => inputs_line(rt, types, calls, inputs, term),
+        _ => {
+            let lengths = [head[2], head[3], head[4]].map(length_word);
+            normalize_line(rt, types, calls, inputs, term, settings, lengths);
+        }
     }
-    tables(rt, input, &head)
+    Some(())
 }
 
-// A proved loop has to end, so it counts its turns down from a number that no run uses up.
+// one record; None at the end of the input
+fn record(rt: &impl Print, input: &mut impl Read) -> Option<()> {
+    let head = read_ten(input)?;
+    match Call::from(head[0]) {
+        Call::Respond => on_bundle(rt, input, length_word(head[9])),
+        call => on_tables(rt, input, call, head),
+    }
+}
+
+// A proved loop has to end, so it counts its turns, which no run uses up.
 fn main(rt: HostRuntime) {
     let mut input = rt.stdin();
-    let mut turns = u64::MAX;
-    while turns > 0 && record(&rt, &mut input) {
-        turns -= 1;
+    for _ in 0..u64::MAX {
+        if record(&rt, &mut input).is_none() {
+            break;
+        }
     }
 }
