@@ -10,7 +10,7 @@ use words::fields::{kind, number};
 pub fn lowered(w: u64, depth: u64) -> u64
     ensures { result ≡ lowered_word depth w }
 {
-    if depth < number(w) { w - 1073741824 } else { w }
+    if depth < number(w) { w - (1 << 30) } else { w }
 }
 
 // lowers the variables of the part at the front past variable 0, which stays; `pending` has the depths of the parts still to come
@@ -21,6 +21,7 @@ pub fn lower_part(calls: &[u64], t: &mut [u64], pending: &mut [u64])
     pending[0] = 0;
     let mut owed = 1;
     let mut at = 0;
+    // kept: the index is counted by hand, since the loop ends where no part is owed, and not where the words do
     while 0 < owed {
         let w = t[at];
         let last = owed - 1;

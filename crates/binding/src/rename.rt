@@ -12,7 +12,7 @@ fn raised(w: u64, cut: u64, by: usize) -> u64
     ensures { result ≡ raised_word cut by w }
 {
     if cut <= number(w) {
-        w + by as u64 * 1073741824
+        w + ((by as u64) << 30)
     } else {
         w
     }
@@ -36,6 +36,7 @@ pub fn rename_into(
     pending[0] = cut as u64;
     let mut owed = 1;
     let mut size = 0;
+    // kept: the index is counted by hand, since the loop ends where no part is owed, and not where the words do
     while 0 < owed {
         let w = src[size];
         let last = owed - 1;

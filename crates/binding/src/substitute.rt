@@ -44,19 +44,19 @@ pub fn substitute_into(
 )
     requires room_for { RoomFor calls.now body.now value.now (length dst.old) at depth (length pending.old) }
     requires body_bound { (depth + length body.now ≤ 65536) × (length value.now ≤ 8192) }
-    ensures { Substitutes calls.now body.now value.now dst.old dst.new at
-        depth }
+    ensures { Substitutes calls.now body.now value.now dst.old dst.new at depth }
 {
     pending[0] = depth as u64;
     let mut owed = 1;
     let mut read = 0;
     let mut written = 0;
+    // kept: the index is counted by hand, since the loop ends where no part is owed, and not where the words do
     while 0 < owed {
         let w = body[read];
         let last = owed - 1;
         let under = pending[last];
         read += 1;
-        if w == under * 1073741824 {
+        if w == under << 30 {
             let behind = &mut pending[owed..];
             written += put_value(calls, value, dst, at + written, under as usize, behind);
             owed = last;

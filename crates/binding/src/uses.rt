@@ -19,7 +19,7 @@ fn is_variable(w: u64, depth: u64) -> usize
     requires { depth ≤ 131072 }
     ensures { (result ≡ counts (eqb w (pack 0 depth 0))) × (result ≤ 1) }
 {
-    usize::from(w == depth * 1073741824)
+    usize::from(w == depth << 30)
 }
 
 // where the part at the front ends, and how often it uses the variable `depth`; `pending` has the depths of the parts still to come
@@ -31,6 +31,7 @@ pub fn count_uses(calls: &[u64], t: &[u64], depth: usize, pending: &mut [u64]) -
     let mut owed = 1;
     let mut end = 0;
     let mut uses = 0;
+    // kept: the index is counted by hand, since the loop ends where no part is owed, and not where the words do
     while 0 < owed {
         let w = t[end];
         let last = owed - 1;

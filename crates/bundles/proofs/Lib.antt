@@ -3,6 +3,7 @@ pub mod Bytes
 pub mod Readable
 pub mod Hexadecimal
 pub mod Decimal
+pub mod DecimalByDivision
 pub mod FieldsWritten
 pub mod ListedFields
 pub mod FieldsPut

@@ -1,2 +1,3 @@
 pub mod BytesPut
 pub mod FirstLine
+pub mod Digits

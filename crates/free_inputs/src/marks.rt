@@ -9,7 +9,7 @@ use words::depths::open_parts;
 use words::fields::{kind, number};
 
 // the mark of the first input of a word
-const HIGHEST: u64 = 9223372036854775808;
+const HIGHEST: u64 = 1 << 63;
 
 // marks the input that a word names under so many binders; a word that is no variable's, or names a binder, marks none
 #[tactic(auto, using(crate::proofs::OneMark::past_inputs, crate::proofs::OneMark::one_input))]
@@ -33,6 +33,7 @@ fn marks_in<const N: usize>(calls: &[u64], term: &[u64]) -> [u64; 4]
     let mut marks = [0; 4];
     let mut owed = 1;
     let mut at = 0;
+    // kept: counted by hand, since the loop ends when nothing is owed: a `for` over the words would ask each time whether they end, too
     while 0 < owed {
         let w = term[at];
         let last = owed - 1;

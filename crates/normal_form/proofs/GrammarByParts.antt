@@ -1,6 +1,7 @@
 -- The grammar by parts, one law for each kind of node: an operation, a let or a case is in normal form exactly if each of its parts is in
 -- normal form, begins with a node that can be what the part has to be, and uses the variable if it has to. A pair, an injection
 -- and a unit are normal values exactly if their parts are, because the kind of a normal form says whether it is a value.
+use native.Mathlib.Omega.{arith}
 use mathlib.Core.Path.{◌≡◌, refl, sym, ◌∙◌, ap, ap₂}
 use mathlib.Core.Bool.{Bool, true, false, ◌&&◌, ◌||◌, not, cond, and-true, true≢false}
 use mathlib.Core.List.{List}
@@ -13,7 +14,7 @@ use Rattle.syntax.proofs.Options.{and_last}
 use Rattle.reduction.specs.MayDrop.{may_drop}
 use Rattle.reduction.specs.NormalForm.{needed}
 use Rattle.reduction.specs.FitByKinds.{value_kind}
-use Rattle.reduction.specs.Grammar.{Class, a_value, an_operation, a_block, is_a_value, is_an_operation, is_in_grammar, provided, class, are_values}
+use Rattle.reduction.specs.Grammar.{Class, a_value, an_operation, not_normal, is_a_value, is_an_operation, is_in_grammar, provided, class, are_values}
 use Rattle.reduction.specs.Grammar.{in_grammar}
 use Rattle.normal_form.specs.Roles.{role_of, suits, operation_kind, keeps_variable}
 use Rattle.normal_form.specs.declared.normal.Role.{Role}
@@ -36,60 +37,39 @@ unfoldable pub part_passes : List ℕ → ℕ → Bool → ℕ → Term → Bool
 part_passes calls k droppable j t =
     suits (role_of k j) (node t).kind && in_grammar (may_drop calls) t && keeps_variable k j droppable (uses t 0)
 
+-- two questions about a class have one answer, if they have where the test passes and where it does not
+same : (f g : Class → Bool) {c : Class} → f c ≡ g c → f not_normal ≡ g not_normal → (b : Bool) → f (provided b c) ≡ g (provided b c)
+same f g e n true = e
+same f g e n false = n
+
 value_provided : (b : Bool) → is_a_value (provided b a_value) ≡ is_in_grammar (provided b a_value)
-value_provided true = refl
-value_provided false = refl
+value_provided = same is_a_value is_in_grammar refl refl
 
 operation_provided : (b : Bool) → is_an_operation (provided b an_operation) ≡ is_in_grammar (provided b an_operation)
-operation_provided true = refl
-operation_provided false = refl
+operation_provided = same is_an_operation is_in_grammar refl refl
 
-no_value : (b : Bool) → is_a_value (provided b an_operation) ≡ false
-no_value true = refl
-no_value false = refl
+no_value : (c : Class) → is_a_value c ≡ false → (b : Bool) → is_a_value (provided b c) ≡ false
+no_value c e = same is_a_value (λ c. false) e refl
 
-no_value_block : (b : Bool) → is_a_value (provided b a_block) ≡ false
-no_value_block true = refl
-no_value_block false = refl
+no_operation : (c : Class) → is_an_operation c ≡ false → (b : Bool) → is_an_operation (provided b c) ≡ false
+no_operation c e = same is_an_operation (λ c. false) e refl
 
-no_operation : (b : Bool) → is_an_operation (provided b a_value) ≡ false
-no_operation true = refl
-no_operation false = refl
-
-no_operation_block : (b : Bool) → is_an_operation (provided b a_block) ≡ false
-no_operation_block true = refl
-no_operation_block false = refl
-
-passes : (b : Bool) (c : Class) → is_in_grammar c ≡ true → is_in_grammar (provided b c) ≡ b
-passes true c h = h
-passes false c h = refl
+passes : (f : Class → Bool) {c : Class} → f c ≡ true → f not_normal ≡ false → (b : Bool) → f (provided b c) ≡ b
+passes f e n true = e
+passes f e n false = n
 
 value_passes : (b : Bool) → is_a_value (provided b a_value) ≡ b
-value_passes true = refl
-value_passes false = refl
+value_passes = passes is_a_value refl refl
 
 -- two parts; a let's and a case's
 two : {a a' b b' : Bool} → a ≡ a' → b ≡ b' → (a && b) ≡ (a' && (b' && true))
 two e d = ap₂ ◌&&◌ e (and_last d)
 
 let_parts : {a a' : Bool} → a ≡ a' → (u b : Bool) → (a && u && b) ≡ (a' && ((true && b && u) && true))
-let_parts {a} {a'} e u b = ap (λ (x : Bool). x && u && b) e ∙ go a' u b
-  where
-    go : (a u b : Bool) → (a && u && b) ≡ (a && ((true && b && u) && true))
-    go true true true = refl
-    go true true false = refl
-    go true false true = refl
-    go true false false = refl
-    go false u b = refl
+let_parts e u b = grind arith
 
 case_parts : {a a' : Bool} → a ≡ a' → (l r : Bool) → (a && l && r) ≡ (a' && ((true && l && true) && ((true && r && true) && true)))
-case_parts {a} {a'} e l r = ap (λ (x : Bool). x && l && r) e ∙ go a' l r
-  where
-    go : (a l r : Bool) → (a && l && r) ≡ (a && ((true && l && true) && ((true && r && true) && true)))
-    go true true true = refl
-    go true true false = refl
-    go true false r = refl
-    go false l r = refl
+case_parts e l r = grind arith
 
 module _ (calls : List ℕ) where
   abbrev pure : Term → Bool
@@ -99,31 +79,31 @@ module _ (calls : List ℕ) where
   pub value_kind_lem : (t : Term) → is_normal_value calls t ≡ (value_kind (node t).kind && in_grammar pure t)
   unfolding is_normal_value in_grammar class value_kind node
   value_kind_lem (var n) = refl
-  value_kind_lem (call k ts) = no_value (are_values pure ts)
+  value_kind_lem (call k ts) = no_value _ refl (are_values pure ts)
   value_kind_lem (lam A b) = value_provided (is_in_grammar (class pure b))
-  value_kind_lem (app f a) = no_value (is_some (as_var f) && is_a_value (class pure a))
-  value_kind_lem (bind e b) = no_value_block (is_an_operation (class pure e) && needed pure e b && is_in_grammar (class pure b))
+  value_kind_lem (app f a) = no_value _ refl (is_some (as_var f) && is_a_value (class pure a))
+  value_kind_lem (bind e b) = no_value _ refl (is_an_operation (class pure e) && needed pure e b && is_in_grammar (class pure b))
   value_kind_lem (pair A a b) = value_provided (is_a_value (class pure a) && is_a_value (class pure b))
-  value_kind_lem (fst a) = no_value (is_some (as_var a))
-  value_kind_lem (snd a) = no_value (is_some (as_var a))
+  value_kind_lem (fst a) = no_value _ refl (is_some (as_var a))
+  value_kind_lem (snd a) = no_value _ refl (is_some (as_var a))
   value_kind_lem (inl A a) = value_provided (is_a_value (class pure a))
   value_kind_lem (inr A a) = value_provided (is_a_value (class pure a))
-  value_kind_lem (case s l r) = no_value_block (is_some (as_var s) && is_in_grammar (class pure l) && is_in_grammar (class pure r))
+  value_kind_lem (case s l r) = no_value _ refl (is_some (as_var s) && is_in_grammar (class pure l) && is_in_grammar (class pure r))
   value_kind_lem (unit A) = refl
 
   operation_kind_lem : (t : Term) → is_an_operation (class pure t) ≡ (operation_kind (node t).kind && in_grammar pure t)
   unfolding in_grammar class operation_kind node
   operation_kind_lem (var n) = refl
   operation_kind_lem (call k ts) = operation_provided (are_values pure ts)
-  operation_kind_lem (lam A b) = no_operation (is_in_grammar (class pure b))
+  operation_kind_lem (lam A b) = no_operation _ refl (is_in_grammar (class pure b))
   operation_kind_lem (app f a) = operation_provided (is_some (as_var f) && is_a_value (class pure a))
-  operation_kind_lem (bind e b) = no_operation_block (is_an_operation (class pure e) && needed pure e b && is_in_grammar (class pure b))
-  operation_kind_lem (pair A a b) = no_operation (is_a_value (class pure a) && is_a_value (class pure b))
+  operation_kind_lem (bind e b) = no_operation _ refl (is_an_operation (class pure e) && needed pure e b && is_in_grammar (class pure b))
+  operation_kind_lem (pair A a b) = no_operation _ refl (is_a_value (class pure a) && is_a_value (class pure b))
   operation_kind_lem (fst a) = operation_provided (is_some (as_var a))
   operation_kind_lem (snd a) = operation_provided (is_some (as_var a))
-  operation_kind_lem (inl A a) = no_operation (is_a_value (class pure a))
-  operation_kind_lem (inr A a) = no_operation (is_a_value (class pure a))
-  operation_kind_lem (case s l r) = no_operation_block (is_some (as_var s) && is_in_grammar (class pure l) && is_in_grammar (class pure r))
+  operation_kind_lem (inl A a) = no_operation _ refl (is_a_value (class pure a))
+  operation_kind_lem (inr A a) = no_operation _ refl (is_a_value (class pure a))
+  operation_kind_lem (case s l r) = no_operation _ refl (is_some (as_var s) && is_in_grammar (class pure l) && is_in_grammar (class pure r))
   operation_kind_lem (unit A) = refl
 
   -- a part by its role
@@ -170,17 +150,17 @@ module _ (calls : List ℕ) where
       → in_grammar pure t ≡ all_pass (part_passes calls (node t).kind (first_may_drop calls (node t).parts)) 0 (node t).parts
   unfolding in_grammar class node all_pass first_may_drop part_passes role_of suits keeps_variable value_kind needed
   grammar_parts (var n) h = absurd (true≢false h)
-  grammar_parts (call k ts) h = passes _ an_operation refl ∙ arguments_pass (first_may_drop calls ts) 0 ts
+  grammar_parts (call k ts) h = passes is_in_grammar refl refl _ ∙ arguments_pass (first_may_drop calls ts) 0 ts
   grammar_parts (lam A b) h = absurd (true≢false h)
-  grammar_parts (app f a) h = passes _ an_operation refl ∙ two (variable_part f) (value_part a)
-  grammar_parts (bind e b) h = passes _ a_block refl
+  grammar_parts (app f a) h = passes is_in_grammar refl refl _ ∙ two (variable_part f) (value_part a)
+  grammar_parts (bind e b) h = passes is_in_grammar refl refl _
       ∙ let_parts (operation_part e) (leb 1 (uses b 0) || not (may_drop calls e)) (in_grammar pure b)
   grammar_parts (pair A a b) h = absurd (true≢false h)
-  grammar_parts (fst a) h = passes _ an_operation refl ∙ and_last (variable_part a)
-  grammar_parts (snd a) h = passes _ an_operation refl ∙ and_last (variable_part a)
+  grammar_parts (fst a) h = passes is_in_grammar refl refl _ ∙ and_last (variable_part a)
+  grammar_parts (snd a) h = passes is_in_grammar refl refl _ ∙ and_last (variable_part a)
   grammar_parts (inl A a) h = absurd (true≢false h)
   grammar_parts (inr A a) h = absurd (true≢false h)
-  grammar_parts (case s l r) h = passes _ a_block refl ∙ case_parts (variable_part s) (in_grammar pure l) (in_grammar pure r)
+  grammar_parts (case s l r) h = passes is_in_grammar refl refl _ ∙ case_parts (variable_part s) (in_grammar pure l) (in_grammar pure r)
   grammar_parts (unit A) h = absurd (true≢false h)
 
   -- a pair, an injection and a unit

@@ -7,28 +7,28 @@ ghost use Rattle.words.specs.Shapes.{argument_of};
 pub fn kind(w: u64) -> u64
     ensures { result ≡ kind_of w }
 {
-    w / 1152921504606846976
+    w >> 60
 }
 
 // a term word's number; a type word's left part
 pub fn number(w: u64) -> u64
     ensures { result ≡ number_of w }
 {
-    w / 1073741824 % 1073741824
+    (w >> 30) % (1 << 30)
 }
 
 // a term word's type; a type word's right part
 pub fn ty(w: u64) -> u64
     ensures { result ≡ type_of w }
 {
-    w % 1073741824
+    w % (1 << 30)
 }
 
 // a call word's count: the number of its arguments, and 8 more if the call acts
 pub fn count(w: u64) -> u64
     ensures { result ≡ count_of w }
 {
-    w / 1152921504606846976
+    w >> 60
 }
 
 // whether a call word's call acts
@@ -49,7 +49,7 @@ pub fn arguments(w: u64) -> u64
 pub fn result(w: u64) -> u64
     ensures { result ≡ result_of w }
 {
-    w / 35184372088832 % 32768
+    (w >> 45) % (1 << 15)
 }
 
 // a call word's argument type at a place, 0 past the third
@@ -58,9 +58,9 @@ pub fn argument(w: u64, i: usize) -> u64
     ensures { result ≡ argument_of w i }
 {
     match i {
-        0 => w / 1073741824 % 32768,
-        1 => w / 32768 % 32768,
-        2 => w % 32768,
+        0 => (w >> 30) % (1 << 15),
+        1 => (w >> 15) % (1 << 15),
+        2 => w % (1 << 15),
         _ => 0,
     }
 }

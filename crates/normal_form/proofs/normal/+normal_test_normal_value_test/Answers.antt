@@ -16,6 +16,7 @@ normal_test-bounds-t-0 t c = not_empty c.requires.0
 pub normal_test-returns-then-value_kind : goal.normal_test-returns-then-value_kind
 normal_test-returns-then-value_kind t c = value_normal c.requires.0 c.kind-k.ensures (cc) c.normal_value_test.ensures
 
+-- an operation, a let or a case: part by part
 pub normal_test-loop-j-init : goal.normal_test-loop-j-init
 normal_test-loop-j-init t c = normal_enter c.requires.0 c.kind-k.ensures (cc) c.part_count-j-end.ensures.0
 
@@ -62,9 +63,11 @@ normal_value_test-bounds-t-0 t c = not_empty c.requires.0
 pub normal_value_test-mark-requires : goal.normal_value_test-mark-requires
 normal_value_test-mark-requires t c = space_raisable c.requires.1 (not_empty c.requires.0) _ (omega arith)
 
+-- a variable
 pub normal_value_test-returns-then-k-eq0 : goal.normal_value_test-returns-then-k-eq0
 normal_value_test-returns-then-k-eq0 t c = value_variable c.requires.0 c.kind-k.ensures c.if-k-eq0.true c.number.ensures c.mark.ensures
 
+-- a function: its body
 pub normal_value_test-normal_test-requires : goal.normal_value_test-normal_test-requires
 normal_value_test-normal_test-requires t c =
     let body = function_enter {old = c.args.used.now} {depth = c.args.depth} c.requires.0 c.kind-k.ensures c.if-k-eq2.true in (
@@ -96,6 +99,7 @@ normal_value_test-returns-then-k-eq2 t c =
 pub normal_value_test-returns-then-not-value_kind : goal.normal_value_test-returns-then-not-value_kind
 normal_value_test-returns-then-not-value_kind t c = value_none c.requires.0 c.kind-k.ensures (cc)
 
+-- a pair, an injection or a unit: part by part
 pub normal_value_test-loop-init : goal.normal_value_test-loop-init
 normal_value_test-loop-init t c =
     values_enter c.requires.0 c.kind-k.ensures c.if-k-eq0.false c.if-k-eq2.false (cc) c.part_count-end.ensures.0
