@@ -2,15 +2,13 @@
 use Prim.Native.Nat.{ℕ, ◌-◌}
 use native.Mathlib.Omega.{arith}
 use mathlib.Core.Path.{◌≡◌, refl}
-use mathlib.Core.List.{List}
-use lib.ListN.{length}
-use lib.Seq.{paste}
+use mathlib.Core.List.{List, ◌++◌}
+use lib.ListN.{length, take, drop}
 use Rattle.std.proofs.lemmas.Grind.{common_steps}
 use Rattle.std.specs.Prelude.{Ok, Err}
 use Rattle.syntax.specs.Term.{Term}
 use Rattle.syntax.specs.Encoding.{encode, size}
 use Rattle.syntax.specs.Shaped.{Shaped}
-use Rattle.words.specs.Fronts.{from}
 use Rattle.reduction.specs.MayDrop.{may_drop}
 use Rattle.reduction.specs.declared.Settings.{Settings}
 use Rattle.reduction.specs.Reduction.{reduce}
@@ -25,16 +23,21 @@ use Rattle.normalizer.specs.Answers.{Settleable, Settles}
 use Rattle.normalizer.specs.declared.reduce.Reduced.{Reduced}
 use Rattle.step.proofs.GapMoved.{gapped_size}
 
-module _ {calls words output first second : List ℕ} (x : Settleable calls words output first second) {first' : List ℕ} {begin : ℕ}
-    (be : begin ≡ length first - length words) (fe : first' ≡ paste first begin words (length words)) where
-  same_long : length first' ≡ length first
+module _ {calls words output first second : List ℕ} (x : Settleable calls words output first second) {copied : List ℕ} (ce : copied ≡ words) where
+  abbrev begin : ℕ
+  begin = length first - length words
+
+  abbrev start : List ℕ
+  start = take begin first ++ (copied ++ drop (length first - begin) (drop begin first))
+
+  same_long : length start ≡ length first
   same_long = grind (arith, common_steps, x.small)
 
   -- the copy
-  placed : (t : Term) → Shaped calls t → words ≡ encode t → Current calls first' 0 begin t
+  placed : (t : Term) → Shaped calls t → words ≡ encode t → Current calls start 0 begin t
   placed t s e = grind (arith, common_steps, x.small)
 
-  module _ {settings : Settings} {after : List ℕ} {r : Reduced} (y : Reduces calls first' begin settings after r) where
+  module _ {settings : Settings} {after : List ℕ} {r : Reduced} (y : Reduces calls start begin settings after r) where
     reported : (t : Term) → Shaped calls t → words ≡ encode t
         → Reports after r (reduce (may_drop calls) (length first) settings t)
     reported t s e = rw same_long at y.told t (placed t s e)
@@ -44,19 +47,18 @@ module _ {calls words output first second : List ℕ} (x : Settleable calls word
         → a ≡ record { refusal = number_of why; ty = 0; length = 0; counts = r.counts }
         → Settles calls words A settings (length first) output a output
     unfolding reduced_to overwrite
-    settled_stopped {A = A} e ae = record {
+    settled_stopped e ae = record {
       told = λ t s is.
           let h = rw e at reported t s is in
           record { answer_is = rw h ae; output_is = rw h };
     }
 
-    -- come through: the last term has room in the output
-    pub settled_ended : {last : ℕ} {A : ℕ} {output' : List ℕ} → r.begin ≡ Ok last
-        → output' ≡ paste output 0 (from after last) (length after - last)
+    -- come through: the last term is copied to the output
+    pub settled_ended : {last : ℕ} {A : ℕ} {form : List ℕ} → r.begin ≡ Ok last → form ≡ take (length after - last) (drop last after)
         → Settles calls words A settings (length first) output
-        (record { refusal = 0; ty = A; length = length after - last; counts = r.counts }) output'
+        (record { refusal = 0; ty = A; length = length after - last; counts = r.counts }) (form ++ drop (length after - last) output)
     unfolding reduced_to overwrite size
-    settled_ended {last} {A} {output'} e oe = record {
+    settled_ended {last} e fe = record {
       told = λ t s is.
           let h = rw e at reported t s is in
           let sized : length after - last ≡ length (encode h.term) = omega (arith, gapped_size h.gapped) in

@@ -9,7 +9,7 @@ pub fn no_ceilings(budget: u32) -> Settings
     ensures { result ≡ no_ceilings budget }
 {
     Settings {
-        budget: budget,
+        budget,
         ceilings: [u32::MAX; 10],
     }
 }
