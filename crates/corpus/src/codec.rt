@@ -1,5 +1,5 @@
 // Words from bytes, and what the buffers hold before and after a call.
-ghost use Rattle.std.specs.Prelude.{◌≤◌};
+ghost use Rattle.std.specs.Prelude.{◌≡◌, ◌≤◌, length};
 
 use bundles::input::read_full;
 use bundles::read::copy_words;
@@ -40,7 +40,9 @@ pub fn length_word(word: u64) -> usize
 }
 
 // a buffer before a call: factor · index + offset
-pub fn fill(words: &mut [u64], factor: u64, offset: u64) {
+pub fn fill(words: &mut [u64], factor: u64, offset: u64)
+    ensures { length words.new ≡ length words.old }
+{
     for (i, word) in words.iter_mut().enumerate() {
         *word = (i as u64).wrapping_mul(factor).wrapping_add(offset);
     }

@@ -7,6 +7,7 @@ use normalizer::normalize::normalize;
 use outcomes::{Answer, FreeInputs, Refusal};
 use reduction::Settings;
 use responder::{MOST_WRITTEN, respond};
+use words::tables::Tables;
 
 // what a call answers, after its refusal, which is 0 where there is none
 fn numbers(answer: Result<u64, Refusal>) -> (u32, u64) {
@@ -16,22 +17,23 @@ fn numbers(answer: Result<u64, Refusal>) -> (u32, u64) {
     }
 }
 
-pub fn check_line(rt: &impl Print, types: &[u64], calls: &[u64], inputs: &[u64], term: &[u64]) {
-    let (refusal, ty) = numbers(check(types, calls, inputs, term));
+pub fn check_line(rt: &impl Print, tables: &Tables, term: &[u64]) {
+    let (refusal, ty) = numbers(check(tables.types, tables.calls, tables.inputs, term));
     let _ = println!(rt; "check {refusal} {ty}");
 }
 
-pub fn normal_line(rt: &impl Print, types: &[u64], calls: &[u64], inputs: &[u64], term: &[u64]) {
-    let (refusal, normal) = numbers(is_normal(types, calls, inputs, term).map(u64::from));
+pub fn normal_line(rt: &impl Print, tables: &Tables, term: &[u64]) {
+    let answer = is_normal(tables.types, tables.calls, tables.inputs, term);
+    let (refusal, normal) = numbers(answer.map(u64::from));
     let _ = println!(rt; "normal {refusal} {normal}");
 }
 
-pub fn inputs_line(rt: &impl Print, types: &[u64], calls: &[u64], inputs: &[u64], term: &[u64]) {
+pub fn inputs_line(rt: &impl Print, tables: &Tables, term: &[u64]) {
     let FreeInputs {
         refusal,
         marks: [a, b, c, d],
         count,
-    } = free_inputs(types, calls, inputs, term);
+    } = free_inputs(tables.types, tables.calls, tables.inputs, term);
     let _ = println!(rt; "inputs {refusal} {count} {a:016x} {b:016x} {c:016x} {d:016x}");
 }
 
@@ -49,9 +51,7 @@ fn answer_line(rt: &impl Print, answer: Answer, hash: u64) {
 // the answer, and what the buffers hold after it; none where a buffer is too long
 pub fn normalize_line(
     rt: &impl Print,
-    types: &[u64],
-    calls: &[u64],
-    inputs: &[u64],
+    tables: &Tables,
     term: &[u64],
     settings: Settings,
     lengths: [usize; 3],
@@ -69,7 +69,16 @@ pub fn normalize_line(
     fill(output, 1000003, 7);
     fill(first, 31, 1);
     fill(second, 17, 5);
-    let answer = normalize(types, calls, inputs, term, settings, output, first, second);
+    let answer = normalize(
+        tables.types,
+        tables.calls,
+        tables.inputs,
+        term,
+        settings,
+        output,
+        first,
+        second,
+    );
     let hash = digest(digest(digest(14695981039346656037, output), first), second);
     answer_line(rt, answer, hash);
 }

@@ -8,6 +8,7 @@ use bundles::read::copy_words;
 use normalizer::settings::no_ceilings;
 use reduction::Settings;
 use std::io::Read;
+use words::tables::Tables;
 
 mod codec; // codec.rt: words from bytes, and the contents of buffers
 mod lines; // lines.rt: what is written for each call
@@ -77,13 +78,18 @@ fn on_tables(rt: &impl Print, input: &mut impl Read, call: Call, head: [u64; 10]
     let (types, rest) = words.split_at(types);
     let (calls, rest) = rest.split_at(calls);
     let (inputs, term) = rest.split_at(inputs);
+    let tables = Tables {
+        types,
+        calls,
+        inputs,
+    };
     match call {
-        Call::Check => check_line(rt, types, calls, inputs, term),
-        Call::IsNormal => normal_line(rt, types, calls, inputs, term),
-        Call::FreeInputs => inputs_line(rt, types, calls, inputs, term),
+        Call::Check => check_line(rt, &tables, term),
+        Call::IsNormal => normal_line(rt, &tables, term),
+        Call::FreeInputs => inputs_line(rt, &tables, term),
         _ => {
             let lengths = [head[2], head[3], head[4]].map(length_word);
-            normalize_line(rt, types, calls, inputs, term, settings, lengths);
+            normalize_line(rt, &tables, term, settings, lengths);
         }
     }
     Some(())
