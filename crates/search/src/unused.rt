@@ -57,6 +57,7 @@ fn scan_part(calls: &Calls, t: &[u64], used: &mut [u64], depth: usize, base: usi
     requires t_len_bound { (length t.now ≤ 8192) × (base + length t.now ≤ 65536) }
     ensures { Scans calls.now t.now base depth used.old used.new result }
 {
+    // kept: counted by hand, since a part is stepped over whole, and the loop ends when nothing is owed
     let mut owed: usize = 1;
     let mut later: usize = 0;
     let mut fresh: u64 = 0;

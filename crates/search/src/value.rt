@@ -28,6 +28,7 @@ pub fn value_test(calls: &[u64], t: &[u64]) -> Option<usize>
     ensures { TestsValue calls.now t.now result }
 {
     let counts = value_parts();
+    // kept: counted by hand, since a function is stepped over whole, and the loop ends when nothing is owed
     let mut owed: usize = 1;
     let mut at: usize = 0;
     while 0 < owed {

@@ -19,6 +19,8 @@ pub struct Shape {
     pub binder: Option<usize>,
 }
 
+// kept: the kind as a number here and in the functions below, since a match on the kind with ranges decides the fields used, the parts and
+// the binders (a form that the project wants), and tables are looked up by it; elsewhere a kind has a name (kinds.rt)
 pub fn shape_of(k: u64) -> Shape
     ensures { Shaping k result }
 {
@@ -82,6 +84,8 @@ pub fn middle_binder(k: u64) -> u64
 }
 
 // stands in a table for a number of parts that is not known: as many as there are words at most
+// kept: a number and no Option, since a word whose number of parts is not known owes more than the words behind it, so that the loop for ends
+// has two exits and no third (a rule of the project; contract of `known_parts`: `Owes`)
 pub const NA: u16 = 8192;
 
 // how many parts a node of each kind has, a call's aside: for a loop over words, where a load is faster than the shift in `part_count`
