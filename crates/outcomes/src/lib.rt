@@ -8,19 +8,19 @@ ghost use Rattle.outcomes.specs.Refusal.{number_of};
 // why a call refuses, by number: the checks of the tables and the term in their order, the limits of a reduction, and the bundle
 #[derive(Clone, Copy, Debug, PartialEq, Eq)]
 pub enum Refusal {
-    Lengths = 1,
-    TypeWord = 2,
-    RepeatedType = 3,
-    CallWord = 4,
-    InputType = 5,
-    TermWord = 6,
-    Parts = 7,
-    Scope = 8,
-    Type = 9,
-    Budget = 10,
-    Capacity = 11,
-    Bundle = 12,
-    Ceiling = 13,
+    Lengths = 1, // the tables or the term have too many words, or the term has none
+    TypeWord = 2, // a type word is not well formed
+    RepeatedType = 3, // a type word stands twice
+    CallWord = 4, // a call word is not well formed
+    InputType = 5, // an input has no known type
+    TermWord = 6, // a term word is not well formed
+    Parts = 7, // the term words are not one part
+    Scope = 8, // a variable names no binder and no input
+    Type = 9, // the term has no type
+    Budget = 10, // the budget is spent
+    Capacity = 11, // a term of the reduction is longer than the capacity
+    Bundle = 12, // the bytes are no bundle
+    Ceiling = 13, // a rule would pass its ceiling
 }
 
 impl From<Refusal> for u32 {
