@@ -4,8 +4,7 @@ ghost use Rattle.words.specs.Fronts.{Starts};
 ghost use Rattle.binding.specs.Writes.{lowered_word, Lowers};
 
 use words::depths::open_parts;
-use words::fields::number;
-use words::kinds::Kind;
+use words::fields::{kind, number};
 
 // a variable's word, lowered by one if it is that of one past `depth`
 pub fn lowered(w: u64, depth: u64) -> u64
@@ -27,7 +26,7 @@ pub fn lower_part(calls: &[u64], t: &mut [u64], pending: &mut [u64])
         let w = t[at];
         let last = owed - 1;
         let under = pending[last];
-        if Kind::of(w) == Kind::Variable {
+        if kind(w) == 0 {
             t[at] = lowered(w, under);
             owed = last;
         } else {

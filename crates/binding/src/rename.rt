@@ -4,8 +4,7 @@ ghost use Rattle.syntax.specs.Words.{kind_of};
 ghost use Rattle.binding.specs.Writes.{raised_word, Room, Renames};
 
 use words::depths::open_parts;
-use words::fields::number;
-use words::kinds::Kind;
+use words::fields::{kind, number};
 
 // a variable's word, raised if it is that of one from `cut` on
 fn raised(w: u64, cut: u64, by: usize) -> u64
@@ -42,7 +41,7 @@ pub fn rename_into(
         let w = src[size];
         let last = owed - 1;
         let under = pending[last];
-        if Kind::of(w) == Kind::Variable {
+        if kind(w) == 0 {
             dst[at + size] = raised(w, under, by);
             owed = last;
         } else {

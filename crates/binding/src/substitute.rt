@@ -6,7 +6,7 @@ ghost use Rattle.binding.specs.Writes.{RoomFor, Substitutes, Raises};
 use crate::lower::lowered;
 use crate::rename::rename_into;
 use words::depths::open_parts;
-use words::kinds::Kind;
+use words::fields::kind;
 use words::moves::copy;
 
 // writes the value to dst from `at` on, its variables raised by `by`; answers its size
@@ -60,7 +60,7 @@ pub fn substitute_into(
             let behind = &mut pending[owed..];
             written += put_value(calls, value, dst, at + written, under as usize, behind);
             owed = last;
-        } else if Kind::of(w) == Kind::Variable {
+        } else if kind(w) == 0 {
             dst[at + written] = lowered(w, under);
             written += 1;
             owed = last;
