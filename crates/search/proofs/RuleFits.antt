@@ -1,12 +1,11 @@
 -- Which rule of phase 1 or 2 fits the node at the front: let insertion if an operand is a computation; in phase 2, since phase 1 is over
 -- and every operand is a value, the rule that three kinds decide.
-use Prim.Native.Nat.{ℕ, min}
+use Prim.Native.Nat.{ℕ}
 use mathlib.Core.Path.{◌≡◌, refl, sym, ◌∙◌, ap, subst}
 use mathlib.Core.Bool.{Bool, true, false}
 use mathlib.Core.List.{List}
 use mathlib.Core.Option.{Option, some, none, map}
 use Rattle.std.proofs.Common as code
-use Rattle.std.proofs.Common.{rules as known}
 use Rattle.std.specs.Bool.{then_some}
 use lib.ListN.{get_or}
 use Rattle.syntax.specs.Maybe.{given, is_some, option_of}
@@ -14,8 +13,7 @@ use Rattle.syntax.specs.Words.{kind_of}
 use Rattle.syntax.specs.Term.{Term}
 use Rattle.reduction.specs.MayDrop.{may_drop}
 use Rattle.reduction.specs.Rules.{let_insertion, fire, rules}
-use Rattle.reduction.specs.FitByKinds.{value_kind, let_by_kinds, rule_by_kinds}
-use Rattle.words.proofs.KindTests.{eqb-min}
+use Rattle.reduction.specs.FitByKinds.{rule_by_kinds}
 use Rattle.reduction.specs.declared.Phase.{Phase}
 use Rattle.reduction.specs.declared.Phase.TheVariants.{Insertion, Reduction}
 use Rattle.reduction.specs.declared.Rule.TheVariants.{LetInsertion}
@@ -37,11 +35,6 @@ rule_insertion calls t = go (let_insertion t)
     go none = refl
     go (some u) = refl
 
--- the kinds past the last are all one to the rules
-rule_by_least : (k₀ k₁ k₂ : ℕ) → rule_by_kinds (min k₀ 12) (min k₁ 12) (min k₂ 12) ≡ rule_by_kinds k₀ k₁ k₂
-unfolding rule_by_kinds let_by_kinds value_kind
-rule_by_least k₀ k₁ k₂ = search (known, eqb-min)
-
 -- what the library's `then_some` gives
 pub given_is : {X : Type 0} (b : Bool) (x : X) → then_some b x ≡ option_of (given b x)
 given_is true x = refl
@@ -58,12 +51,12 @@ module _ {phase : Phase} (calls words : List ℕ) {r : code.Option Rule} where
         ∙ ap (λ (p : Phase). option_of (rule_of calls p t)) (sym e);
   }
 
-  pub fits_reduction : {k₀ k₁ k₂ : ℕ} → phase ≡ Reduction → k₀ ≡ min (kind_of (get_or words 0 0)) 12
-      → k₁ ≡ min (kind_of (get_or words 1 0)) 12 → k₂ ≡ min (kind_of (get_or words 2 0)) 12 → r ≡ option_of (rule_by_kinds k₀ k₁ k₂) → Fits phase calls words r
+  pub fits_reduction : {k₀ k₁ k₂ : ℕ} → phase ≡ Reduction → k₀ ≡ kind_of (get_or words 0 0) → k₁ ≡ kind_of (get_or words 1 0)
+      → k₂ ≡ kind_of (get_or words 2 0) → r ≡ option_of (rule_by_kinds k₀ k₁ k₂) → Fits phase calls words r
   unfolding rule_of
   fits_reduction e e₀ e₁ e₂ d = record {
     told = λ t rest h ready.
-        d ∙ (λ i. option_of (rule_by_kinds (e₀ i) (e₁ i) (e₂ i))) ∙ ap option_of (rule_by_least _ _ _)
+        d ∙ (λ i. option_of (rule_by_kinds (e₀ i) (e₁ i) (e₂ i)))
         ∙ ap (λ (ws : List ℕ). option_of (rule_by_kinds (kind_of (get_or ws 0 0)) (kind_of (get_or ws 1 0)) (kind_of (get_or ws 2 0)))) h.is
         ∙ ap option_of (sym (fit_by_kinds calls (may_drop calls) t rest h.shaped
         (inserted (may_drop calls) t (subst (λ p. Scannable calls p t) e ready))))

@@ -1,17 +1,15 @@
 // Whether a rule of phase 1 or 2 fits the node at the front.
-ghost use Rattle.std.specs.Prelude.{◌≡◌, ◌≤◌, length, get_or, min};
+ghost use Rattle.std.specs.Prelude.{◌≡◌, ◌≤◌, length, get_or};
 ghost use Rattle.syntax.specs.Words.{kind_of};
 ghost use Rattle.syntax.specs.Maybe.{option_of};
 ghost use Rattle.words.specs.Fronts.{Starts};
-ghost use Rattle.words.specs.KindCodes.{code};
 ghost use Rattle.reduction.specs.FitByKinds.{let_by_kinds, rule_by_kinds};
 ghost use Rattle.search.specs.Operands.{FindsOperand};
 ghost use Rattle.search.specs.Fits.{case_by_kind, Fits};
 
-use crate::value::{is_value_kind, value_test};
+use crate::value::{value_kind, value_test};
 use reduction::{Phase, Rule};
 use words::fields::kind;
-use words::kinds::Kind;
 use words::shape::{operand_count, part_count};
 
 // an operand that is a computation: its index among the parts, and where its words start
@@ -39,33 +37,35 @@ pub fn first_computation(calls: &[u64], t: &[u64]) -> Option<Operand>
     None
 }
 
-// the kind of the word at an index, a variable's past the end
-fn kind_at(t: &[u64], i: usize) -> Kind
-    ensures { code result ≡ min (kind_of (get_or t.now i 0)) 12 }
+// the kind of the word at an index, 0 past the end
+// kept: kinds by number in this file and in unused.rt, since the search asks them of each word: with names every test takes two comparisons more,
+// and phase 2 took a tenth longer and phase 3 a half (docs/DESIGN-PASS.md)
+fn kind_at(t: &[u64], i: usize) -> u64
+    ensures { result ≡ kind_of (get_or t.now i 0) }
 {
-    t.get(i).map_or(Kind::Variable, |&w| Kind::of(w))
+    t.get(i).map_or(0, |&w| kind(w))
 }
 
 // the rule of phase 2 that fits a let, by the kind of its bound part and of that part's first part
 #[tactic(auto, unfolding(reduction::specs::FitByKinds::let_by_kinds))]
-fn fit_let(k1: Kind, k2: Kind) -> Option<Rule>
-    ensures { result ≡ option_of (let_by_kinds (code k1) (code k2)) }
+fn fit_let(k1: u64, k2: u64) -> Option<Rule>
+    ensures { result ≡ option_of (let_by_kinds k1 k2) }
 {
     match k1 {
-        Kind::Let => (!is_value_kind(k2)).then_some(Rule::LetOfLet),
-        Kind::Case => (k2 == Kind::Variable).then_some(Rule::LetOfCase),
-        _ => is_value_kind(k1).then_some(Rule::LetValue),
+        4 => (!value_kind(k2)).then_some(Rule::LetOfLet),
+        10 => (k2 == 0).then_some(Rule::LetOfCase),
+        _ => value_kind(k1).then_some(Rule::LetValue),
     }
 }
 
 // the rule of phase 2 that fits a case, by the kind of its subject
 #[tactic(auto, unfolding(crate::specs::Fits::case_by_kind))]
-fn fit_case(k1: Kind) -> Option<Rule>
-    ensures { result ≡ option_of (case_by_kind (code k1)) }
+fn fit_case(k1: u64) -> Option<Rule>
+    ensures { result ≡ option_of (case_by_kind k1) }
 {
     match k1 {
-        Kind::Left => Some(Rule::LeftCase),
-        Kind::Right => Some(Rule::RightCase),
+        8 => Some(Rule::LeftCase),
+        9 => Some(Rule::RightCase),
         _ => None,
     }
 }
@@ -73,15 +73,15 @@ fn fit_case(k1: Kind) -> Option<Rule>
 // the rule of phase 2 that fits a node, by its kind, its first part's, and that part's first part's: what a kind asks here is a rule, and
 // no number of parts
 #[tactic(auto, unfolding(reduction::specs::FitByKinds::rule_by_kinds, crate::specs::Fits::case_by_kind))]
-fn fit_kinds(k0: Kind, k1: Kind, k2: Kind) -> Option<Rule>
-    ensures { result ≡ option_of (rule_by_kinds (code k0) (code k1) (code k2)) }
+fn fit_kinds(k0: u64, k1: u64, k2: u64) -> Option<Rule>
+    ensures { result ≡ option_of (rule_by_kinds k0 k1 k2) }
 {
     match k0 {
-        Kind::Application => (k1 == Kind::Function).then_some(Rule::Apply),
-        Kind::Let => fit_let(k1, k2),
-        Kind::First => (k1 == Kind::Pair).then_some(Rule::First),
-        Kind::Second => (k1 == Kind::Pair).then_some(Rule::Second),
-        Kind::Case => fit_case(k1),
+        3 => (k1 == 2).then_some(Rule::Apply),
+        4 => fit_let(k1, k2),
+        6 => (k1 == 5).then_some(Rule::First),
+        7 => (k1 == 5).then_some(Rule::Second),
+        10 => fit_case(k1),
         _ => None,
     }
 }

@@ -10,7 +10,6 @@ use crate::value::value_test;
 use reduction::{Redex, Rule};
 use words::calls::Calls;
 use words::fields::{kind, number};
-use words::kinds::Kind;
 use words::shape::{outer_count, part_count};
 
 // past every place: the mark of a binder that cannot be dropped, and what each use adds to a mark
@@ -30,10 +29,7 @@ fn open_mark(calls: &Calls, t: &[u64], place: usize) -> u64
     requires { Starts calls.now t.now × (length t.now ≤ 8192) × (place ≤ 65536) }
     ensures { MarksBinder calls.now t.now place result }
 {
-    if Kind::of(t[0]) == Kind::Let
-        && may_drop(calls, t[1])
-        && value_test(calls.words(), &t[1..]).is_none()
-    {
+    if kind(t[0]) == 4 && may_drop(calls, t[1]) && value_test(calls.words(), &t[1..]).is_none() {
         place as u64
     } else {
         NO_PLACE
@@ -72,13 +68,14 @@ fn scan_part(calls: &Calls, t: &[u64], used: &mut [u64], depth: usize, base: usi
             later = 0;
         } else {
             let w = t[at];
-            if Kind::of(w) == Kind::Variable {
+            let k = kind(w);
+            if k == 0 {
                 mark(used, under, number(w) as usize, NO_PLACE);
                 at += 1;
                 owed -= 1;
             } else {
                 let n = part_count(calls.words(), w);
-                let outer = outer_count(kind(w), n);
+                let outer = outer_count(k, n);
                 if outer == n {
                     at += 1;
                     owed = owed - 1 + n;
@@ -106,7 +103,7 @@ fn scan_part(calls: &Calls, t: &[u64], used: &mut [u64], depth: usize, base: usi
 fn has_let(t: &[u64]) -> bool
     ensures { result ≡ has_let t.now }
 {
-    t.iter().any(|&w| Kind::of(w) == Kind::Let)
+    t.iter().any(|&w| kind(w) == 4)
 }
 
 // the first let in the part at the front that can be dropped; uses are marked only where there is a let

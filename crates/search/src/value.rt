@@ -8,7 +8,7 @@ ghost use Rattle.search.specs.ValueTest.{TestsValue};
 use words::ends::part_size;
 use words::fields::kind;
 use words::kinds::Kind;
-use words::shape::{FUNCTION, value_parts};
+use words::shape::{FUNCTION, shape_of, value_parts};
 
 // the kinds of values: the variable, and those that carry their type (function, pair, left and right injection, unit)
 #[tactic(auto, unfolding(reduction::specs::FitByKinds::value_kind))]
@@ -19,6 +19,14 @@ pub fn is_value_kind(kind: Kind) -> bool
         kind,
         Kind::Variable | Kind::Function | Kind::Pair | Kind::Left | Kind::Right | Kind::Unit
     )
+}
+
+// the same by a kind's number: the shape of a kind tells which carry their type
+#[tactic(auto, unfolding(reduction::specs::FitByKinds::value_kind))]
+pub fn value_kind(k: u64) -> bool
+    ensures { result ≡ value_kind k }
+{
+    k == 0 || shape_of(k).ty
 }
 
 // where the part at the front ends, if it is a value: word by word, as long as they can be those of a value;

@@ -3,7 +3,7 @@
 -- without inner parts come into the row. A node with inner parts is gone into if nothing else is ahead, so that the binders marked here
 -- are those on one path; any other is gone through by a call, on fewer words. If nothing is ahead, the marks are final: the least place is
 -- the least of them and of what the calls found.
-use Rattle.std.proofs.Common.{ℕ, ◌≡◌, ◌+◌, ◌≤◌, List, length, arith, rules, tests, refl, ap, ◌∙◌}
+use Rattle.std.proofs.Common.{ℕ, ◌≡◌, ◌+◌, ◌≤◌, List, length, arith, refl, ap, ◌∙◌}
 use Rattle.syntax.specs.Words.{kind_of}
 use Rattle.syntax.specs.Parts.{part_count}
 use Rattle.words.specs.Reach.{outer_count}
@@ -31,14 +31,14 @@ loop-owed-init t c = going (scan_begin _ _ _ _ _ c.requires.starts.0 c.requires.
 pub loop-owed-preserved-then-owed-eq0 : goal.loop-owed-preserved-then-owed-eq0
 loop-owed-preserved-then-owed-eq0 t c = going (scan_open _ _ _ _ _ c.loop-owed.invariant.0 c.if-owed-eq0.true (omega arith) (omega arith))
 
-pub loop-owed-preserved-then-eq : goal.loop-owed-preserved-then-eq
-loop-owed-preserved-then-eq t c =
-    going (scan_variable c.loop-owed.invariant.0 (omega arith) _ refl _ _ (search (rules, tests)) c.number.ensures c.mark.ensures
+pub loop-owed-preserved-then-k-eq0 : goal.loop-owed-preserved-then-k-eq0
+loop-owed-preserved-then-k-eq0 t c =
+    going (scan_variable c.loop-owed.invariant.0 (omega arith) _ c.kind-k.ensures _ _ c.if-k-eq0.true c.number.ensures c.mark.ensures
     c.mark.auto.used)
 
 pub loop-owed-preserved-then-outer-n : goal.loop-owed-preserved-then-outer-n
 loop-owed-preserved-then-outer-n t c = going (scan_flat c.loop-owed.invariant.0 (omega arith)
-    (node_parts c.kind.ensures (λ z. search (rules, tests)) c.words.ensures c.part_count-n.ensures.0 c.outer_count-outer.ensures) c.if-outer-n.true)
+    (node_parts c.kind-k.ensures c.if-k-eq0.false c.words.ensures c.part_count-n.ensures.0 c.outer_count-outer.ensures) c.if-outer-n.true)
 
 pub open_mark-fresh-requires : goal.open_mark-fresh-requires
 open_mark-fresh-requires t c = (
@@ -50,12 +50,12 @@ open_mark-fresh-requires t c = (
 pub overflow_sub-later : goal.overflow_sub-later
 overflow_sub-later t c =
     outer_few c.loop-owed.invariant.0 (omega arith)
-    (node_parts c.kind.ensures (λ z. search (rules, tests)) c.words.ensures c.part_count-n.ensures.0 c.outer_count-outer.ensures)
+    (node_parts c.kind-k.ensures c.if-k-eq0.false c.words.ensures c.part_count-n.ensures.0 c.outer_count-outer.ensures)
 
 pub loop-owed-preserved-then-owed-later-eq1 : goal.loop-owed-preserved-then-owed-later-eq1
 loop-owed-preserved-then-owed-later-eq1 t c =
     going (scan_enter c.loop-owed.invariant.0 (omega arith)
-    (node_parts c.kind.ensures (λ z. search (rules, tests)) c.words.ensures c.part_count-n.ensures.0 c.outer_count-outer.ensures)
+    (node_parts c.kind-k.ensures c.if-k-eq0.false c.words.ensures c.part_count-n.ensures.0 c.outer_count-outer.ensures)
     _ c.if-outer-n.false c.if-owed-later-eq1.true c.open_mark-fresh.ensures)
 
 pub scan_part-part-requires : goal.scan_part-part-requires
