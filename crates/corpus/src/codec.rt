@@ -19,12 +19,24 @@ pub fn read_all(input: &mut impl Read, bytes: &mut [u8]) -> Option<()> {
 }
 
 // the ten words of a header, or of ceilings
-pub fn read_ten(input: &mut impl Read) -> Option<[u64; 10]> {
+fn ten_words(bytes: &[u8; 80]) -> [u64; 10] {
+    let mut words = [0; 10];
+    copy_words(bytes, &mut words);
+    words
+}
+
+// a header; None where the input ends before
+pub fn read_header(input: &mut impl Read) -> Option<[u64; 10]> {
     let mut bytes = [0; 80];
     read_all(input, &mut bytes)?;
-    let mut words = [0; 10];
-    copy_words(&bytes, &mut words);
-    Some(words)
+    Some(ten_words(&bytes))
+}
+
+// ten ceilings, with zero bytes where the input ends before
+pub fn read_ceilings(input: &mut impl Read) -> [u32; 10] {
+    let mut bytes = [0; 80];
+    read_full(input, &mut bytes);
+    ten_words(&bytes).map(half_word)
 }
 
 // a word's low 32 bits

@@ -13,7 +13,7 @@ use words::tables::Tables;
 mod codec; // codec.rt: words from bytes, and the contents of buffers
 mod lines; // lines.rt: what is written for each call
 
-use crate::codec::{MOST_BYTES, MOST_WORDS, half_word, length_word, read_all, read_ten};
+use crate::codec::{MOST_BYTES, MOST_WORDS, half_word, length_word, read_all, read_ceilings, read_header};
 use crate::lines::{bundle_listing, check_line, inputs_line, normal_line, normalize_line};
 
 // the calls, by the first word of a header
@@ -50,12 +50,12 @@ fn on_bundle(rt: &impl Print, input: &mut impl Read, size: usize) -> Option<()>
     Some(())
 }
 
-// the header's budget, with the ceilings of call 5, zeros where the input ends, and none for any other call
+// the header's budget, with the ceilings of call 5 and none for any other call
 fn settings_after(input: &mut impl Read, call: Call, budget: u32) -> Settings {
     match call {
         Call::NormalizeWithin => Settings {
             budget,
-            ceilings: read_ten(input).unwrap_or([0; 10]).map(half_word),
+            ceilings: read_ceilings(input),
         },
         _ => no_ceilings(budget),
     }
@@ -97,7 +97,7 @@ fn on_tables(rt: &impl Print, input: &mut impl Read, call: Call, head: [u64; 10]
 
 // one record; None at the end of the input
 fn record(rt: &impl Print, input: &mut impl Read) -> Option<()> {
-    let head = read_ten(input)?;
+    let head = read_header(input)?;
     match Call::from(head[0]) {
         Call::Respond => on_bundle(rt, input, length_word(head[9])),
         call => on_tables(rt, input, call, head),

@@ -11,6 +11,7 @@ use Rattle.syntax.specs.Term.{Term, var, call, lam, app, bind, pair, fst, snd, i
 use Rattle.words.specs.Fronts.{Holds, Starts, from}
 use Rattle.words.proofs.Traversal.{front_of}
 use Rattle.words.proofs.PartsAt.{first_from, parts_of_lem, part_here}
+use Rattle.reduction.specs.FitByKinds.{value_kind}
 use Rattle.reduction.specs.MayDrop.{may_drop}
 use Rattle.search.specs.ValueTest.{TestsValue}
 use Rattle.std.proofs.Common.{Option, is_some}
@@ -18,6 +19,7 @@ use Rattle.search.specs.Unused.{open_mark, MarksBinder}
 use Rattle.search.specs.NodeMayDrop.{node_may_drop}
 use Rattle.search.proofs.NodeMayDrop.{by_word}
 use Rattle.syntax.proofs.ByKind.{by_kind}
+use Rattle.search.proofs.ValueByNode.{other_kind}
 
 -- only a let has a mark below
 pub other_mark : (calls : List ℕ) (p : ℕ) (t : Term) → ((node t).kind ≡ 4 → ⊥) → 65536 ≡ open_mark calls p t
@@ -82,6 +84,11 @@ module _ (calls words : List ℕ) where
             go : (v : Bool) → is_value e ≡ v → may_drop calls e ≡ true → cond v 65536 p ≡ cond (not (is_value e) && may_drop calls e) p 65536
             go true x y = sym (ap (λ (z : Bool). cond (not z && may_drop calls e) p 65536) x)
             go false x y = sym (ap₂ (λ (z d : Bool). cond (not z && d) p 65536) x y)
+
+        -- a part whose first word is not of a value's kind is none
+        pub opens_kind : value_kind (kind_of (get_or words 1 0)) ≡ false → MarksBinder calls words p p
+        opens_kind n = opens p p le k λ e rest h. droppable e rest h false
+            (other_kind e (ap value_kind (sym (ap kind_of (sym (first_from words 1)) ∙ (front_of h).kind)) ∙ n))
 
         module _ {r : Option ℕ} (a : TestsValue calls (from words 1) r) where
           pub opens_let : is_some r ≡ false → MarksBinder calls words p p

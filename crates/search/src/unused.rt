@@ -6,7 +6,7 @@ ghost use Rattle.search.specs.Unused.{has_let, MarkSpace, MarksBinder, LeastMark
 
 use crate::marks::mark;
 use crate::may_drop::may_drop;
-use crate::value::value_test;
+use crate::value::{value_kind, value_test};
 use reduction::{Redex, Rule};
 use words::calls::Calls;
 use words::fields::{kind, number};
@@ -24,12 +24,16 @@ struct PartScan {
     pub first: u64,
 }
 
-// the mark of the node's binder before any use: its place if it is a let that binds a computation that may be dropped
+// the mark of the node's binder before any use: its place if it is a let that binds a computation that may be dropped. The kind of what it
+// binds is asked before the value test, which it mostly spares.
 fn open_mark(calls: &Calls, t: &[u64], place: usize) -> u64
     requires { Starts calls.now t.now × (length t.now ≤ 8192) × (place ≤ 65536) }
     ensures { MarksBinder calls.now t.now place result }
 {
-    if kind(t[0]) == 4 && may_drop(calls, t[1]) && value_test(calls.words(), &t[1..]).is_none() {
+    if kind(t[0]) == 4
+        && may_drop(calls, t[1])
+        && (!value_kind(kind(t[1])) || value_test(calls.words(), &t[1..]).is_none())
+    {
         place as u64
     } else {
         NO_PLACE

@@ -10,23 +10,21 @@ use words::fields::kind;
 use words::kinds::Kind;
 use words::shape::{FUNCTION, shape_of, value_parts};
 
-// the kinds of values: the variable, and those that carry their type (function, pair, left and right injection, unit)
-#[tactic(auto, unfolding(reduction::specs::FitByKinds::value_kind))]
-pub fn is_value_kind(kind: Kind) -> bool
-    ensures { result ≡ value_kind (code kind) }
-{
-    matches!(
-        kind,
-        Kind::Variable | Kind::Function | Kind::Pair | Kind::Left | Kind::Right | Kind::Unit
-    )
-}
-
-// the same by a kind's number: the shape of a kind tells which carry their type
+// the kinds of values: the variable, and those that carry their type (function, pair, left and right injection, unit); the shape of a
+// kind tells which do
 #[tactic(auto, unfolding(reduction::specs::FitByKinds::value_kind))]
 pub fn value_kind(k: u64) -> bool
     ensures { result ≡ value_kind k }
 {
     k == 0 || shape_of(k).ty
+}
+
+// the same by a kind's name
+#[tactic(auto, unfolding(reduction::specs::FitByKinds::value_kind))]
+pub fn is_value_kind(kind: Kind) -> bool
+    ensures { result ≡ value_kind (code kind) }
+{
+    value_kind(kind as u64)
 }
 
 // where the part at the front ends, if it is a value: word by word, as long as they can be those of a value;
