@@ -1,5 +1,6 @@
 pub mod UsesByNode
 pub mod TermWritten
+pub mod TermTurns
 pub mod RenamedWords
 pub mod LoweredWords
 pub mod SubstitutedWords

@@ -19,7 +19,8 @@ use Rattle.words.specs.Fronts.{Starts}
 use Rattle.words.specs.Depths.{OpensParts}
 use Rattle.binding.specs.Writes.{lowered_word, Lowers}
 use Rattle.words.proofs.Traversal.{fits}
-use Rattle.binding.proofs.TermWritten.{Trace, Turn, turn, trace_begin, trace_behind, trace_variable, trace_node, trace_end}
+use Rattle.binding.proofs.TermTurns.{Turn, turn}
+use Rattle.binding.proofs.TermWritten.{Trace, trace_begin, trace_behind, trace_variable, trace_node, trace_end}
 
 -- variables are lowered
 abbrev pub lowers : Unit {0} → ℕ → ℕ

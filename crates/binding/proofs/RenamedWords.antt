@@ -17,7 +17,8 @@ use Rattle.syntax.proofs.Under.{raise_at_below, raise_at_above}
 use Rattle.words.specs.Depths.{OpensParts}
 use Rattle.binding.specs.Writes.{raised_word, Room, Renames}
 use Rattle.words.proofs.Traversal.{fits}
-use Rattle.binding.proofs.TermWritten.{Turn, turn, trace_begin, trace_variable, trace_node, trace_end}
+use Rattle.binding.proofs.TermTurns.{Turn, turn}
+use Rattle.binding.proofs.TermWritten.{trace_begin, trace_variable, trace_node, trace_end}
 
 -- variables are raised
 abbrev pub raises : ℕ → Unit {0} → ℕ → ℕ

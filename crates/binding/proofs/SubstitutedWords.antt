@@ -24,7 +24,8 @@ use Rattle.binding.specs.Writes.{Room, Renames, RoomFor, Substitutes, lowered_wo
 use Rattle.words.proofs.PastedWords.{pasted_sets}
 use Rattle.syntax.proofs.ByKind.{by_kind}
 use Rattle.binding.proofs.LoweredWords.{lower_word}
-use Rattle.binding.proofs.TermWritten.{put, Trace, Turn, turn, trace_begin, trace_end, put_room, trace_leaf, trace_variable, trace_node}
+use Rattle.binding.proofs.TermTurns.{Turn, turn}
+use Rattle.binding.proofs.TermWritten.{put, Trace, trace_begin, trace_end, put_room, trace_leaf, trace_variable, trace_node}
 
 -- a value is put for a variable
 abbrev pub valued : (calls value : List ℕ) → Whole calls value → ℕ → Term

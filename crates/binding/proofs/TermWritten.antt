@@ -24,8 +24,8 @@ use Rattle.words.specs.Depths.{OpensParts}
 use Rattle.words.proofs.Joined.{none_left}
 use Rattle.words.proofs.Reach.{encode_binding}
 use Rattle.words.proofs.Stretches.{get_or_behind, Writing, write_none, write_next, write_all, write_room}
-use Rattle.words.proofs.RowAtDepths.{Gathering, ahead, ahead_one, ahead_same, ahead_opened, Near, near_begin, near_next, opens_room}
-use Rattle.words.proofs.Rows.{Marching, Visit, march_from, march_end, march_inside, march_within, visit, march_on}
+use Rattle.words.proofs.RowAtDepths.{Gathering, ahead, ahead_one, ahead_same, ahead_opened, Near, near_begin, near_next}
+use Rattle.words.proofs.Rows.{Marching, Visit, march_from, march_end, visit, march_on}
 use Rattle.words.proofs.Rows.{one_starts, one_holds}
 
 no_parts : (os is later : Terms) → count os ≡ 0 → count is ≡ 0 → later ≡ joined os (joined is later)
@@ -148,7 +148,7 @@ module _ {X A : Type 0} (kit : Kit X) (f : A → ℕ → X) where
           (ap (λ (j : ℕ). get_or p j 0) c ∙ sym ue) (v.to_do a)
 
       -- there is room for a word at least, and for what is put
-      trace_room : at + o + 1 ≤ length new
+      pub trace_room : at + o + 1 ≤ length new
       unfolding size
       trace_room =
           let v = first in
@@ -241,24 +241,3 @@ module _ {X A : Type 0} (kit : Kit X) (f : A → ℕ → X) where
 
           of_word : (t : Term) (a : A) → encode (put a t under) ≡ x ∷ [] → Put t a
           of_word t a e = (ap (sets new y) (sym e), ap (λ (l : List ℕ). length l) (sym e))
-
-  -- the loop's invariant: while a term is owed there is a word to read, room for one to write, and space for the depths of its parts
-  pub record Turn (calls words old : List ℕ) (d at m : ℕ) (p new : List ℕ) (owed i o : ℕ) : Type 0 where
-    pub trace : Trace calls words old d at m p new owed i o
-    pub inside : i + owed ≤ length words
-    pub spare : i + owed + m ≤ length p
-    pub kept : length new ≡ length old
-    pub room : 1 ≤ owed → at + o + 1 ≤ length new
-    pub opens : 1 ≤ owed
-        → (owed - 1 + 3 ≤ length p) × (owed - 1 + part_count calls (get_or words i 0) ≤ length p) × (get_or p (owed - 1) 0 ≤ 65536)
-
-  pub turn : {calls words old : List ℕ} {d at m : ℕ} {p new : List ℕ} {owed i o : ℕ} → 2 ≤ m
-      → Trace calls words old d at m p new owed i o → Turn calls words old d at m p new owed i o
-  turn {calls} {words} {d = d} {m = m} {p = p} two g = record {
-    trace = g;
-    inside = march_inside calls words g.going;
-    spare = omega (arith, march_within calls words g.going, g.spare);
-    kept = g.len;
-    room = λ lt. trace_room g lt _ _ refl refl;
-    opens = λ lt. opens_room p d m g.going g.near g.spare two lt g.far;
-  }

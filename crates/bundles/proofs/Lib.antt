@@ -5,6 +5,7 @@ pub mod Readable
 pub mod Hexadecimal
 pub mod Decimal
 pub mod DecimalByDivision
+pub mod DigitsPut
 pub mod FieldsWritten
 pub mod ListedFields
 pub mod FieldsPut

@@ -1,5 +1,5 @@
 -- The fields of a line: each number and the byte behind it, and how many bytes they take.
-use Rattle.std.proofs.Common.{◌≡◌, ℕ, ◌+◌, ◌<◌, ◌≤◌, List, [], ◌∷◌, ◌++◌, length, get_or, take, drop, refl, sym, ◌∙◌, ap, arith, add-one, append_assoc, length-append, take-append-drop}
+use Rattle.std.proofs.Common.{◌≡◌, ℕ, suc, ◌+◌, ◌*◌, ◌<◌, ◌≤◌, List, [], ◌∷◌, ◌++◌, length, get_or, take, drop, refl, sym, ◌∙◌, ap, arith, add-one, append_assoc, length-append, take-append-drop, drop-cons, drop_of_length-le}
 use Rattle.std.proofs.lemmas.List.{take_all}
 use Rattle.std.proofs.Math.Seq.{take-suc}
 use Rattle.outcomes.specs.Listing.{decimal, fields, space, newline}
@@ -55,6 +55,40 @@ fields_size (n ∷ m ∷ ns) h =
       length-append (decimal n) (space ∷ spaced (m ∷ ns)),
       fields_size (m ∷ ns) (omega arith),
     )
+
+-- the same summed from the first number on, as a loop does
+unfoldable pub size_of : List ℕ → ℕ
+size_of [] = 0
+size_of (n ∷ ns) = length (decimal n) + 1 + size_of ns
+
+size_of_is : (ns : List ℕ) → length (spaced ns) ≡ size_of ns
+unfolding size_of
+size_of_is [] = refl
+size_of_is (n ∷ ns) = omega (arith, length-append (decimal n) (space ∷ spaced ns), size_of_is ns)
+
+pub record Sizing (ns : List ℕ) (size i : ℕ) : Type 0 where
+  pub within : i ≤ length ns
+  pub same : size_of ns ≡ size + size_of (drop i ns)
+  pub few : size ≤ 21 * i
+
+pub size_none : (ns : List ℕ) → Sizing ns 0 0
+size_none ns = record { within = omega arith; same = omega arith; few = omega arith }
+
+pub sizing_more : {ns : List ℕ} {size i : ℕ} (v count : ℕ) → Sizing ns size i → i < length ns → v ≡ get_or ns i 0
+    → (count ≡ length (decimal v)) × (count ≤ 20) → Sizing ns (size + (count + 1)) (i + 1)
+unfolding size_of
+sizing_more {ns} {size} {i} v count s h ve (e, l) =
+    let t : size_of (drop i ns) ≡ length (decimal v) + 1 + size_of (drop (i + 1) ns) = rw (ve, drop-cons ns i 0 h, add-one i) in
+    record { within = omega arith; same = omega (arith, s.same, t); few = omega (arith, s.few) }
+
+-- after the last number
+pub size_all_lem : {ns : List ℕ} {size i : ℕ} → Sizing ns size i → 0 < length ns → length ns ≤ i → (size ≡ length (fields ns) + 1)
+    × (size ≤ 21 * length ns)
+unfolding size_of
+size_all_lem {ns} {size} {i} s p h =
+    let t : size_of (drop i ns) ≡ 0 = rw (drop_of_length-le ns h) in
+    let e : i ≡ length ns = omega (arith, s.within) in
+    (omega (arith, s.same, fields_size ns p, size_of_is ns, t), omega (arith, s.few))
 
 pub line_length : (ns : List ℕ) → length (fields ns ++ newline ∷ []) ≡ length (fields ns) + 1
 line_length ns = length-append (fields ns) (newline ∷ [])

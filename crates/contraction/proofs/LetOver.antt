@@ -41,6 +41,9 @@ module _ {calls words : List ℕ} {start end body at : ℕ} where
     end_is : end ≡ start + size r.bound
     end_is = r.parts.end_is
 
+    pub let_ordered : start ≤ end
+    let_ordered = omega (arith, end_is)
+
     pub bound_inside : start + (end - start) ≤ length words
     bound_inside = omega (arith, end_is, held_inside words start r.parts.bound)
 

@@ -5,3 +5,4 @@ pub mod NodeUnderBinder
 pub mod Contracta
 pub mod NamedPart
 pub mod InsertionSizes
+pub mod SameCase

@@ -61,7 +61,7 @@ module _ {calls words : List ℕ} where
   two_node_row of_right (f_right q) h = record { parts = _; rest = _; at = parts_open calls words (parts_of_lem calls words h); many = refl }
 
   -- the row of a redex at the front
-  redex_row : {r : Rule} {n : ℕ} → TwoNodeRule r n → StartsRedex r calls words → Row calls words 2 n
+  pub redex_row : {r : Rule} {n : ℕ} → TwoNodeRule r n → StartsRedex r calls words → Row calls words 2 n
   redex_row {r} i s = two_node_row i (fired r s.start.term s.contractum s.fires) s.start.holds
 
   -- of a let of a case, behind the subject's word
@@ -81,7 +81,7 @@ module _ {calls words : List ℕ} where
   bound_row of_value (f_value q) h = record { parts = _; rest = _; at = parts_of_lem calls words h; many = refl }
   bound_row of_drop (f_drop p q z) h = record { parts = _; rest = _; at = parts_of_lem calls words h; many = refl }
 
-  let_row : {r : Rule} → LetRule r → StartsRedex r calls words → Row calls words 1 2
+  pub let_row : {r : Rule} → LetRule r → StartsRedex r calls words → Row calls words 1 2
   let_row {r} o s = bound_row o (fired r s.start.term s.contractum s.fires) s.start.holds
 
   -- the first, the second and the third part of a row

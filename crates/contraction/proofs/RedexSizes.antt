@@ -1,6 +1,7 @@
 -- Measuring a redex: the sizes of its parts say where each starts, how many words it has, and how many it becomes.
 use Prim.Native.Nat.{ℕ, ◌+◌, ◌-◌, ◌*◌, ◌≤◌}
 use native.Mathlib.Omega.{arith}
+use native.Mathlib.Nat.{mul-le-mul}
 use mathlib.Core.Path.{◌≡◌, refl, sym, ◌∙◌, ap, ap₂}
 use mathlib.Core.List.{List, ◌++◌}
 use Rattle.syntax.specs.Term.{Term, Terms, var, lam, bind, pair, inl, inr, case, done, arg, node}
@@ -25,6 +26,10 @@ use Rattle.contraction.specs.declared.plan.Plan.TheVariants.{Substitute, Copy, M
 use Rattle.contraction.specs.Sizes.{SizedTwo, SizedWith, BodyWith}
 use Rattle.contraction.specs.Plans.{substitutes, copies, moves_let, moves_case, MeasuredAs, Measures, UncoversBody, Uncovers}
 use Rattle.contraction.proofs.RedexRows.{fired}
+
+-- the uses of a value and its words: the product is small
+pub product_small : (u n : ℕ) → u ≤ 8192 → n ≤ 8192 → u * n ≤ 67108864
+product_small u n p q = mul-le-mul p q
 
 -- the size of a body with a value in it, from what is counted and measured
 put : (b v : Term) (u : Uses) (n w : ℕ) → Counted b 0 u → u.uses ≤ u.end → n ≡ size v → w ≡ u.end - u.uses + u.uses * n

@@ -78,6 +78,13 @@ module _ (phase : Phase) (calls words : List ℕ) where
     pub within : k ≤ length words
     pub clear : (t : Term) (i : ℕ) → Onward phase calls words t i → Clear (may_drop calls) phase t (i + k)
 
+  -- before the first word
+  pub forward_enter : Scanned 0
+  forward_enter = record {
+    within = omega arith;
+    clear = λ t i o. clear_down (may_drop calls) phase (i + 0) (omega arith) o.clear;
+  }
+
   module _ (t : Term) (i : ℕ) (o : Onward phase calls words t i) where
     -- the words of the slice end where the term's do
     ends : length words ≡ size t - i

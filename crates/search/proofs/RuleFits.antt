@@ -15,7 +15,7 @@ use Rattle.reduction.specs.MayDrop.{may_drop}
 use Rattle.reduction.specs.Rules.{let_insertion, fire, rules}
 use Rattle.reduction.specs.FitByKinds.{rule_by_kinds}
 use Rattle.reduction.specs.declared.Phase.{Phase}
-use Rattle.reduction.specs.declared.Phase.TheVariants.{Insertion, Reduction}
+use Rattle.reduction.specs.declared.Phase.TheVariants.{Insertion, Reduction, Dropping}
 use Rattle.reduction.specs.declared.Rule.TheVariants.{LetInsertion}
 use Rattle.reduction.specs.declared.Rule.{Rule}
 use Rattle.reduction.specs.Redex.{Contraction, contract}
@@ -62,3 +62,7 @@ module _ {phase : Phase} (calls words : List ℕ) {r : code.Option Rule} where
         (inserted (may_drop calls) t (subst (λ p. Scannable calls p t) e ready))))
         ∙ ap (λ (p : Phase). option_of (rule_of calls p t)) (sym e);
   }
+
+  -- phase 3 has another search
+  pub fits_dropping : phase ≡ Dropping → Fits phase calls words r
+  fits_dropping e = record { told = λ t rest h ready. absurd (subst (λ p. Scannable calls p t) e ready) }

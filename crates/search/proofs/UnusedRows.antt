@@ -20,8 +20,10 @@ use Rattle.words.proofs.Joined.{count_joined, joined_done, none_left}
 use Rattle.words.proofs.Traversal.{from_length}
 use Rattle.words.proofs.Rows.{Cut, Marching, march, march_inside, march_end, march_said, march_first, one_holds}
 use Rattle.words.proofs.Rows.{one_starts}
+use Rattle.search.specs.Marks.{Raisable}
 use Rattle.search.specs.Unused.{NoUnusedBefore, MarkSpace, LeastMark, Scans}
 use Rattle.search.specs.declared.unused.PartScan.{PartScan}
+use Rattle.search.proofs.MarkedUses.{space_raisable}
 use Rattle.search.proofs.FirstByMarks.{passed_none}
 use Rattle.search.proofs.RowInTwo.{uses-none, no_terms}
 
@@ -212,6 +214,11 @@ module _ (calls words : List ℕ) (base depth : ℕ) (old : List ℕ) where
             spine_at x b d a l (no e) = subst (λ (i : ℕ). x ≤ i) (sym (extend_other under own c.facts.final d e))
                 (b.spine d a (omega (arith, l, e)))
 
+    module _ (o : MarkSpace old depth (length words)) where
+      -- there is a mark for the binder to be gone into
+      pub scan_deep : 1 ≤ later → under < length cur
+      scan_deep le = omega (arith, g.near_open le, o.deep, g.len, march_inside calls words g.going)
+
     module _ (lt : 1 ≤ owed) where
       pub scan_ahead : 1 ≤ owed + later
       scan_ahead = omega (arith, lt)
@@ -229,3 +236,7 @@ module _ (calls words : List ℕ) (base depth : ℕ) (old : List ℕ) where
         small = omega (arith, o.small, g.len);
         low = λ d l. omega (arith, from_length words at, g.low d l);
       }
+
+      -- a use can be marked
+      pub scan_raisable : MarkSpace old depth (length words) → (n : ℕ) → n ≤ 65536 → Raisable n cur under
+      scan_raisable o = space_raisable (scan_room o) (omega (arith, from_length words at, scan_inside))

@@ -23,12 +23,13 @@ use Rattle.reduction.specs.declared.Redex.{Redex}
 use Rattle.reduction.proofs.Clear.{step_at}
 use Rattle.reduction.proofs.SearchAnswer.{StepAt, redex_step, nothing_none}
 use Rattle.words.specs.Fronts.{from}
+use Rattle.words.proofs.Traversal.{from_length}
 use Rattle.outcomes.specs.declared.Refusal.{Refusal}
 use Rattle.outcomes.specs.declared.Refusal.TheVariants.{Budget, Ceiling}
 use Rattle.step.specs.Currents.{Gapped}
 use Rattle.step.specs.declared.gap.Gap.{Gap}
 use Rattle.step.specs.Gaps.{Seekable, Seeks}
-use Rattle.search.specs.Finds.{SearchAt, Finds}
+use Rattle.search.specs.Finds.{SearchAt, Searchable, Finds}
 use Rattle.step.specs.Rewrites.{RedexAt, Rewritable, RewrittenTo, too_long, there, RewritesRedex}
 use Rattle.step.specs.Turns.{CurrentClear, Ready, Turned, stops, spent, met, full, goes, Turns}
 use Rattle.search.specs.NextFrom.{next_from}
@@ -86,6 +87,16 @@ module _ {phase : Phase} {calls before : List ℕ} {start end : ℕ} where
     is = tail_part before end ∙ gapped_behind a.current.gapped;
     clear = a.clear;
     premise = a.premise;
+  }
+
+  pub turn_searchable : {second : List ℕ} → Ready phase calls before start end second → Searchable phase calls (from before end) second
+  turn_searchable r = let l = from_length before end in record {
+    term = r.term;
+    from = start;
+    at = search_at r.at;
+    small = omega (arith, l, r.limit);
+    deep = omega (arith, l, r.scratch);
+    marks_small = omega (arith, r.limit, r.scratch);
   }
 
   -- nothing is found
@@ -221,3 +232,9 @@ pub found_met : {phase : Phase} {calls before : List ℕ} {start end : ℕ} {r :
     → b ≡ ceiling_met ceilings r.rule counts → b ≡ true
     → Turned phase calls after start end left counts ceilings (length before) t (Err Ceiling)
 found_met a f n c u = (turned_met (first_redex_lem f) (omega (arith, n)) (sym c ∙ u)).told _ a
+
+-- what rewriting says of an answer holds of one that is the same
+pub rewrites_as : {rule : Rule} {calls before : List ℕ} {start end : ℕ} {after : List ℕ} {r w : Result Gap Refusal} → r ≡ w
+    → RewritesRedex rule calls before start end after r → RewritesRedex rule calls before start end after w
+rewrites_as {rule} {calls} {before} {start} {end} {after} e x =
+    subst (λ (y : Result Gap Refusal). RewritesRedex rule calls before start end after y) e x

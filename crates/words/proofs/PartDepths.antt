@@ -6,7 +6,7 @@ use mathlib.Core.Path.{◌≡◌, refl, sym, ◌∙◌, ap, subst}
 use mathlib.Core.Bool.{Bool, false, cond}
 use mathlib.Core.List.{List}
 use lib.Dec.{eqb}
-use lib.ListN.{length, get_or, set, replicate}
+use lib.ListN.{length, get_or, set, replicate, length-set}
 use Rattle.std.proofs.Common.{rules}
 use Rattle.std.proofs.lemmas.List.{places}
 use Rattle.std.proofs.lemmas.Grind.{elements}
@@ -97,6 +97,10 @@ module _ (old new : List ℕ) (last depth : ℕ) where
 abbrev pub three : List ℕ → (last x y z : ℕ) → List ℕ
 three p last x y z = set (set (set p last x) (last + 1) y) (last + 2) z
 
+pub three_length : (p : List ℕ) (last x y z : ℕ) → length (three p last x y z) ≡ length p
+three_length p last x y z =
+    length-set (set (set p last x) (last + 1) y) (last + 2) z ∙ length-set (set p last x) (last + 1) y ∙ length-set p last x
+
 -- the depths of a node's parts: three are written, and then those of any further parts
 module _ (calls : List ℕ) (w : ℕ) (p new : List ℕ) (last depth k n x y : ℕ) (ke : k ≡ kind_of w) (ne : n ≡ part_count calls w)
     (xe : x ≡ counts (binds_of k)) (ye : y ≡ counts (eqb k 10)) (room : last + 3 ≤ length p) where
@@ -123,4 +127,15 @@ pub row_filled : (words row : List ℕ) (start end w : ℕ) → start ≤ end �
 row_filled words row start end w h g e = record {
   kept = λ j l. search (rules, places);
   set_to = λ j m l. search (rules, places);
+}
+
+-- a node without parts
+pub opens_none : (calls : List ℕ) (w : ℕ) (p : List ℕ) (last depth : ℕ) → part_count calls w ≡ 0 → OpensParts calls w depth p p last last
+opens_none calls w p last depth none = record {
+  many = omega (arith, none);
+  opened = record {
+    kept = λ j l. refl;
+    inner = λ j l. absurd (omega (arith, l, none));
+    outer = λ j g l. absurd (omega (arith, l, none));
+  };
 }
