@@ -57,6 +57,8 @@ fn scan_part(calls: &Calls, t: &[u64], used: &mut [u64], depth: usize, base: usi
     requires t_len_bound { (length t.now ≤ 8192) × (base + length t.now ≤ 65536) }
     ensures { Scans calls.now t.now base depth used.old used.new result }
 {
+    // the table's words are asked for once, and not at each node
+    let table = calls.words();
     // kept: counted by hand, since a part is stepped over whole, and the loop ends when nothing is owed
     let mut owed: usize = 1;
     let mut later: usize = 0;
@@ -78,7 +80,7 @@ fn scan_part(calls: &Calls, t: &[u64], used: &mut [u64], depth: usize, base: usi
                 at += 1;
                 owed -= 1;
             } else {
-                let n = part_count(calls.words(), w);
+                let n = part_count(table, w);
                 let outer = outer_count(k, n);
                 if outer == n {
                     at += 1;

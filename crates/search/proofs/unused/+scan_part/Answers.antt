@@ -38,7 +38,7 @@ loop-owed-preserved-then-k-eq0 t c =
 
 pub loop-owed-preserved-then-outer-n : goal.loop-owed-preserved-then-outer-n
 loop-owed-preserved-then-outer-n t c = going (scan_flat c.loop-owed.invariant.0 (omega arith)
-    (node_parts c.kind-k.ensures c.if-k-eq0.false c.words.ensures c.part_count-n.ensures.0 c.outer_count-outer.ensures) c.if-outer-n.true)
+    (node_parts c.kind-k.ensures c.if-k-eq0.false c.words-table.ensures c.part_count-n.ensures.0 c.outer_count-outer.ensures) c.if-outer-n.true)
 
 pub open_mark-fresh-requires : goal.open_mark-fresh-requires
 open_mark-fresh-requires t c = (
@@ -50,12 +50,12 @@ open_mark-fresh-requires t c = (
 pub overflow_sub-later : goal.overflow_sub-later
 overflow_sub-later t c =
     outer_few c.loop-owed.invariant.0 (omega arith)
-    (node_parts c.kind-k.ensures c.if-k-eq0.false c.words.ensures c.part_count-n.ensures.0 c.outer_count-outer.ensures)
+    (node_parts c.kind-k.ensures c.if-k-eq0.false c.words-table.ensures c.part_count-n.ensures.0 c.outer_count-outer.ensures)
 
 pub loop-owed-preserved-then-owed-later-eq1 : goal.loop-owed-preserved-then-owed-later-eq1
 loop-owed-preserved-then-owed-later-eq1 t c =
     going (scan_enter c.loop-owed.invariant.0 (omega arith)
-    (node_parts c.kind-k.ensures c.if-k-eq0.false c.words.ensures c.part_count-n.ensures.0 c.outer_count-outer.ensures)
+    (node_parts c.kind-k.ensures c.if-k-eq0.false c.words-table.ensures c.part_count-n.ensures.0 c.outer_count-outer.ensures)
     _ c.if-outer-n.false c.if-owed-later-eq1.true c.open_mark-fresh.ensures)
 
 pub scan_part-part-requires : goal.scan_part-part-requires
