@@ -20,7 +20,10 @@ shifted j l =
     let e : 63 ≡ (63 - j) + j = omega (arith, l) in
     ap (λ (k : ℕ). 2 ^ k / 2 ^ j) e ∙ ap (λ (x : ℕ). x / 2 ^ j) (pow-add 2 (63 - j) j) ∙ shl-shr (2 ^ (63 - j)) j
 
--- a word names at most one variable
+-- a word names at most one variable, and none if it is not a variable's
+other_kind : (w n : ℕ) → kind_of w ≢ 0 → names w n ≡ false
+other_kind w n h = simp (ne_eqb (kind_of w) 0 h)
+
 other_number : (w n : ℕ) → number_of w ≢ n → names w n ≡ false
 other_number w n h = simp (ne_eqb (number_of w) n h, and-false)
 
@@ -28,12 +31,20 @@ own_number : (w n : ℕ) → kind_of w ≡ 0 → number_of w ≡ n → names w n
 own_number w n k h = simp (eq-eqb (kind_of w) 0 k, eq-eqb (number_of w) n h)
 
 module _ (w under : ℕ) (old : List ℕ) where
+  names_none : ((i : ℕ) → i < 256 → names w (under + i) ≡ false) → MarksNamed w under old old
+  names_none h = record { told = λ f e. e ∙ masks_same 4 f (λ i. f i || names w (under + i)) λ i l. simp (h i l, or-false) }
+
+  -- the word is not a variable's
+  pub no_variable : kind_of w ≢ 0 → MarksNamed w under old old
+  no_variable h = names_none λ i l. other_kind w (under + i) h
+
+  -- its number is no input's
+  pub no_input : ((i : ℕ) → i < 256 → number_of w ≢ under + i) → MarksNamed w under old old
+  no_input h = names_none λ i l. other_number w (under + i) (h i l)
+
   -- the number is past those of the inputs
   pub past_inputs : under + 256 ≤ number_of w → MarksNamed w under old old
-  past_inputs h = record {
-    told = λ f e. e ∙ masks_same 4 f (λ i. f i || names w (under + i)) λ i l.
-        simp (other_number w (under + i) (λ z. omega (arith, h, l, z)), or-false);
-  }
+  past_inputs h = no_input λ i l z. omega (arith, h, l, z)
 
   -- input j is named
   pub one_input : (j : ℕ) → kind_of w ≡ 0 → number_of w ≡ under + j → j < 256

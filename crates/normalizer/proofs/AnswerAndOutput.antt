@@ -36,14 +36,16 @@ module _ {tables : Tables} {words : List ℕ} {A : ℕ} (x : Accepts normalize_l
   -- the parts of the scratch buffers are as long as the capacity
   module _ (before : Buffers) (capacity : ℕ)
       (k : capacity ≡ min (min (length before.output) (min (length before.scratch₁) (length before.scratch₂))) 8192) where
-    first_length : length (take capacity before.scratch₁) ≡ capacity
+    pub first_length : length (take capacity before.scratch₁) ≡ capacity
     first_length = omega (arith, length-take capacity before.scratch₁, k)
+
+    pub second_length : length (take capacity before.scratch₂) ≡ capacity
+    second_length = omega (arith, length-take capacity before.scratch₂, k)
 
     pub accepted_settleable : length words ≤ capacity
         → Settleable tables.calls words before.output (take capacity before.scratch₁) (take capacity before.scratch₂)
     accepted_settleable h =
         let p = x.passed in
-        let second : length (take capacity before.scratch₂) ≡ capacity = omega (arith, length-take capacity before.scratch₂, k) in
         record {
           term = x.typed.term;
           shaped = x.holds.shaped;
@@ -60,7 +62,7 @@ module _ {tables : Tables} {words : List ℕ} {A : ℕ} (x : Accepts normalize_l
           };
           small = omega (arith, h, first_length);
           at_most = omega (arith, first_length, k);
-          scratch = omega (arith, first_length, second);
+          scratch = omega (arith, first_length, second_length);
           room = omega (arith, first_length, k);
         }
 

@@ -1,7 +1,7 @@
 -- A typed term is copied to the end of a scratch buffer and reduced there; what it comes to is the definition's.
-use Prim.Native.Nat.{ℕ, ◌-◌}
+use Prim.Native.Nat.{ℕ, ◌-◌, ◌≤◌}
 use native.Mathlib.Omega.{arith}
-use mathlib.Core.Path.{◌≡◌, refl}
+use mathlib.Core.Path.{◌≡◌, refl, sym, ◌∙◌}
 use mathlib.Core.List.{List, ◌++◌}
 use lib.ListN.{length, take, drop}
 use Rattle.std.proofs.lemmas.Grind.{common_steps}
@@ -18,7 +18,7 @@ use Rattle.outcomes.specs.Buffers.{overwrite}
 use Rattle.outcomes.specs.Normalize.{reduced_to}
 use Rattle.outcomes.specs.declared.Answer.{Answer}
 use Rattle.step.specs.Currents.{Current}
-use Rattle.normalizer.specs.Reductions.{Reports, Reduces}
+use Rattle.normalizer.specs.Reductions.{Reducible, Reports, Reduces}
 use Rattle.normalizer.specs.Answers.{Settleable, Settles}
 use Rattle.normalizer.specs.declared.reduce.Reduced.{Reduced}
 use Rattle.step.proofs.GapMoved.{gapped_size}
@@ -37,6 +37,15 @@ module _ {calls words output first second : List ℕ} (x : Settleable calls word
   placed : (t : Term) → Shaped calls t → words ≡ encode t → Current calls start 0 begin t
   placed t s e = grind (arith, common_steps, x.small)
 
+  pub settle_reducible : (second' : List ℕ) → length second' ≡ length second → Reducible calls start begin second'
+  settle_reducible second' l = record {
+    term = x.term;
+    typed = x.typed;
+    current = placed x.term x.shaped x.is;
+    at_most = omega (arith, same_long, x.at_most);
+    scratch = l ∙ x.scratch ∙ sym same_long;
+  }
+
   module _ {settings : Settings} {after : List ℕ} {r : Reduced} (y : Reduces calls start begin settings after r) where
     reported : (t : Term) → Shaped calls t → words ≡ encode t
         → Reports after r (reduce (may_drop calls) (length first) settings t)
@@ -52,6 +61,12 @@ module _ {calls words output first second : List ℕ} (x : Settleable calls word
           let h = rw e at reported t s is in
           record { answer_is = rw h ae; output_is = rw h };
     }
+
+    -- the last term is there, and has room in the output
+    pub last_inside : {last : ℕ} → r.begin ≡ Ok last → length after ≡ length start → (last ≤ length after) × (length after - last ≤ length output)
+    last_inside e l =
+        let h = rw e at reported x.term x.shaped x.is in
+        (h.gapped.inside, omega (arith, l, same_long, x.room))
 
     -- come through: the last term is copied to the output
     pub settled_ended : {last : ℕ} {A : ℕ} {form : List ℕ} → r.begin ≡ Ok last → form ≡ take (length after - last) (drop last after)

@@ -97,9 +97,9 @@ module _ (old new : List ℕ) (last depth : ℕ) where
 abbrev pub three : List ℕ → (last x y z : ℕ) → List ℕ
 three p last x y z = set (set (set p last x) (last + 1) y) (last + 2) z
 
-pub three_length : (p : List ℕ) (last x y z : ℕ) → length (three p last x y z) ≡ length p
-three_length p last x y z =
-    length-set (set (set p last x) (last + 1) y) (last + 2) z ∙ length-set (set p last x) (last + 1) y ∙ length-set p last x
+module _ (p : List ℕ) (last x y z : ℕ) where
+  pub three_length : length (three p last x y z) ≡ length p
+  three_length = length-set (set (set p last x) (last + 1) y) (last + 2) z ∙ length-set (set p last x) (last + 1) y ∙ length-set p last x
 
 -- the depths of a node's parts: three are written, and then those of any further parts
 module _ (calls : List ℕ) (w : ℕ) (p new : List ℕ) (last depth k n x y : ℕ) (ke : k ≡ kind_of w) (ne : n ≡ part_count calls w)
