@@ -1,4 +1,5 @@
--- What an answer of `check_within` tells: after a type the term was accepted with it, and after a refusal it was refused with its number.
+-- What an answer of `check_within` tells: after a type the term was accepted with it, and after a refusal, or any number but 0, it was refused
+-- with that number.
 use mathlib.Core.Path.{◌≡◌, refl, sym, ap}
 use mathlib.Core.List.{List, []}
 use lib.ListN.{length}
@@ -13,7 +14,7 @@ use Rattle.typing.proofs.Accepted.{Verdicts, refusal, passed, Passed, elaborated
 use Rattle.outcomes.specs.declared.Refusal.{Refusal}
 use Rattle.outcomes.specs.Refusal.{number_of}
 use Rattle.outcomes.specs.Check.{Checked, checked_of, check_answer}
-use Rattle.outcomes.proofs.Numbers.{number_within}
+use Rattle.outcomes.proofs.Numbers.{number_some}
 use Rattle.checker.proofs.DecodedTerm.{holds_decoded}
 
 -- the words are those of a term of type A, which has passed the checks
@@ -41,13 +42,19 @@ module _ (limit : ℕ) (tables : Tables) (words : List ℕ) where
         short = (lengths_of_lem limit tables words p.lengths).words';
       }
 
-  pub refused_of : (r : Refusal) → check_answer (Err r) ≡ checked_of (elaborate limit tables words)
-      → elaborate limit tables words ≡ refused (number_of r)
-  refused_of r e = at (elaborate limit tables words) e
+  -- with whatever number but 0
+  pub refused_of : (r : Checked) → r ≡ checked_of (elaborate limit tables words) → (r.refusal ≡ 0 → ⊥)
+      → elaborate limit tables words ≡ refused r.refusal
+  refused_of r e z = at (elaborate limit tables words) e
     where
-      at : (v : Verdict TypedTerm) → check_answer (Err r) ≡ checked_of v → v ≡ refused (number_of r)
+      at : (v : Verdict TypedTerm) → r ≡ checked_of v → v ≡ refused r.refusal
       at (refused n) e = ap (λ (c : Checked). refused c.refusal) (sym e)
-      at (accepted x) e = absurd (omega (arith, ap (λ (c : Checked). c.refusal) e, number_within r))
+      at (accepted x) e = absurd (z (ap (λ (c : Checked). c.refusal) e))
+
+  -- with the number of a refusal
+  pub err_refused : (why : Refusal) → check_answer (Err why) ≡ checked_of (elaborate limit tables words)
+      → elaborate limit tables words ≡ refused (number_of why)
+  err_refused why e = refused_of (check_answer (Err why)) e (number_some why)
 
 -- what a call may ask of words that the checks accepted: they begin with a term
 pub accepted_starts : {limit : ℕ} {tables : Tables} {words : List ℕ} {A : ℕ} → Accepts limit tables words A → Starts tables.calls words

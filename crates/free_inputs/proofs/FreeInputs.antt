@@ -11,10 +11,11 @@ use Rattle.typing.specs.Refusals.{elaborate, other_limit}
 use Rattle.words.specs.Fronts.{Starts}
 use Rattle.outcomes.specs.declared.Refusal.{Refusal}
 use Rattle.outcomes.specs.Refusal.{number_of}
-use Rattle.outcomes.specs.Check.{checked_of, check_answer}
+use Rattle.outcomes.specs.Check.{Checked, checked_of, check_answer}
 use Rattle.outcomes.specs.FreeInputs.{reads, read_of, free_inputs_outcome}
 use Rattle.outcomes.specs.declared.FreeInputs.{FreeInputs}
 use Rattle.outcomes.proofs.Marks.{how_many_most, ones_of, ones_masks}
+use Rattle.outcomes.proofs.Numbers.{number_some}
 use Rattle.checker.proofs.Verdicts.{Accepts, refused_of}
 use Rattle.free_inputs.specs.InputMarks.{MarksRead}
 
@@ -25,12 +26,17 @@ ones_few m s =
 
 module _ (tables : Tables) (words : List ℕ) where
   -- refused by a check
-  pub refused_read : (r : Refusal) → check_answer (Err r) ≡ checked_of (elaborate other_limit tables words) → (n : ℕ) → n ≡ number_of r
-      → ◌≡◌ {A = FreeInputs} (record { refusal = n; marks = replicate 4 0; count = 0 }) (free_inputs_outcome tables words)
+  pub refused_read : (r : Checked) → r ≡ checked_of (elaborate other_limit tables words) → (r.refusal ≡ 0 → ⊥)
+      → ◌≡◌ {A = FreeInputs} (record { refusal = r.refusal; marks = replicate 4 0; count = 0 }) (free_inputs_outcome tables words)
   unfolding free_inputs_outcome
-  refused_read r e n ne =
+  refused_read r e z = ap read_of (sym (refused_of other_limit tables words r e z))
+
+  -- with the number of a refusal
+  pub err_read : (why : Refusal) → check_answer (Err why) ≡ checked_of (elaborate other_limit tables words) → (n : ℕ) → n ≡ number_of why
+      → ◌≡◌ {A = FreeInputs} (record { refusal = n; marks = replicate 4 0; count = 0 }) (free_inputs_outcome tables words)
+  err_read why e n ne =
       ap {B = FreeInputs} (λ i. record { refusal = i; marks = replicate 4 0; count = 0 }) ne
-      ∙ ap read_of (sym (refused_of other_limit tables words r e))
+      ∙ refused_read (check_answer (Err why)) e (number_some why)
 
   -- accepted
   pub accepted_read : {A : ℕ} → Accepts other_limit tables words A → (marks : List ℕ) → MarksRead tables.calls words marks

@@ -15,19 +15,27 @@ use Rattle.reduction.proofs.Remaining.{reduce_too_long}
 use Rattle.outcomes.specs.Buffers.{overwrite}
 use Rattle.outcomes.specs.declared.Refusal.{Refusal}
 use Rattle.outcomes.specs.Refusal.{number_of}
-use Rattle.outcomes.specs.Check.{checked_of, check_answer}
+use Rattle.outcomes.specs.Check.{Checked, checked_of, check_answer}
 use Rattle.outcomes.specs.Normalize.{reduced_to, checked_to, normalize_within, Buffers, capacity_of}
 use Rattle.outcomes.specs.declared.Answer.{Answer}
+use Rattle.outcomes.proofs.Numbers.{number_some}
 use Rattle.checker.proofs.Verdicts.{Accepts, refused_of}
 use Rattle.normalizer.specs.Answers.{FillsNormalized, Settleable, Settles}
 
 -- refused by a check
-pub refusal_fills : (tables : Tables) (words : List ℕ) (before : Buffers) (settings : Settings) (why : Refusal) {a : Answer}
+pub refusal_fills : (tables : Tables) (words : List ℕ) (before : Buffers) (settings : Settings) (checked : Checked) {a : Answer}
+    → checked ≡ checked_of (elaborate normalize_limit tables words) → (checked.refusal ≡ 0 → ⊥)
+    → a ≡ record { refusal = checked.refusal; ty = 0; length = 0; counts = zero_counts }
+    → FillsNormalized settings tables words before a before.output
+unfolding normalize_within checked_to overwrite
+refusal_fills tables words before settings checked ce z ae = grind (arith, refused_of normalize_limit tables words checked ce z)
+
+-- with the number of a refusal
+pub err_fills : (tables : Tables) (words : List ℕ) (before : Buffers) (settings : Settings) (why : Refusal) {a : Answer}
     → check_answer (Err why) ≡ checked_of (elaborate normalize_limit tables words)
     → a ≡ record { refusal = number_of why; ty = 0; length = 0; counts = zero_counts }
     → FillsNormalized settings tables words before a before.output
-unfolding normalize_within checked_to overwrite
-refusal_fills tables words before settings why e ae = grind (arith, refused_of normalize_limit tables words why e)
+err_fills tables words before settings why e ae = refusal_fills tables words before settings (check_answer (Err why)) e (number_some why) ae
 
 module _ {tables : Tables} {words : List ℕ} {A : ℕ} (x : Accepts normalize_limit tables words A) where
   is_encoded : words ≡ encode x.typed.term

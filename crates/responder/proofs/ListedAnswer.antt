@@ -18,6 +18,7 @@ use Rattle.outcomes.specs.Refusal.{number_of}
 use Rattle.outcomes.specs.ReadBundle.{LengthsRead, lengths_read, total, lengths_of, header_of, words_after, read_bundle_outcome}
 use Rattle.outcomes.specs.Respond.{program_settings, unread, listed, respond_to}
 use Rattle.outcomes.specs.declared.Answer.{Answer}
+use Rattle.outcomes.proofs.Numbers.{number_some}
 use Rattle.theory.proofs.ContractHolds.{take_front}
 use Rattle.bundles.proofs.Bytes.{length-words}
 
@@ -69,10 +70,15 @@ unfolding overwrite
 refusal_listed n output text told e = e ∙ front_listed (record { answer = unread n; words = [] }) output text refl
 
 -- what is written for a reading that is refused
-pub refused_response : (why : Refusal) (ws : List ℕ)
-    → respond_to (record { lengths = lengths_read (Err why); words = ws }) ≡ listing_of (unread (number_of why)) []
+pub refused_response : (l : LengthsRead) (ws : List ℕ) → (l.refusal ≡ 0 → ⊥)
+    → respond_to (record { lengths = l; words = ws }) ≡ listing_of (unread l.refusal) []
 unfolding respond_to
-refused_response why ws = grind arith
+refused_response l ws z = grind (arith, z)
+
+-- with the number of a refusal
+pub err_response : (why : Refusal) (ws : List ℕ)
+    → respond_to (record { lengths = lengths_read (Err why); words = ws }) ≡ listing_of (unread (number_of why)) []
+err_response why ws = refused_response (lengths_read (Err why)) ws (number_some why)
 
 -- the words of a reading are all in the slice
 pub reading_fits : (bytes slice : List ℕ) (l : LengthsRead) (ws : List ℕ)

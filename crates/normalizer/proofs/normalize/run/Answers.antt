@@ -2,11 +2,11 @@
 -- the capacity. Otherwise it is settled in parts of the scratch buffers that are as long as the capacity.
 use Rattle.std.proofs.Common.{ap, arith}
 use Rattle.checker.proofs.Verdicts.{accepted_of}
-use Rattle.normalizer.proofs.AnswerAndOutput.{refusal_fills, too_long_fills, accepted_settleable, settled_fills}
+use Rattle.normalizer.proofs.AnswerAndOutput.{err_fills, too_long_fills, accepted_settleable, settled_fills}
 use Rattle.normalizer.proofs.normalize.run.Goals as goal
 
 pub returns-in-Err : goal.returns-in-Err
-returns-in-Err c = refusal_fills _ _ _ _ _ c.in-Err.ensures c.refused.ensures
+returns-in-Err c = err_fills _ _ _ _ _ c.in-Err.ensures c.refused.ensures
 
 pub returns-then-capacity-term : goal.returns-then-capacity-term
 returns-then-capacity-term c =
