@@ -1,9 +1,10 @@
 -- A typed term is copied to the end of a scratch buffer and reduced there; what it comes to is the definition's.
-use Prim.Native.Nat.{ℕ, ◌-◌, ◌≤◌}
+use Prim.Native.Nat.{ℕ, ◌+◌, ◌-◌, ◌≤◌}
 use native.Mathlib.Omega.{arith}
-use mathlib.Core.Path.{◌≡◌, refl, sym, ◌∙◌}
+use mathlib.Core.Path.{◌≡◌, refl, sym, ap, ◌∙◌}
 use mathlib.Core.List.{List, ◌++◌}
 use lib.ListN.{length, take, drop}
+use lib.Seq.{paste}
 use Rattle.std.proofs.lemmas.Grind.{common_steps}
 use Rattle.std.specs.Prelude.{Ok, Err}
 use Rattle.syntax.specs.Term.{Term}
@@ -22,6 +23,16 @@ use Rattle.normalizer.specs.Reductions.{Reducible, Reports, Reduces}
 use Rattle.normalizer.specs.Answers.{Settleable, Settles}
 use Rattle.normalizer.specs.declared.reduce.Reduced.{Reduced}
 use Rattle.step.proofs.GapMoved.{gapped_size}
+
+-- words pasted at the front of a list
+pub pasted_first : (l s : List ℕ) (n : ℕ) → paste l 0 s n ≡ take n s ++ drop n l
+pasted_first l s n = let e : 0 + n ≡ n = omega arith in ap (λ (k : ℕ). take n s ++ drop k l) e
+
+-- words copied to the end of a buffer
+pub pasted_last : {calls words output first second : List ℕ} → Settleable calls words output first second → (b : List ℕ)
+    → b ≡ paste first (length first - length words) (drop 0 words) (length words)
+    → b ≡ take (length first - length words) first ++ (words ++ drop (length first - (length first - length words)) (drop (length first - length words) first))
+pasted_last x b e = grind (arith, common_steps, x.small, e)
 
 module _ {calls words output first second : List ℕ} (x : Settleable calls words output first second) {copied : List ℕ} (ce : copied ≡ words) where
   abbrev begin : ℕ
@@ -79,3 +90,8 @@ module _ {calls words output first second : List ℕ} (x : Settleable calls word
           let sized : length after - last ≡ length (encode h.term) = omega (arith, gapped_size h.gapped) in
           rw h.is (record { answer_is = rw sized refl; output_is = grind (arith, common_steps, h.gapped.words_are) });
     }
+
+    pub settled_pasted : {last : ℕ} {A : ℕ} {out : List ℕ} → r.begin ≡ Ok last → out ≡ paste output 0 (drop last after) (length after - last)
+        → Settles calls words A settings (length first) output
+        (record { refusal = 0; ty = A; length = length after - last; counts = r.counts }) out
+    settled_pasted {last} e oe = rw (oe ∙ pasted_first output (drop last after) (length after - last)) (settled_ended e refl)

@@ -9,7 +9,7 @@ use crate::reduce::{Reduced, reduce};
 use checker::check::{NORMALIZE_LIMIT, check_within};
 use outcomes::{Answer, Refusal};
 use reduction::Settings;
-use words::moves::clear;
+use words::moves::{clear, copy};
 use words::tables::Tables;
 
 // a refusal, with the counts of the steps taken
@@ -39,13 +39,13 @@ fn settle(
         output.new }
 {
     let begin = first.len() - term.len();
-    first[begin..].copy_from_slice(term);
+    copy(term, 0, term.len(), first, begin);
     let Reduced { begin, counts } = reduce(calls, first, begin, settings, second);
     match begin {
         Err(refusal) => refused(refusal, counts),
         Ok(begin) => {
             let length = first.len() - begin;
-            output[..length].copy_from_slice(&first[begin..]);
+            copy(first, begin, length, output, 0);
             Answer {
                 refusal: 0,
                 ty,
