@@ -13,7 +13,9 @@ use words::tables::Tables;
 mod codec; // codec.rt: words from bytes, and the contents of buffers
 mod lines; // lines.rt: what is written for each call
 
-use crate::codec::{MOST_BYTES, MOST_WORDS, half_word, length_word, read_all, read_ceilings, read_header};
+use crate::codec::{
+    MOST_BYTES, MOST_WORDS, half_word, length_word, read_all, read_ceilings, read_header,
+};
 use crate::lines::{bundle_listing, check_line, inputs_line, normal_line, normalize_line};
 
 // the calls, by the first word of a header
