@@ -1,5 +1,6 @@
 -- Bytes put into a text one stretch behind another.
-use Rattle.std.proofs.Common.{◌≡◌, ℕ, ◌+◌, ◌^◌, ◌<◌, ◌≤◌, List, [], ◌∷◌, ◌++◌, length, take, drop, set, sym, ◌∙◌, ap, arith, w64, append_assoc, length-append, take-append-drop}
+use Rattle.std.proofs.lemmas.List.{set-get_or}
+use Rattle.std.proofs.Common.{◌≡◌, ℕ, ◌+◌, ◌^◌, ◌<◌, ◌≤◌, List, [], ◌∷◌, ◌++◌, length, get_or, take, drop, set, sym, ◌∙◌, ap, arith, w64, append_assoc, length-append, take-append-drop}
 use Rattle.std.proofs.Math.Seq.{drop-drop}
 use Rattle.std.proofs.lemmas.List.Edits.{sets, sets-eq}
 use Rattle.std.specs.Fmt.{decimal as written}
@@ -60,3 +61,7 @@ word_put old xs w at k e h x =
     let there = stretch_is digits old at (omega arith) in
     let all : put_mid at k old xs ≡ sets old at digits = rw (x, hexadecimal_is w, e, drop-drop) (sym (rw l at there)) in
     set_behind old (put_mid at k old xs) digits at (at + 16) newline all (omega arith)
+
+-- a byte set to what it is; cited by the wrong program `upper_case`, so that it is refused for the byte and not for its form
+pub set_to_same : (l : List ℕ) (i v : ℕ) → get_or l i 0 ≡ v → set l i v ≡ l
+set_to_same l i v e = rw (← e) (set-get_or l i 0)

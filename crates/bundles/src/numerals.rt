@@ -27,6 +27,7 @@ pub fn put_field(n: u64, end: u8, text: &mut [u8], at: usize) -> usize
 }
 
 // writes a word as a line of sixteen hexadecimal digits, in lower case
+#[tactic(auto, using(crate::proofs::FieldsWritten::word_put))]
 pub fn put_word(w: u64, text: &mut [u8], at: usize)
     requires { at + 17 ≤ length text.old }
     ensures { text.new ≡ sets text.old at (hexadecimal 16 w ++ newline ∷ []) }
